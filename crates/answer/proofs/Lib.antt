@@ -1,0 +1,4 @@
+pub mod Writing
+pub mod Joined
+pub mod Lent
+pub mod Questions

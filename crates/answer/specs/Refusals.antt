@@ -1,0 +1,51 @@
+-- The number of each refusal, and what the shared answers mean (document 01, "Questions before an answer").
+use Prim.Native.Nat.{ℕ}
+use Rattle.answer.specs.Outcome.{Outcome, given, refused}
+use Rattle.answer.specs.declared.Refusal.{Refusal}
+use Rattle.answer.specs.declared.Refusal.the-variants.{
+  Chain,
+  Period,
+  Generator,
+  Pattern,
+  Symbols,
+  Origin,
+  Size,
+  CoprimeSize,
+  LampLayer,
+  Room,
+  BookPairs,
+  BookCover,
+  BookKey,
+  Line,
+}
+use Rattle.answer.specs.declared.NumberAnswer.{NumberAnswer}
+use Rattle.answer.specs.declared.NumberAnswer.the-variants as Number
+use Rattle.answer.specs.declared.CountAnswer.{CountAnswer}
+use Rattle.answer.specs.declared.CountAnswer.the-variants as Count
+
+-- The fourteen questions, by their numbers.
+abbrev pub numberOf : Refusal → ℕ
+numberOf Chain = 1
+numberOf Period = 2
+numberOf Generator = 3
+numberOf Pattern = 4
+numberOf Symbols = 5
+numberOf Origin = 6
+numberOf Size = 7
+numberOf CoprimeSize = 8
+numberOf LampLayer = 9
+numberOf Room = 10
+numberOf BookPairs = 11
+numberOf BookCover = 12
+numberOf BookKey = 13
+numberOf Line = 14
+
+-- A number that was given, or the number of the question.
+abbrev pub numberOutcome : NumberAnswer → Outcome ℕ
+numberOutcome (Number.Given n) = given n
+numberOutcome (Number.Refused q) = refused (numberOf q)
+
+-- How many elements were written, or the number of the question.
+abbrev pub countOutcome : CountAnswer → Outcome ℕ
+countOutcome (Count.Given n) = given n
+countOutcome (Count.Refused q) = refused (numberOf q)

@@ -1,0 +1,78 @@
+// What every entry point answers: a value, or the number of the first question that it says no to.
+//
+// Holds the fourteen questions of document 01 ("Questions before an answer") as one enum with their numbers,
+// the answers that several crates share, and in `writer` the stores that all texts are made of.
+// specs/: an outcome and how questions are asked (Outcome), the numbers (Refusals), what a lent slice holds
+// after an answer (Lent), and what writing a text means (Writing). Nothing is assumed.
+pub mod writer;
+
+ghost use mathlib.Core.Path.{_≡_};
+ghost use Rattle.answer.specs.Refusals.{numberOf};
+
+// The question that was answered with no.
+pub enum Refusal {
+    // 1: is the chain code 0 to 5?
+    Chain,
+    // 2: is the octave, the period or the denominator at least 1?
+    Period,
+    // 3: does the chain's generator come out whole and not negative?
+    Generator,
+    // 4: does the walk meet a pattern with as many steps as the chain has letters?
+    Pattern,
+    // 5: is a free format's symbol count at least 1?
+    Symbols,
+    // 6: is its origin below that count?
+    Origin,
+    // 7: are both products and the size of a given step pattern at most 65,535?
+    Size,
+    // 8: is the size after `coprime` at most 65,535?
+    CoprimeSize,
+    // 9: is every sharp and flat layer number of the lamp strip below 100?
+    LampLayer,
+    // 10: does the output slice hold the whole output?
+    Room,
+    // 11: does a book hold its count, at least 1, and that many pairs?
+    BookPairs,
+    // 12: do the pairs cover the text?
+    BookCover,
+    // 13: is the key below the book's count?
+    BookKey,
+    // 14: is the program's line well formed?
+    Line,
+}
+
+impl Refusal {
+    // The question's number in document 01.
+    pub fn number(self) -> u8
+        ensures { λ r. ⌜ r ≡ numberOf self ⌝ }
+    {
+        match self {
+            Refusal::Chain => 1,
+            Refusal::Period => 2,
+            Refusal::Generator => 3,
+            Refusal::Pattern => 4,
+            Refusal::Symbols => 5,
+            Refusal::Origin => 6,
+            Refusal::Size => 7,
+            Refusal::CoprimeSize => 8,
+            Refusal::LampLayer => 9,
+            Refusal::Room => 10,
+            Refusal::BookPairs => 11,
+            Refusal::BookCover => 12,
+            Refusal::BookKey => 13,
+            Refusal::Line => 14,
+        }
+    }
+}
+
+// A number, or a refusal.
+pub enum NumberAnswer {
+    Given(u16),
+    Refused(Refusal),
+}
+
+// How many elements were written to the front of a lent slice, or a refusal.
+pub enum CountAnswer {
+    Given(usize),
+    Refused(Refusal),
+}

@@ -1,0 +1,5 @@
+pub mod Gcd
+pub mod Division
+pub mod OddFactors
+pub mod Answers
+pub mod Examples
