@@ -1,0 +1,175 @@
+-- From the parts to what the calls answer: one law for each way in which a call ends.
+use Prim.Native.Nat.{ℕ, zero, suc, _*_, _/_, _%_, _≤_, _<_}
+use mathlib.Core.Path.{_≡_, refl, sym, ap, _∙_}
+use lib.Dec.{leb, ltb}
+use lib.IntN.{ℤ}
+use borrow.Author.Tests.{lt-ltb, le-ltb}
+use native.Mathlib.Nat.{pos-of-ne-zero, div-le-self, mod-lt, mul-le-mul}
+use native.Mathlib.Omega.{arith}
+use Rattle.answer.specs.Outcome.{Outcome, given, refused, ask}
+use Rattle.answer.proofs.Questions.{ask-none, ask-some, ask-above, ask-below}
+use Rattle.math.specs.Gcd.{gcd, gcdOrOne}
+use Rattle.math.proofs.Gcd.{gcd-or-one, gcd-positive}
+use Rattle.pergen.specs.Pergen.{cycles, reduced, inverse, degree, cycle, cycleOf, generationOf, pickCycle}
+use Rattle.pergen.specs.Spelling.{accidentalsOf, keyAccidentals, place, sounds, soundedKey}
+use Rattle.pergen.specs.Answers.{askPeriod, askFormat, ofPergen, newOutcome, getGeneration, getAccidentals, getPlace, getSoundedKey}
+use Rattle.pergen.specs.Parts.{solvedOf, generationFrom}
+use Rattle.pergen.specs.declared.PerGen.{PerGen}
+use Rattle.pergen.specs.declared.Cycle.{Cycle}
+use Rattle.pergen.specs.declared.Cycle.the-variants.{Absent, Number}
+use Rattle.pergen.specs.declared.Generation.{Generation}
+use Rattle.pergen.specs.declared.AccidentalsFormat.{AccidentalsFormat}
+use Rattle.pergen.specs.declared.Accidentals.{Accidentals}
+use Rattle.pergen.specs.declared.Spelling.{Spelling}
+use Rattle.pergen.specs.declared.euclid.Solved.{Solved}
+use Rattle.pergen.proofs.Inverse.{cycles-positive, reduced-positive}
+use Rattle.pergen.proofs.Keys.{degree-below}
+
+-- ---- question 2, for each call
+
+module _ (p : PerGen) where
+  module _ (none : p .period ≡ 0) where
+    pub no-number : (number : ℕ) → refused 2 ≡ ofPergen p number
+    unfolding ofPergen
+    no-number number = sym (ask-none 2 (p .period) _ none)
+
+    pub no-generation : (i : ℕ) → refused 2 ≡ getGeneration p i
+    unfolding getGeneration
+    no-generation i = sym (ask-none 2 (p .period) _ none)
+
+    pub no-accidentals : (f : AccidentalsFormat) (i : ℕ) → refused 2 ≡ getAccidentals p f i
+    unfolding getAccidentals
+    no-accidentals f i = sym (ask-none 2 (p .period) _ none)
+
+    pub no-key : (f : AccidentalsFormat) (s : Spelling) → refused 2 ≡ getSoundedKey p f s
+    unfolding getSoundedKey
+    no-key f s = sym (ask-none 2 (p .period) _ none)
+
+  module _ (some : p .period ≡ 0 → ⊥) where
+    pub number-given : (number m : ℕ) → m ≡ number → given m ≡ ofPergen p number
+    unfolding ofPergen
+    number-given number m e = ap given e ∙ sym (ask-some 2 (p .period) _ some)
+
+    pub generation-given : (i : ℕ) (g : Generation) → g ≡ generationOf (p .period) (p .generator) i → given g ≡ getGeneration p i
+    unfolding getGeneration
+    generation-given i g e = ap given e ∙ sym (ask-some 2 (p .period) _ some)
+
+pub new-refused : (period generator : ℕ) → period ≡ 0 → refused 2 ≡ newOutcome period generator
+unfolding newOutcome
+new-refused period generator none = sym (ask-none 2 period _ none)
+
+pub new-given : (period generator : ℕ) → (period ≡ 0 → ⊥) → given (record { period = period; generator = generator }) ≡ newOutcome period generator
+unfolding newOutcome
+new-given period generator some = sym (ask-some 2 period _ some)
+
+-- ---- questions 5 and 6
+
+no-symbols : {A : Type 0} (f : AccidentalsFormat) (rest : Outcome A) → f .«num_symbols» ≡ 0 → askFormat f rest ≡ refused 5
+no-symbols f rest none = ask-none 5 (f .«num_symbols») _ none
+
+no-origin : {A : Type 0} (f : AccidentalsFormat) (rest : Outcome A) → (f .«num_symbols» ≡ 0 → ⊥) → f .«num_symbols» ≤ f .«genchain_origin» → askFormat f rest ≡ refused 6
+no-origin f rest some h = ask-some 5 (f .«num_symbols») _ some ∙ ask-above 6 _ _ rest h
+
+good-format : {A : Type 0} (f : AccidentalsFormat) (rest : Outcome A) → (f .«num_symbols» ≡ 0 → ⊥) → f .«genchain_origin» < f .«num_symbols» → askFormat f rest ≡ rest
+good-format f rest some h = ask-some 5 (f .«num_symbols») _ some ∙ ask-below 6 _ _ rest h
+
+module _ (p : PerGen) (f : AccidentalsFormat) (some : p .period ≡ 0 → ⊥) where
+  pub accidentals-no-symbols : (i : ℕ) → f .«num_symbols» ≡ 0 → refused 5 ≡ getAccidentals p f i
+  unfolding getAccidentals
+  accidentals-no-symbols i none = sym (ask-some 2 (p .period) _ some ∙ no-symbols f _ none)
+
+  pub key-no-symbols : (s : Spelling) → f .«num_symbols» ≡ 0 → refused 5 ≡ getSoundedKey p f s
+  unfolding getSoundedKey
+  key-no-symbols s none = sym (ask-some 2 (p .period) _ some ∙ no-symbols f _ none)
+
+  module _ (symbols : f .«num_symbols» ≡ 0 → ⊥) where
+    pub accidentals-no-origin : (i : ℕ) → f .«num_symbols» ≤ f .«genchain_origin» → refused 6 ≡ getAccidentals p f i
+    unfolding getAccidentals
+    accidentals-no-origin i h = sym (ask-some 2 (p .period) _ some ∙ no-origin f _ symbols h)
+
+    pub key-no-origin : (s : Spelling) → f .«num_symbols» ≤ f .«genchain_origin» → refused 6 ≡ getSoundedKey p f s
+    unfolding getSoundedKey
+    key-no-origin s h = sym (ask-some 2 (p .period) _ some ∙ no-origin f _ symbols h)
+
+    module _ (origin : f .«genchain_origin» < f .«num_symbols») where
+      pub accidentals-given : (i : ℕ) (a : Accidentals) → a ≡ keyAccidentals (p .period) (p .generator) (f .«num_symbols») (f .«genchain_origin») i
+          → given a ≡ getAccidentals p f i
+      unfolding getAccidentals
+      accidentals-given i a e = ap given e ∙ sym (ask-some 2 (p .period) _ some ∙ good-format f _ symbols origin)
+
+      pub key-given : (s : Spelling) (k : ℕ) → k ≡ soundedKey (p .period) (p .generator) (f .«num_symbols») (f .«genchain_origin») s
+          → given k ≡ getSoundedKey p f s
+      unfolding getSoundedKey
+      key-given s k e = ap given e ∙ sym (ask-some 2 (p .period) _ some ∙ good-format f _ symbols origin)
+
+pub place-no-symbols : (f : AccidentalsFormat) (s : Spelling) → f .«num_symbols» ≡ 0 → refused 5 ≡ getPlace f s
+unfolding getPlace
+place-no-symbols f s none = sym (no-symbols f _ none)
+
+pub place-no-origin : (f : AccidentalsFormat) (s : Spelling) → (f .«num_symbols» ≡ 0 → ⊥) → f .«num_symbols» ≤ f .«genchain_origin» → refused 6 ≡ getPlace f s
+unfolding getPlace
+place-no-origin f s some h = sym (no-origin f _ some h)
+
+pub place-given : (f : AccidentalsFormat) (s : Spelling) (z : ℤ) → (f .«num_symbols» ≡ 0 → ⊥) → f .«genchain_origin» < f .«num_symbols»
+    → z ≡ place (f .«num_symbols») (f .«genchain_origin») s → given z ≡ getPlace f s
+unfolding getPlace
+place-given f s z some h e = ap given e ∙ sym (good-format f _ some h)
+
+-- ---- the numbers of a pergen
+
+pub cycles-found : (P G n : ℕ) → (P ≡ 0 → ⊥) → n ≡ gcdOrOne P G → n ≡ cycles P G
+unfolding cycles
+cycles-found P G n some e = e ∙ gcd-or-one P G (gcd-positive P G (pos-of-ne-zero some))
+
+pub reduced-found : (P G n : ℕ) → (P ≡ 0 → ⊥) → n ≡ gcdOrOne P G → P / n ≡ reduced P G
+unfolding reduced
+reduced-found P G n some e = ap (λ (m : ℕ). P / m) (cycles-found P G n some e)
+
+-- ---- `generation`, from the numbers
+
+abbrev made : Cycle → ℕ → Generation
+made c d = record { cycle = c; degree = d }
+
+module _ (s : Solved) (i : ℕ) where
+  pub with-cycle : 1 < s .«num_cycles»
+      → made (Number (i % s .«num_cycles»)) (s .«generator_inverse» * (i / s .«num_cycles») % s .«reduced_period») ≡ generationFrom s i
+  unfolding generationFrom
+  with-cycle h = rw (lt-ltb 1 (s .«num_cycles») h)
+
+  pub without-cycle : s .«num_cycles» ≤ 1
+      → made Absent (s .«generator_inverse» * (i / s .«num_cycles») % s .«reduced_period») ≡ generationFrom s i
+  unfolding generationFrom
+  without-cycle h = rw (le-ltb 1 (s .«num_cycles») h)
+
+pub degree-product : (a b c : ℕ) → a ≤ 65535 → b ≤ 65535 → a * (b / c) ≤ 65535 * 65535
+degree-product a b c h k = mul-le-mul {n₂ = 65535} {m₂ = 65535} h (omega (arith, div-le-self b c))
+
+module _ (P G : ℕ) (s : Solved) (is : s ≡ solvedOf P G) where
+  pub solved-cycles : zero < P → zero < s .«num_cycles»
+  unfolding solvedOf
+  solved-cycles hP = rw is (cycles-positive P G hP)
+
+  pub solved-keys : zero < P → zero < s .«reduced_period»
+  unfolding solvedOf
+  solved-keys hP = rw is (reduced-positive P G hP)
+
+  pub solved-inverse : s .«generator_inverse» ≡ inverse P G
+  unfolding solvedOf
+  solved-inverse = ap (λ (x : Solved). x .«generator_inverse») is
+
+  pub generation-is : (i : ℕ) (g : Generation) → g ≡ generationFrom s i → g ≡ generationOf P G i
+  unfolding solvedOf generationFrom generationOf cycleOf cycle degree
+  generation-is i g e = e ∙ ap (λ (x : Solved). generationFrom x i) is
+
+  -- the degree is below the reduced period, as `accidentals` asks
+  pub degree-small : (i : ℕ) (g : Generation) → zero < P → g ≡ generationFrom s i → g .degree < s .«reduced_period»
+  unfolding generationFrom
+  degree-small i g hP e = rw e (mod-lt _ (solved-keys hP))
+
+  pub accidentals-are : (N o i : ℕ) (g : Generation) (a : Accidentals) → g ≡ generationFrom s i
+      → a ≡ accidentalsOf (s .«reduced_period») N o (g .degree) (g .cycle) → a ≡ keyAccidentals P G N o i
+  unfolding keyAccidentals solvedOf generationOf
+  accidentals-are N o i g a e q =
+      q
+      ∙ ap (λ (x : ℕ). accidentalsOf x N o (g .degree) (g .cycle)) (ap (λ (x : Solved). x .«reduced_period») is)
+      ∙ ap (λ (x : Generation). accidentalsOf (reduced P G) N o (x .degree) (x .cycle)) (generation-is i g e)

@@ -1,0 +1,8 @@
+pub mod Inverse
+pub mod ExtendedEuclid
+pub mod Keys
+pub mod Indices
+pub mod DegreePlaces
+pub mod Differences
+pub mod Calls
+pub mod Examples

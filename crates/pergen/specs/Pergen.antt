@@ -1,0 +1,58 @@
+-- The pergen: a period P and a generator G (document 01, "Pergen and spelling"; the Xenharmonic Wiki's "pergen").
+use Prim.Native.Nat.{ℕ, zero, suc, _*_, _/_, _%_, _<_}
+use mathlib.Core.Bool.{Bool, true, false}
+use mathlib.Core.Path.{_≡_}
+use lib.Dec.{eqb, ltb}
+use Rattle.math.specs.Gcd.{gcd}
+use Rattle.pergen.specs.declared.Cycle.{Cycle}
+use Rattle.pergen.specs.declared.Cycle.the-variants.{Absent, Number}
+use Rattle.pergen.specs.declared.Generation.{Generation}
+
+-- "n their greatest common divisor (cycles)"
+unfoldable pub cycles : ℕ → ℕ → ℕ
+unfolding gcd
+cycles P G = gcd P G
+
+-- "R = P / n the reduced period"
+unfoldable pub reduced : ℕ → ℕ → ℕ
+unfolding cycles
+reduced P G = P / cycles P G
+
+-- "below R", and its "product with G / n leaves the remainder of 1 on division by R"
+pub record IsInverse (P G x : ℕ) : Type 0 where
+  pub below : x < reduced P G
+  pub one : x * (G / cycles P G) % reduced P G ≡ 1 % reduced P G
+
+-- The first number from `from` on that passes the test, of at most `count` numbers.
+unfoldable pub first : (ℕ → Bool) → ℕ → ℕ → ℕ
+first test zero from = from
+first test (suc count) from = elim (test from) [ true ↦ from | false ↦ first test count (suc from) ]
+
+-- "The inverse is the one number" that `IsInverse` describes: here the first, and by the theorem `OneInverse` the only one.
+unfoldable pub inverse : ℕ → ℕ → ℕ
+unfolding first reduced cycles
+inverse P G = first (λ x. eqb (x * (G / cycles P G) % reduced P G) (1 % reduced P G)) (reduced P G) 0
+
+-- "Key i has degree inverse × (i div n) mod R"
+unfoldable pub degree : ℕ → ℕ → ℕ → ℕ
+unfolding inverse reduced cycles
+degree P G i = inverse P G * (i / cycles P G) % reduced P G
+
+-- "and cycle i mod n"
+unfoldable pub cycle : ℕ → ℕ → ℕ → ℕ
+unfolding cycles
+cycle P G i = i % cycles P G
+
+abbrev pub pickCycle : Bool → Cycle → Cycle → Cycle
+pickCycle true a b = a
+pickCycle false a b = b
+
+-- "absent when n is 1"
+unfoldable pub cycleOf : ℕ → ℕ → ℕ → Cycle
+unfolding cycle cycles
+cycleOf P G i = pickCycle (ltb 1 (cycles P G)) (Number (cycle P G i)) Absent
+
+-- Degree and cycle of key i.
+unfoldable pub generationOf : ℕ → ℕ → ℕ → Generation
+unfolding cycleOf degree
+generationOf P G i = record { cycle = cycleOf P G i; degree = degree P G i }
