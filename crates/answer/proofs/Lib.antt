@@ -2,3 +2,4 @@ pub mod Writing
 pub mod Joined
 pub mod Lent
 pub mod Questions
+pub mod Examples

@@ -1,0 +1,22 @@
+-- The worked examples hold by computation.
+use mathlib.Core.Path.{refl}
+use Rattle.answer.specs.Writing.{joined}
+use Rattle.answer.specs.Examples.{ExamplesHold}
+
+pub examples-hold : ExamplesHold
+unfolding joined
+examples-hold =
+    record {
+      numbers = refl;
+      first-no = refl;
+      all-yes = refl;
+      goes-on = refl;
+      stops = refl;
+      enough = refl;
+      one-short = refl;
+      count = refl;
+      no-count = refl;
+      front = refl;
+      untouched = refl;
+      in-turn = refl;
+    }

@@ -1,0 +1,63 @@
+-- Worked examples of the definitions, and one theorem that they hold.
+use Prim.Native.Nat.{ℕ, _+_}
+use mathlib.Core.Bool.{true, false}
+use mathlib.Core.List.{List, [], _∷_, map}
+use mathlib.Core.Path.{_≡_}
+use lib.ListN.{replicate}
+use Rattle.answer.specs.declared.Refusal.{Refusal}
+use Rattle.answer.specs.declared.Refusal.the-variants.{
+  Chain,
+  Period,
+  Generator,
+  Pattern,
+  Symbols,
+  Origin,
+  Size,
+  CoprimeSize,
+  LampLayer,
+  Room,
+  BookPairs,
+  BookCover,
+  BookKey,
+  Line,
+}
+use Rattle.answer.specs.Outcome.{Outcome, given, refused, ask, andThen}
+use Rattle.answer.specs.Refusals.{numberOf}
+use Rattle.answer.specs.Lent.{heldIn, counted, written}
+use Rattle.answer.specs.Writing.{joined}
+
+-- The questions in document 01's order.
+abbrev pub inOrder : List Refusal
+inOrder =
+    Chain ∷ Period ∷ Generator ∷ Pattern ∷ Symbols ∷ Origin ∷ Size ∷ CoprimeSize ∷ LampLayer ∷ Room ∷ BookPairs ∷ BookCover ∷ BookKey ∷ Line ∷ []
+
+-- Three questions in rising order: all with the answer yes, and the second and the third with the answer no.
+abbrev pub accepted : Outcome ℕ
+accepted = ask 1 true (ask 2 true (ask 3 true (given 7)))
+
+abbrev pub stopped : Outcome ℕ
+stopped = ask 1 true (ask 2 false (ask 3 false (given 7)))
+
+-- One question more, of the value.
+abbrev pub further : ℕ → Outcome ℕ
+further n = ask 4 true (given (n + 1))
+
+-- Theorem.
+pub record ExamplesHold : Type 0 where
+  -- "numbered": from 1 to 14, without a gap
+  pub numbers : map numberOf inOrder ≡ 1 ∷ 2 ∷ 3 ∷ 4 ∷ 5 ∷ 6 ∷ 7 ∷ 8 ∷ 9 ∷ 10 ∷ 11 ∷ 12 ∷ 13 ∷ 14 ∷ []
+  -- "the first no gives its number and nothing else", "a yes to all gives the answer"
+  pub first-no : stopped ≡ refused 2
+  pub all-yes : accepted ≡ given 7
+  pub goes-on : andThen accepted further ≡ given 8
+  pub stops : andThen stopped further ≡ refused 2
+  -- question 10, at exactly enough room and one short
+  pub enough : heldIn 2 (5 ∷ 6 ∷ []) ≡ given (5 ∷ 6 ∷ [])
+  pub one-short : heldIn 1 (5 ∷ 6 ∷ []) ≡ refused 10
+  pub count : counted (given (5 ∷ 6 ∷ [])) ≡ given 2
+  pub no-count : counted (refused 10) ≡ refused 10
+  -- a longer slice keeps what lies past the output, and a refusal changes nothing
+  pub front : written (given (5 ∷ 6 ∷ [])) (1 ∷ 2 ∷ 3 ∷ 4 ∷ []) ≡ 5 ∷ 6 ∷ 3 ∷ 4 ∷ []
+  pub untouched : written (refused 10) (1 ∷ 2 ∷ 3 ∷ []) ≡ 1 ∷ 2 ∷ 3 ∷ []
+  -- keys 0, 1 and 2, with 1, 2 and 3 times their number
+  pub in-turn : joined (λ k. replicate (k + 1) k) 3 ≡ 0 ∷ 1 ∷ 1 ∷ 2 ∷ 2 ∷ 2 ∷ []
