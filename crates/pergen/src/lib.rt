@@ -5,9 +5,9 @@
 // specs/: Pergen and Spelling define them, Answers says what each call answers, Theorems what is proved of them.
 // A record holds only what a caller chose; each call asks its questions of it again, so a made-up record is refused.
 // Every public function answers every input, exactly. Nothing is assumed.
-mod coordinates;
-mod euclid;
-mod places;
+pub mod coordinates;
+pub mod euclid;
+pub mod places;
 
 use answer::NumberAnswer;
 use answer::Refusal;
