@@ -1,0 +1,5 @@
+pub mod Sizes
+pub mod Descent
+pub mod Sequences
+pub mod Searches
+pub mod Listings

@@ -1,0 +1,5 @@
+pub mod Patterns
+pub mod Walks
+pub mod Coprime
+pub mod Answers
+pub mod Parts
