@@ -12,7 +12,7 @@ use borrow.Author.Tests.{eq-eqb, ne-eqb, eqb-true, eqb-false}
 use Rattle.mos.specs.declared.Mos.{Mos}
 use Rattle.mos.specs.Patterns.{countOf, stepsOf, childOf, parentOf}
 use Rattle.mos.specs.Walks.{onward, walk, children, parents, firstWith, lastAfter, genesisOf, fields, listed}
-use Rattle.mos.specs.Parts.{isSome}
+use Rattle.mos.specs.Parts.{isSome, readBack, met}
 use Rattle.mos.proofs.Descent.{child-at, child-falls, parent-falls, child-counts}
 
 -- ---- any walk, with the number that falls
@@ -169,3 +169,17 @@ children-listing m = ap listed (children-follow m)
 
 pub parents-listing : (m : Mos) → listed (parents m) ≡ fields m ++ listed (onward (parentOf m) parents)
 parents-listing m = ap listed (parents-follow m)
+
+-- ---- what an inner walk leaves in its array
+
+pub met-found : {o : Option Mos} (r : Bool) (l : List ℕ) → met r l ≡ o → r ≡ true → some (readBack l) ≡ o
+met-found true l e f = e
+met-found false l e f = absurd (let z : _≡_ {A = ℕ} 0 1 = cc in omega arith)
+
+pub met-nothing : {o : Option Mos} (r : Bool) (l : List ℕ) → met r l ≡ o → r ≡ false → none ≡ o
+met-nothing true l e f = absurd (let z : _≡_ {A = ℕ} 0 1 = cc in omega arith)
+met-nothing false l e f = e
+
+pub met-always : (q : Mos) (r : Bool) (l : List ℕ) → met r l ≡ some q → readBack l ≡ q
+met-always q true l e = cc
+met-always q false l e = absurd (let z : _≡_ {A = ℕ} 0 1 = cc in omega arith)

@@ -55,11 +55,19 @@ mirror-size m = omega arith
 pub dual-pattern : (m : Mos) → isPattern (dualOf m) ≡ isPattern m
 dual-pattern m = pattern-same m (dualOf m) (dual-size m)
 
--- question 7, by what the code tests
-pub pattern-refused : {A : Type 0} (m : Mos) (fact : A) → isPattern m ≡ false → refused 7 ≡ ofPattern m fact
+-- question 7, by what the code's test told
+pub pattern-refused : {A : Type 0} (m : Mos) (fact : A) {test : Bool} → test ≡ isPattern m → test ≡ false → refused 7 ≡ ofPattern m fact
 unfolding ofPattern
-pattern-refused m fact e = simp e
+pattern-refused m fact e f = simp (sym e ∙ f)
 
-pub pattern-given : {A : Type 0} (m : Mos) {fact told : A} → isPattern m ≡ true → told ≡ fact → given told ≡ ofPattern m fact
+pub pattern-given : {A : Type 0} (m : Mos) {fact told : A} {test : Bool} → test ≡ isPattern m → test ≡ true → told ≡ fact → given told ≡ ofPattern m fact
 unfolding ofPattern
-pattern-given m e f = simp (e, f)
+pattern-given m e f g = simp (sym e ∙ f, g)
+
+-- the same where the code tests the size
+pub size-refused : {A : Type 0} (m : Mos) (fact : A) {size : ℕ} → size ≡ sizeOf m → 65535 < size → refused 7 ≡ ofPattern m fact
+size-refused m fact e h =
+    pattern-refused m fact refl (size-decides m ∙ lt-leb (sizeOf m) 65535 (omega (arith, e)))
+
+pub size-given : {A : Type 0} (m : Mos) {fact told : A} {size : ℕ} → size ≡ sizeOf m → size ≤ 65535 → told ≡ fact → given told ≡ ofPattern m fact
+size-given m e h g = pattern-given m refl (fits-pattern m (omega (arith, e))) g

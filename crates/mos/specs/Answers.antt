@@ -19,7 +19,7 @@ use Rattle.mos.specs.declared.SharpnessAnswer.{SharpnessAnswer}
 use Rattle.mos.specs.declared.SharpnessAnswer.the-variants as Sharp
 use Rattle.mos.specs.declared.KeyAnswer.{KeyAnswer}
 use Rattle.mos.specs.declared.KeyAnswer.the-variants as Key
-use Rattle.mos.specs.Patterns.{sizeOf, isPattern, genesis}
+use Rattle.mos.specs.Patterns.{mos, sizeOf, isPattern, genesis}
 use Rattle.mos.specs.Walks.{listed}
 use Rattle.mos.specs.Coprime.{coprimeOf, coprimeStep}
 
@@ -27,6 +27,10 @@ use Rattle.mos.specs.Coprime.{coprimeOf, coprimeStep}
 unfoldable pub ofPattern : {A : Type 0} → Mos → A → Outcome A
 unfolding isPattern
 ofPattern m fact = ask 7 (isPattern m) (given fact)
+
+-- Question 7 of the caller's own numbers, then the pattern that they make.
+abbrev pub newOutcome : (a b p s : ℕ) → Outcome Mos
+newOutcome a b p s = ofPattern (mos a b p s) (mos a b p s)
 
 -- Question 2, then the genesis.
 unfoldable pub genesisOutcome : ℕ → ℕ → Outcome Mos
