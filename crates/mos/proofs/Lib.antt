@@ -6,3 +6,4 @@ pub mod Listings
 pub mod Passes
 pub mod CoprimeAnswers
 pub mod Keys
+pub mod Theorems

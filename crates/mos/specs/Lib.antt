@@ -3,3 +3,5 @@ pub mod Walks
 pub mod Coprime
 pub mod Answers
 pub mod Parts
+pub mod Theorems
+pub mod Scale
