@@ -95,3 +95,24 @@ gcd-none x y a h e =
       right = one-dvd y;
       greatest = λ some. absurd (let w : ⊥ = omega (arith, gcd-positive-sum x y some) in w);
     }
+
+-- ---- "0 and 0 give 1": of any two numbers it is above 0 and divides both
+
+gcd-or-one-of : (x y : ℕ) → GcdOf x y (gcdOrOne x y)
+unfolding gcdOrOne
+gcd-or-one-of x y = go (gcd x y) refl
+  where
+    go : (g : ℕ) → gcd x y ≡ g → GcdOf x y (gcdOrOne x y)
+    go zero e = subst (λ (r : ℕ). GcdOf x y r) (gcd-none x y zero refl (gcd-zero zero ∙ sym e) .is) (gcd-none x y zero refl (gcd-zero zero ∙ sym e))
+    go (suc g) e =
+        let found = gcd-found x y (suc g) (λ h. absurd (let z : ⊥ = omega arith in z)) (gcd-zero (suc g) ∙ sym e) in
+        subst (λ (r : ℕ). GcdOf x y r) (found .is) found
+
+pub gcd-or-one-positive : (x y : ℕ) → zero < gcdOrOne x y
+gcd-or-one-positive x y = gcd-or-one-of x y .positive
+
+pub gcd-or-one-left : (x y : ℕ) → gcdOrOne x y ∣ x
+gcd-or-one-left x y = gcd-or-one-of x y .left
+
+pub gcd-or-one-right : (x y : ℕ) → gcdOrOne x y ∣ y
+gcd-or-one-right x y = gcd-or-one-of x y .right

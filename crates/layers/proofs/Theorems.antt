@@ -1,0 +1,62 @@
+-- The layers sum to the divided size, and the divisor of the steps divides the size.
+use Prim.Native.Nat.{ℕ, _+_, _*_, _/_, _<_, _≤_, _∣_}
+use mathlib.Core.Path.{_≡_, refl, ap, ap₂, sym, _∙_}
+use mathlib.Core.Bool.{true}
+use native.Mathlib.Nat.{div-eq-of-eq-mul-left, add-mul, mul-assoc, div-mul-cancel, div-le-self, mul-le-mul-left}
+use native.Mathlib.Omega.{arith}
+use lib.ListN.{length}
+use Rattle.math.specs.Gcd.{gcdOrOne}
+use Rattle.math.proofs.Gcd.{gcd-or-one-positive, gcd-or-one-left, gcd-or-one-right}
+use Rattle.mos.specs.declared.Mos.{Mos}
+use Rattle.mos.specs.Patterns.{primaries, secondaries, primary, secondary, sizeOf, isPattern, cyclesOf, reducedSizeOf}
+use Rattle.mos.proofs.Sizes.{pattern-fits}
+use Rattle.layers.specs.Layers.{allSizes, layerSizes, layersOf}
+use Rattle.layers.specs.Theorems.{sum, LayerSizesSum, LayersFillTheReducedSize}
+use Rattle.layers.proofs.Sizes.{sum-drop, length-numbered}
+use Rattle.layers.proofs.Plans.{all-sum}
+
+divided-sum : (a b p s g : ℕ) → 0 < g → g ∣ p → g ∣ s → (a * p + b * s) / g ≡ a * (p / g) + b * (s / g)
+divided-sum a b p s g h dp ds =
+    div-eq-of-eq-mul-left h
+    (sym
+    (add-mul (a * (p / g)) (b * (s / g)) g
+    ∙ ap₂ (λ (x y : ℕ). x + y)
+    (mul-assoc a (p / g) g ∙ ap (λ (n : ℕ). a * n) (div-mul-cancel g dp))
+    (mul-assoc b (s / g) g ∙ ap (λ (n : ℕ). b * n) (div-mul-cancel g ds))))
+
+size-is : (m : Mos) → sizeOf m ≡ primaries m * primary m + secondaries m * secondary m
+unfolding sizeOf
+size-is m = refl
+
+-- the reduced size, from the divided steps
+pub reduced-is : (m : Mos) → reducedSizeOf m ≡ primaries m * (primary m / cyclesOf m) + secondaries m * (secondary m / cyclesOf m)
+unfolding reducedSizeOf cyclesOf sizeOf
+reduced-is m =
+    divided-sum (primaries m) (secondaries m) (primary m) (secondary m) (gcdOrOne (primary m) (secondary m)) (gcd-or-one-positive (primary m) (secondary m)) (gcd-or-one-left (primary m) (secondary m)) (gcd-or-one-right (primary m) (secondary m))
+
+pub layer-sizes-sum : LayerSizesSum
+unfolding layerSizes
+layer-sizes-sum m =
+    sum-drop (allSizes (primaries m) (secondaries m) (primary m / cyclesOf m) (secondary m / cyclesOf m))
+    ∙ all-sum (primaries m) (secondaries m) (primary m / cyclesOf m) (secondary m / cyclesOf m)
+    ∙ sym (reduced-is m)
+
+pub layers-fill-the-reduced-size : LayersFillTheReducedSize
+unfolding layersOf
+layers-fill-the-reduced-size m = length-numbered 0 (layerSizes m) ∙ layer-sizes-sum m
+
+-- the divided steps, with the divisor that the code has, stay a pattern
+pub divided-fits : (m : Mos) (g : ℕ) → g ≡ gcdOrOne (primary m) (secondary m) → isPattern m ≡ true
+    → primaries m * (primary m / g) + secondaries m * (secondary m / g) ≤ 65535
+divided-fits m g e f =
+    let h : primaries m * (primary m / g) ≤ primaries m * primary m = mul-le-mul-left (primaries m) (div-le-self (primary m) g) in
+    let k : secondaries m * (secondary m / g) ≤ secondaries m * secondary m = mul-le-mul-left (secondaries m) (div-le-self (secondary m) g) in
+    omega (arith, size-is m, pattern-fits m f)
+
+-- the same layers, said with that divisor
+pub cycles-layers : (m : Mos) (g : ℕ) → g ≡ gcdOrOne (primary m) (secondary m)
+    → allSizes (primaries m) (secondaries m) (primary m / g) (secondary m / g)
+    ≡ allSizes (primaries m) (secondaries m) (primary m / cyclesOf m) (secondary m / cyclesOf m)
+unfolding cyclesOf
+cycles-layers m g e =
+    ap (λ (n : ℕ). allSizes (primaries m) (secondaries m) (primary m / n) (secondary m / n)) e

@@ -1,0 +1,74 @@
+-- One pattern more than the walk of what comes next; the sum of the steps falls with each.
+use Prim.Native.Nat.{ℕ, _+_, _<_}
+use mathlib.Core.Path.{_≡_, sym, ap, _∙_, subst}
+use native.Mathlib.Omega.{arith}
+use borrow.Author.Needs.{needs}
+use borrow.Fn.Kinds.{In}
+use borrow.Fn.PlainCycle.{Measures, is, falls, and}
+use Rattle.mos.specs.Patterns.{stepsOf}
+use Rattle.mos.proofs.Descent.{child-at, child-falls, child-keeps-pattern}
+use Rattle.mos.proofs.Sequences.{children-count, children-one, children-few}
+use Rattle.mos.proofs.walks.count_children.Reads as count-children
+use Rattle.mos.proofs.walks.count_children.Kinds as count-children-kinds
+use Rattle.mos.proofs.walks.+count_children.Lts-count_children as count-children-lts
+use Rattle.mos.proofs.parts.has_child.Reads as has-child-reads
+use Rattle.mos.proofs.parts.child_of.Reads as child-of-reads
+use Rattle.mos.proofs.walks.+count_children.{statement}
+use Rattle.mos.proofs.walks.+count_children.Tie.{close}
+
+abbrev μ-count-children : Measures 0 count-children-kinds.ps ℕ
+μ-count-children κs a = stepsOf (a .0)
+
+abbrev count-children-at : ℕ → In 0 count-children-kinds.ps
+count-children-at t = and 0 count-children-kinds.ps (is 0 count-children-kinds.ps μ-count-children t) count-children.Pre
+
+abbrev count-children-below : ℕ → In 0 count-children-kinds.ps
+count-children-below t = and 0 count-children-kinds.ps (falls 0 count-children-kinds.ps _<_ μ-count-children t) count-children.Pre
+
+-- what is known of each call
+abbrev calls : ℕ → count-children-lts.Claims
+calls t = (
+  has-child-reads.Asked,
+  has-child-reads.Learnt,
+  child-of-reads.Asked,
+  child-of-reads.Learnt,
+  count-children-below t,
+  count-children.Post,
+)
+
+has-child-requires : (t : ℕ) → count-children-lts.Need-has-child-requires (calls t) (count-children-at t) count-children.Post
+has-child-requires t c κs = search needs
+
+child-of-requires : (t : ℕ) → count-children-lts.Need-child-of-requires (calls t) (count-children-at t) count-children.Post
+child-of-requires t c κs = (c .before .before .pre .1, sym (c .before .has-child .ensures) ∙ c .if1 .taken)
+
+count-children-requires : (t : ℕ) → count-children-lts.Need-count-children-requires (calls t) (count-children-at t) count-children.Post
+count-children-requires t c κs =
+    let start = c .before .before .before in
+    let there = child-at (c .child-of .ensures) in (
+      subst (λ (j : ℕ). stepsOf (c .child-of .result) < j) (start .pre .0) (child-falls there),
+      child-keeps-pattern there (start .pre .1),
+    )
+
+add-result : (t : ℕ) → count-children-lts.Need-add-result (calls t) (count-children-at t) count-children.Post
+add-result t c = omega (arith, children-few (c .before .child-of .result))
+
+returns : (t : ℕ) → count-children-lts.Need-returns (calls t) (count-children-at t) count-children.Post
+returns t c = ap (λ (j : ℕ). j + 1) (c .count-children .ensures) ∙ children-count _ _ (c .before .child-of .ensures)
+
+returns-2 : (t : ℕ) → count-children-lts.Need-returns-2 (calls t) (count-children-at t) count-children.Post
+returns-2 t c = children-one _ (sym (c .before .has-child .ensures) ∙ c .if1 .left)
+
+pub +count-children-spec : {M : Type 1} → statement M
++count-children-spec =
+    close μ-count-children λ t.
+    count-children-lts.spec
+    (calls t)
+    (count-children-at t)
+    count-children.Post
+    (has-child-requires t)
+    (child-of-requires t)
+    (count-children-requires t)
+    (add-result t)
+    (returns t)
+    (returns-2 t)
