@@ -3,8 +3,9 @@ use mathlib.Core.Path.{_≡_}
 use mathlib.Core.List.{List, [], _∷_, map}
 use Prim.Native.Nat.{ℕ}
 use lib.IntN.{ℤ, pos, negsuc}
+use Rattle.answer.specs.Outcome.{given, refused}
 use Rattle.math.specs.Gcd.{gcdOrOne, lowestTerms}
-use Rattle.math.specs.Division.{quotient, remainder}
+use Rattle.math.specs.Answers.{divideOutcome, divOutcome, remOutcome}
 use Rattle.math.specs.OddFactors.{oddFactors}
 
 -- Two numbers with their greatest common divisor and their fraction in lowest terms.
@@ -36,6 +37,7 @@ abbrev pub divisionExamples : List DivisionExample
 divisionExamples =
     record { numer = negsuc 3; denom = 12; quotient = negsuc 0; remainder = 8 }
     ∷ record { numer = pos 6; denom = 5; quotient = pos 1; remainder = 1 }
+    ∷ record { numer = pos 17; denom = 5; quotient = pos 3; remainder = 2 }
     ∷ record { numer = negsuc 0; denom = 5; quotient = negsuc 0; remainder = 4 }
     ∷ record { numer = negsuc 4; denom = 5; quotient = negsuc 0; remainder = 0 }
     ∷ record { numer = negsuc 5; denom = 5; quotient = negsuc 1; remainder = 4 }
@@ -62,8 +64,14 @@ pub record ExamplesHold : Type 0 where
   pub gcds : map (λ (e : GcdExample). gcdOrOne (e .x) (e .y)) gcdExamples ≡ map (λ (e : GcdExample). e .gcd) gcdExamples
   pub fractions : map (λ (e : GcdExample). lowestTerms (e .x) (e .y)) gcdExamples
       ≡ map (λ (e : GcdExample). record { numer = e .numer; denom = e .denom }) gcdExamples
-  pub quotients : map (λ (e : DivisionExample). quotient (e .numer) (e .denom)) divisionExamples
-      ≡ map (λ (e : DivisionExample). e .quotient) divisionExamples
-  pub remainders : map (λ (e : DivisionExample). remainder (e .numer) (e .denom)) divisionExamples
-      ≡ map (λ (e : DivisionExample). e .remainder) divisionExamples
+  pub divided : map (λ (e : DivisionExample). divideOutcome (e .numer) (e .denom)) divisionExamples
+      ≡ map (λ (e : DivisionExample). given (e .quotient, e .remainder)) divisionExamples
+  pub quotients : map (λ (e : DivisionExample). divOutcome (e .numer) (e .denom)) divisionExamples
+      ≡ map (λ (e : DivisionExample). given (e .quotient)) divisionExamples
+  pub remainders : map (λ (e : DivisionExample). remOutcome (e .numer) (e .denom)) divisionExamples
+      ≡ map (λ (e : DivisionExample). given (e .remainder)) divisionExamples
+  -- a denominator of 0 is refused as a period below 1 is
+  pub none-divided : divideOutcome (pos 7) 0 ≡ refused 2
+  pub no-quotient : divOutcome (pos 7) 0 ≡ refused 2
+  pub no-remainder : remOutcome (pos 7) 0 ≡ refused 2
   pub odds : map (λ (e : OddExample). oddFactors (e .number)) oddExamples ≡ map (λ (e : OddExample). e .odd) oddExamples
