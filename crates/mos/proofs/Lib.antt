@@ -7,3 +7,4 @@ pub mod Passes
 pub mod CoprimeAnswers
 pub mod Keys
 pub mod Theorems
+pub mod Scale
