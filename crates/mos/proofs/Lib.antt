@@ -8,3 +8,4 @@ pub mod CoprimeAnswers
 pub mod Keys
 pub mod Theorems
 pub mod Scale
+pub mod Examples
