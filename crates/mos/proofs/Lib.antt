@@ -7,3 +7,5 @@ pub mod Passes
 pub mod CoprimeAnswers
 pub mod Keys
 pub mod Theorems
+pub mod Scale
+pub mod Examples

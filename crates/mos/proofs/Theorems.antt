@@ -160,7 +160,7 @@ coprime-ends = Passes.coprime-ends
 
 -- ---- what is made is a pattern
 
-genesis-size : (P G : ℕ) → 0 < P → sizeOf (genesis P G) ≡ P
+pub genesis-size : (P G : ℕ) → 0 < P → sizeOf (genesis P G) ≡ P
 unfolding sizeOf
 genesis-size P G h = omega (arith, mod-lt G h)
 

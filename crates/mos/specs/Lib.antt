@@ -5,3 +5,4 @@ pub mod Answers
 pub mod Parts
 pub mod Theorems
 pub mod Scale
+pub mod Examples
