@@ -1,4 +1,5 @@
 pub mod Writing
+pub mod Copying
 pub mod Joined
 pub mod Lent
 pub mod Questions

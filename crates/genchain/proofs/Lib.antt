@@ -1,0 +1,6 @@
+pub mod Tables
+pub mod GoodChains
+pub mod TableRows
+pub mod ChainNames
+pub mod Calls
+pub mod Examples

@@ -1,0 +1,4 @@
+pub mod Chains
+pub mod Answers
+pub mod Theorems
+pub mod Examples

@@ -1,0 +1,99 @@
+// The table of the chains and their names: parts, and no entry points. Callers have asked question 1, and 10 before they write.
+//
+// The table is made anew at every read, so read a chain's row once for a call, and hand the row on.
+use crate::texts;
+ghost use mathlib.Core.Path.{_≡_};
+ghost use Prim.Native.Nat.{_<_};
+ghost use lib.ListN.{length};
+ghost use Rattle.answer.specs.Writing.{Room, Wrote};
+ghost use Rattle.genchain.specs.Chains.{chainOf, rowOf, TableRow, lettersIn};
+
+// A chain's letters as code points, 0 past the last; how many there are; the place of key 0's letter.
+pub struct ChainRow {
+    pub letters: [u16; 9],
+    pub num_letters: u16,
+    pub start: u16,
+}
+
+// By chain code; 946 is β and 966 is φ.
+const CHAINS: [ChainRow; 6] = [
+    ChainRow {
+        letters: [946, 70, 67, 71, 68, 65, 69, 66, 966],
+        num_letters: 9,
+        start: 4,
+    },
+    ChainRow {
+        letters: [70, 67, 71, 68, 65, 69, 66, 0, 0],
+        num_letters: 7,
+        start: 3,
+    },
+    ChainRow {
+        letters: [67, 71, 68, 65, 69, 0, 0, 0, 0],
+        num_letters: 5,
+        start: 2,
+    },
+    ChainRow {
+        letters: [65, 66, 67, 68, 69, 70, 71, 72, 0],
+        num_letters: 8,
+        start: 3,
+    },
+    ChainRow {
+        letters: [65, 66, 67, 68, 69, 70, 71, 0, 0],
+        num_letters: 7,
+        start: 3,
+    },
+    ChainRow {
+        letters: [67, 65, 70, 68, 66, 71, 69, 0, 0],
+        num_letters: 7,
+        start: 3,
+    },
+];
+
+// The row of a chain.
+pub fn row(code: u16) -> ChainRow
+    requires { ⌜ code < 6 ⌝ }
+    ensures { λ r. ⌜ r ≡ rowOf (chainOf code) ⌝ }
+{
+    CHAINS[code as usize]
+}
+
+// The letters of a row at the front of a slice; how many there are.
+pub fn put_letters(out: &mut [u16], row: ChainRow) -> usize
+    requires { ⌜ TableRow row × Room (now out) 0 (lettersIn row) ⌝ }
+    ensures { λ r. ⌜ Wrote (now (out .entry)) 0 (lettersIn row) (now (out .exit)) r ⌝ }
+{
+    let count = row.num_letters as usize;
+    let mut place: usize = 0;
+    while place < count {
+        out[place] = row.letters[place];
+        place += 1;
+    }
+    place
+}
+
+// How many bytes a chain's name has.
+pub fn name_length(code: u16) -> usize
+    requires { ⌜ code < 6 ⌝ }
+    ensures { λ r. ⌜ r ≡ length (chainOf code .name) ⌝ }
+{
+    match code {
+        3 => 12,
+        0 | 5 => 9,
+        _ => 11,
+    }
+}
+
+// A chain's name at the front of a slice; how many bytes it has.
+pub fn put_name(out: &mut [u8], code: u16) -> usize
+    requires { ⌜ (code < 6) × Room (now out) 0 (chainOf code .name) ⌝ }
+    ensures { λ r. ⌜ Wrote (now (out .entry)) 0 (chainOf code .name) (now (out .exit)) r ⌝ }
+{
+    match code {
+        0 => texts::put_text(out, 0, b"Mavila[9]"),
+        1 => texts::put_text(out, 0, b"Meantone[7]"),
+        2 => texts::put_text(out, 0, b"Meantone[5]"),
+        3 => texts::put_text(out, 0, b"Porcupine[8]"),
+        4 => texts::put_text(out, 0, b"Tetracot[7]"),
+        _ => texts::put_text(out, 0, b"Hanson[7]"),
+    }
+}
