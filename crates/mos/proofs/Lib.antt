@@ -3,6 +3,7 @@ pub mod Descent
 pub mod Sequences
 pub mod Searches
 pub mod Listings
+pub mod Blocks
 pub mod Passes
 pub mod CoprimeAnswers
 pub mod Keys

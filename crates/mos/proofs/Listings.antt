@@ -25,17 +25,6 @@ wrote-four xs at a b c d =
     let g : at + 3 ≡ suc (suc (suc at)) = omega arith in
     record { content = rw (e, f, g); end = refl }
 
--- whole is the listing of a walk that begins with m and goes on with rest
-module _ (m : Mos) (rest whole : List ℕ) (is : fields m ++ rest ≡ whole) where
-  pub first-room : (xs : List ℕ) (at : ℕ) → Room xs at whole → Room xs at (fields m)
-  first-room xs at h = room-first xs at (fields m) rest (subst (Room xs at) (sym is) h)
-
-  pub rest-room : {xs ys : List ℕ} {at next : ℕ} → Wrote xs at (fields m) ys next → Room xs at whole → Room ys next rest
-  rest-room {xs} {ys} {at} w h = room-next rest w (subst (Room xs at) (sym is) h)
-
-  pub listed-whole : {xs ys zs : List ℕ} {at mid next : ℕ} → Wrote xs at (fields m) ys mid → Wrote ys mid rest zs next → Wrote xs at whole zs next
-  listed-whole v w = wrote-as is (then v w)
-
 -- the answers of a listing, by what the code tests; n is how many patterns it counted
 module _ (m : Mos) (ms : List Mos) (xs : List ℕ) where
   pub listing-no-pattern : {test : Bool} → test ≡ isPattern m → test ≡ false → Filled (listingOutcome m ms (length xs)) (refused 7) xs xs

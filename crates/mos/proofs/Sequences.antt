@@ -183,3 +183,9 @@ met-nothing false l e f = e
 pub met-always : (q : Mos) (r : Bool) (l : List ℕ) → met r l ≡ some q → readBack l ≡ q
 met-always q true l e = cc
 met-always q false l e = absurd (let z : _≡_ {A = ℕ} 0 1 = cc in omega arith)
+
+pub children-some : (m : Mos) → 1 ≤ length (children m)
+children-some m = omega (arith, ap length (children-follow m))
+
+pub parents-some : (m : Mos) → 1 ≤ length (parents m)
+parents-some m = omega (arith, ap length (parents-follow m))

@@ -257,11 +257,12 @@ impl Mos {
         ensures { λ r. ⌜ Filled (listingOutcome self (children self) (length (now (out .entry)))) (countOutcome r) (now (out .entry)) (now (out .exit)) ⌝ }
     {
         if parts::is_pattern(self) {
-            let len = walks::count_children(self) as usize * 4;
+            let patterns = walks::count_children(self);
+            let len = patterns as usize * 4;
             if out.len() < len {
                 return CountAnswer::Refused(Refusal::Room);
             }
-            walks::list_children(self, out, 0);
+            walks::list_children(self, out, patterns);
             return CountAnswer::Given(len);
         }
         CountAnswer::Refused(Refusal::Size)
@@ -272,11 +273,12 @@ impl Mos {
         ensures { λ r. ⌜ Filled (listingOutcome self (parents self) (length (now (out .entry)))) (countOutcome r) (now (out .entry)) (now (out .exit)) ⌝ }
     {
         if parts::is_pattern(self) {
-            let len = walks::count_parents(self) as usize * 4;
+            let patterns = walks::count_parents(self);
+            let len = patterns as usize * 4;
             if out.len() < len {
                 return CountAnswer::Refused(Refusal::Room);
             }
-            walks::list_parents(self, out, 0);
+            walks::list_parents(self, out, patterns);
             return CountAnswer::Given(len);
         }
         CountAnswer::Refused(Refusal::Size)

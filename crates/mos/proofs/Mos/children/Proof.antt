@@ -1,7 +1,8 @@
 -- Questions 7 and 10, then the listing at the front.
 use mathlib.Core.Path.{sym, _∙_}
-use native.Mathlib.Omega.{arith}
 use Rattle.mos.specs.Walks.{children}
+use Rattle.mos.proofs.Sequences.{children-some}
+use Rattle.mos.proofs.Blocks.{whole-listable}
 use Rattle.mos.proofs.Listings.{listing-no-pattern, listing-no-room, listing-room, listing-given}
 use borrow.Author.Needs.{needs}
 use Rattle.mos.proofs.Mos.children.Statement.{statement}
@@ -23,7 +24,16 @@ returns : tie.Need-returns
 returns c = listing-no-room _ _ _ _ (c .before .before .before .is-pattern .ensures) (c .before .before .if1 .taken) (c .before .count-children .ensures) (c .if2 .taken)
 
 list-children-requires : tie.Need-list-children-requires
-list-children-requires c κs = (sym (c .before .before .before .before .is-pattern .ensures) ∙ c .before .before .before .if1 .taken, listing-room (c .before .before .before .before .before .before .args .self) (children (c .before .before .before .before .before .before .args .self)) (c .before .before .before .before .before .before .args .out .now) _ (c .before .before .before .before .is-pattern .ensures) (c .before .before .before .if1 .taken) (c .before .before .count-children .ensures) (c .before .if2 .left))
+list-children-requires c κs =
+    let start = c .before .before .before .before .before .before in
+    let m = start .args .self in
+    let counted = c .before .before .count-children .ensures in
+    let tested = c .before .before .before .before .is-pattern .ensures in
+    let taken = c .before .before .before .if1 .taken in (
+      counted,
+      whole-listable (children m) m (start .args .out .now) 0 (sym tested ∙ taken) (children-some m) counted
+          (listing-room m (children m) (start .args .out .now) _ tested taken counted (c .before .if2 .left)),
+    )
 
 same-length : tie.Need-same-length
 same-length c = search needs
