@@ -1,0 +1,124 @@
+-- From the search to what the calls answer: one law for each way in which a call ends.
+use Prim.Native.Nat.{ℕ, _≤_, _<_}
+use mathlib.Core.Path.{_≡_, refl, sym, ap, _∙_, subst}
+use mathlib.Core.List.{List}
+use native.Mathlib.Omega.{arith}
+use lib.ListN.{length}
+use Rattle.answer.specs.Outcome.{Outcome, given, refused, andThen}
+use Rattle.answer.specs.Lent.{heldIn, counted, Filled}
+use Rattle.genchain.specs.Chains.{chainOf, rowOf}
+use Rattle.genchain.specs.declared.rows.ChainRow.{ChainRow}
+use Rattle.mos.specs.declared.Mos.{Mos}
+use Rattle.pergen.specs.declared.PerGen.{PerGen}
+use Rattle.pergen.specs.declared.Accidentals.{Accidentals}
+use Rattle.pergen.specs.Spelling.{keyAccidentals}
+use Rattle.layout.specs.Layouts.{Layout, lettersOf, layoutOutcome, accidentalsIn}
+use Rattle.layout.specs.ScaleNames.{scaleName}
+use Rattle.layout.specs.Answers.{ofLayout, createOutcome, getGenchain, getPergen, getMos, getAccidentals, getScaleName, inRoom}
+use Rattle.layout.specs.Parts.{scaleRowOf, textIn}
+use Rattle.layout.specs.declared.IsomorphicLayout.{IsomorphicLayout}
+use Rattle.layout.specs.declared.scales.ScaleRow.{ScaleRow}
+use Rattle.layout.proofs.Finding.{Parts, accepted}
+use Rattle.layout.proofs.ScaleTable.{text-small, text-in-row, row-length, row-text-length}
+
+-- questions 1 to 4 of a record's numbers
+abbrev asked : IsomorphicLayout → Outcome Layout
+asked r = layoutOutcome (r .genchain) (r .octave) (r .tritave)
+
+module _ {A : Type 0} (r : IsomorphicLayout) (next : Layout → Outcome A) where
+  pub of-refused : (n : ℕ) → refused n ≡ asked r → refused n ≡ ofLayout r next
+  of-refused n e = ap (λ (o : Outcome Layout). andThen o next) e
+
+  pub of-given : (l : Layout) → given l ≡ asked r → next l ≡ ofLayout r next
+  of-given l e = ap (λ (o : Outcome Layout). andThen o next) e
+
+-- an accepted layout's chain code and octave
+pub parts-of : (r : IsomorphicLayout) (l : Layout) → given l ≡ asked r → Parts (r .genchain) (r .octave) (r .tritave) l
+parts-of r l e = accepted (r .genchain) (r .octave) (r .tritave) l (sym e)
+
+-- ---- each call
+
+module _ (r : IsomorphicLayout) (n : ℕ) (e : refused n ≡ asked r) where
+  pub create-refused : refused n ≡ createOutcome (r .genchain) (r .octave) (r .tritave)
+  unfolding createOutcome
+  create-refused = of-refused r _ n e
+
+  pub genchain-refused : refused n ≡ getGenchain r
+  unfolding getGenchain
+  genchain-refused = of-refused r _ n e
+
+  pub pergen-refused : refused n ≡ getPergen r
+  unfolding getPergen
+  pergen-refused = of-refused r _ n e
+
+  pub mos-refused : refused n ≡ getMos r
+  unfolding getMos
+  mos-refused = of-refused r _ n e
+
+  pub accidentals-refused : (key : ℕ) → refused n ≡ getAccidentals r key
+  unfolding getAccidentals
+  accidentals-refused key = of-refused r _ n e
+
+  pub scale-refused : refused n ≡ getScaleName r
+  unfolding getScaleName
+  scale-refused = of-refused r _ n e
+
+module _ (r : IsomorphicLayout) (l : Layout) (e : given l ≡ asked r) where
+  pub create-given : given r ≡ createOutcome (r .genchain) (r .octave) (r .tritave)
+  unfolding createOutcome
+  create-given = of-given r _ l e
+
+  pub genchain-given : given (r .genchain) ≡ getGenchain r
+  unfolding getGenchain
+  genchain-given = of-given r _ l e
+
+  pub pergen-given : given (record { period = r .octave; generator = l .generator }) ≡ getPergen r
+  unfolding getPergen
+  pergen-given = of-given r _ l e
+
+  pub mos-given : given (l .pattern) ≡ getMos r
+  unfolding getMos
+  mos-given = of-given r _ l e
+
+  -- a key's spellings along the letters of the chain's row are the layout's
+  pub spelled : (key : ℕ) (row : ChainRow) (a : Accidentals) → row ≡ rowOf (chainOf (r .genchain))
+      → a ≡ keyAccidentals (r .octave) (l .generator) (row .«num_letters») (row .start) key → a ≡ accidentalsIn (r .genchain) (r .octave) l key
+  unfolding accidentalsIn rowOf
+  spelled key row a is q = q ∙ ap (λ (x : ChainRow). keyAccidentals (r .octave) (l .generator) (x .«num_letters») (x .start) key) is
+
+  pub accidentals-given : (key : ℕ) (a : Accidentals) → a ≡ accidentalsIn (r .genchain) (r .octave) l key → given a ≡ getAccidentals r key
+  unfolding getAccidentals
+  accidentals-given key a q = ap given q ∙ of-given r _ l e
+
+  pub scale-given : given (scaleName (r .genchain) (l .pattern)) ≡ getScaleName r
+  unfolding getScaleName
+  scale-given = of-given r _ l e
+
+  -- the row that holds the scale's name
+  module _ (row : ScaleRow) (is : row ≡ scaleRowOf (scaleName (r .genchain) (l .pattern))) where
+    small : length (scaleName (r .genchain) (l .pattern)) ≤ 12
+    small = text-small (r .genchain) (l .pattern) (parts-of r l e .chain)
+
+    pub scale-row-good : (length (row .text) ≡ 12) × (row .length ≤ 12)
+    scale-row-good =
+        subst (λ (x : ScaleRow). (length (x .text) ≡ 12) × (x .length ≤ 12)) (sym is)
+        (row-text-length (scaleName (r .genchain) (l .pattern)), subst (λ (k : ℕ). k ≤ 12) (sym (row-length (scaleName (r .genchain) (l .pattern)))) small)
+
+    pub scale-text : textIn row ≡ scaleName (r .genchain) (l .pattern)
+    scale-text = ap textIn is ∙ text-in-row (scaleName (r .genchain) (l .pattern)) small
+
+    pub scale-count : given (row .length) ≡ counted (getScaleName r)
+    scale-count =
+        ap (λ (x : ScaleRow). given (x .length)) is
+        ∙ ap given (row-length (scaleName (r .genchain) (l .pattern)))
+        ∙ ap counted scale-given
+
+    pub scale-in-room : (room : ℕ) → heldIn room (textIn row) ≡ inRoom room (getScaleName r)
+    scale-in-room room = ap (heldIn room) scale-text ∙ ap (λ (o : Outcome (List ℕ)). andThen o (heldIn room)) scale-given
+
+-- a text that is held, said otherwise
+pub filled-as : {o p : Outcome (List ℕ)} {a : Outcome ℕ} {xs ys : List ℕ} → o ≡ p → Filled o a xs ys → Filled p a xs ys
+filled-as {a = a} {xs = xs} {ys = ys} e f = subst (λ (x : Outcome (List ℕ)). Filled x a xs ys) e f
+
+pub refused-in-room : (room n : ℕ) (o : Outcome (List ℕ)) → refused n ≡ o → inRoom room o ≡ refused n
+refused-in-room room n o e = sym (ap (λ (x : Outcome (List ℕ)). andThen x (heldIn room)) e)

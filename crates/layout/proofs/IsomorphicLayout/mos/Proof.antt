@@ -1,0 +1,25 @@
+-- Questions 1 to 4, then the pattern.
+use mathlib.Core.Path.{sym, ap, _∙_}
+use Rattle.layout.specs.Parts.{foundOutcome}
+use Rattle.layout.proofs.Calls.{mos-refused, mos-given}
+use borrow.Author.Needs.{needs}
+use Rattle.layout.proofs.IsomorphicLayout.mos.Statement.{statement}
+use Rattle.layout.proofs.IsomorphicLayout.mos.Tie as tie
+
+search-requires : tie.Need-search-requires
+search-requires c κs = search needs
+
+enum-known-q : tie.Need-enum-known-q
+enum-known-q c = search needs
+
+enum-known-found : tie.Need-enum-known-found
+enum-known-found c = search needs
+
+returns : tie.Need-returns
+returns c = mos-refused _ _ (sym (ap foundOutcome (c .before .q .given .1)) ∙ c .before .before .before .search .ensures)
+
+returns-2 : tie.Need-returns-2
+returns-2 c = mos-given _ _ (sym (ap foundOutcome (c .before .before .found .given .1)) ∙ c .before .before .before .before .search .ensures)
+
+pub mos-spec : {M : Type 1} → statement M
+mos-spec = tie.close (tie.spec search-requires enum-known-q enum-known-found returns returns-2)

@@ -1,0 +1,4 @@
+pub mod Finding
+pub mod Keys
+pub mod ScaleTable
+pub mod Calls

@@ -1,0 +1,38 @@
+-- Questions 1 to 3 by `generator`, question 4 by the walk.
+use mathlib.Core.Path.{sym, ap, _∙_}
+use Rattle.answer.specs.Refusals.{numberOutcome}
+use Rattle.layout.proofs.Finding.{generated, find-refused, find-given}
+use borrow.Author.Needs.{needs}
+use Rattle.layout.proofs.parts.find.Statement.{statement}
+use Rattle.layout.proofs.parts.find.Tie as tie
+
+generator-requires : tie.Need-generator-requires
+generator-requires c κs = search needs
+
+enum-known-q : tie.Need-enum-known-q
+enum-known-q c = search needs
+
+enum-known-generator : tie.Need-enum-known-generator
+enum-known-generator c = search needs
+
+with-pattern-requires : tie.Need-with-pattern-requires
+with-pattern-requires c κs = generated _ _ _ _ (sym (c .before .before .before .generator .ensures) ∙ ap numberOutcome (c .before .generator2 .given .1)) .positive
+
+returns : tie.Need-returns
+returns c = find-refused _ _ _ _ (sym (ap numberOutcome (c .before .q .given .1)) ∙ c .before .before .before .generator .ensures)
+
+returns-2 : tie.Need-returns-2
+returns-2 c =
+    find-given _ _ _ _ _ _ (sym (ap numberOutcome (c .before .before .generator2 .given .1)) ∙ c .before .before .before .before .generator .ensures) (search needs)
+    (c .with-pattern .ensures)
+
+pub find-spec : {M : Type 1} → statement M
+find-spec =
+    tie.close
+    (tie.spec
+    generator-requires
+    enum-known-q
+    enum-known-generator
+    with-pattern-requires
+    returns
+    returns-2)

@@ -1,0 +1,4 @@
+pub mod Layouts
+pub mod ScaleNames
+pub mod Answers
+pub mod Parts

@@ -1,0 +1,146 @@
+// Layouts of the six chains, after `IsomorphicLayout` and `Genchain::create_layout` in src/layout.rs of the original.
+//
+// Holds making a layout from a chain code, an octave and a tritave, its pergen, pattern and scale name, and the spellings
+// and names of its keys (document 01, "The six chains", "Pergen and spelling", "Step patterns").
+// specs/: Layouts, ScaleNames and Names define, Answers says what each call answers, Theorems what a reader of key names
+// may rely on. A layout holds only the three numbers that a caller chose; each call asks questions 1 to 4 of them again.
+// Every public function here answers every input. Nothing is assumed.
+pub mod parts;
+pub mod scales;
+
+use answer::CountAnswer;
+use answer::NumberAnswer;
+use answer::Refusal;
+use genchain::rows;
+use mos::MosAnswer;
+use parts::FoundAnswer;
+use pergen::AccidentalsAnswer;
+use pergen::PerGen;
+use pergen::PerGenAnswer;
+ghost use mathlib.Core.Path.{_≡_};
+ghost use lib.ListN.{length};
+ghost use Rattle.answer.specs.Refusals.{numberOutcome, countOutcome};
+ghost use Rattle.answer.specs.Lent.{counted, Filled};
+ghost use Rattle.mos.specs.Answers.{mosOutcome};
+ghost use Rattle.pergen.specs.Answers.{pergenOutcome, accidentalsOutcome};
+ghost use Rattle.layout.specs.Answers.{
+  createOutcome,
+  getGenchain,
+  getPergen,
+  getMos,
+  getAccidentals,
+  getScaleName,
+  inRoom,
+  answerOutcome,
+};
+
+// A chain in a tuning: the chain's code, and how many steps make an octave and a tritave.
+pub struct IsomorphicLayout {
+    pub genchain: u16,
+    pub octave: u16,
+    pub tritave: u16,
+}
+
+pub enum LayoutAnswer {
+    Given(IsomorphicLayout),
+    Refused(Refusal),
+}
+
+// The layout of a chain in a tuning with so many steps to the octave and to the tritave (1, 2, 3, 4).
+pub fn create_layout(genchain: u16, octave: u16, tritave: u16) -> LayoutAnswer
+    ensures { λ r. ⌜ answerOutcome r ≡ createOutcome genchain octave tritave ⌝ }
+{
+    let layout = IsomorphicLayout {
+        genchain,
+        octave,
+        tritave,
+    };
+    match parts::search(layout) {
+        FoundAnswer::Refused(q) => LayoutAnswer::Refused(q),
+        FoundAnswer::Given(_) => LayoutAnswer::Given(layout),
+    }
+}
+
+impl IsomorphicLayout {
+    // The chain's code (1, 2, 3, 4).
+    pub fn genchain(self) -> NumberAnswer
+        ensures { λ r. ⌜ numberOutcome r ≡ getGenchain self ⌝ }
+    {
+        match parts::search(self) {
+            FoundAnswer::Refused(q) => NumberAnswer::Refused(q),
+            FoundAnswer::Given(_) => NumberAnswer::Given(self.genchain),
+        }
+    }
+
+    // The octave as period, with the chain's generator in steps (1, 2, 3, 4).
+    pub fn pergen(self) -> PerGenAnswer
+        ensures { λ r. ⌜ pergenOutcome r ≡ getPergen self ⌝ }
+    {
+        match parts::search(self) {
+            FoundAnswer::Refused(q) => PerGenAnswer::Refused(q),
+            FoundAnswer::Given(found) => PerGenAnswer::Given(PerGen {
+                period: self.octave,
+                generator: found.generator,
+            }),
+        }
+    }
+
+    // The pattern of the letters (1, 2, 3, 4).
+    pub fn mos(self) -> MosAnswer
+        ensures { λ r. ⌜ mosOutcome r ≡ getMos self ⌝ }
+    {
+        match parts::search(self) {
+            FoundAnswer::Refused(q) => MosAnswer::Refused(q),
+            FoundAnswer::Given(found) => {
+                let pattern = found.pattern;
+                MosAnswer::Given(pattern)
+            }
+        }
+    }
+
+    // The sharp and the flat spelling of a key (1, 2, 3, 4).
+    pub fn get_accidentals(self, key: u16) -> AccidentalsAnswer
+        ensures { λ r. ⌜ accidentalsOutcome r ≡ getAccidentals self key ⌝ }
+    {
+        let code = self.genchain;
+        if 6 <= code {
+            return AccidentalsAnswer::Refused(Refusal::Chain);
+        }
+        let row = rows::row(code);
+        match parts::find(self, row.num_letters) {
+            FoundAnswer::Refused(q) => AccidentalsAnswer::Refused(q),
+            FoundAnswer::Given(found) => AccidentalsAnswer::Given(parts::accidentals(
+                row,
+                self.octave,
+                found.generator,
+                key,
+            )),
+        }
+    }
+
+    // How many bytes the scale's name has (1, 2, 3, 4).
+    pub fn scale_name_len(self) -> CountAnswer
+        ensures { λ r. ⌜ countOutcome r ≡ counted (getScaleName self) ⌝ }
+    {
+        match parts::search(self) {
+            FoundAnswer::Refused(q) => CountAnswer::Refused(q),
+            FoundAnswer::Given(found) => {
+                let row = scales::scale_row(self.genchain, found.pattern);
+                CountAnswer::Given(row.length as usize)
+            }
+        }
+    }
+
+    // The scale's name, as "diatonic" (1, 2, 3, 4, 10).
+    pub fn get_scale_name(self, out: &mut [u8]) -> CountAnswer
+        ensures { λ r. ⌜ Filled (inRoom (length (now (out .entry))) (getScaleName self)) (countOutcome r) (now (out .entry)) (now (out .exit)) ⌝ }
+    {
+        match parts::search(self) {
+            FoundAnswer::Refused(q) => CountAnswer::Refused(q),
+            FoundAnswer::Given(found) => scales::write_scale(
+                scales::scale_row(self.genchain, found.pattern),
+                out,
+            ),
+        }
+    }
+}

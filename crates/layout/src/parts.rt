@@ -1,0 +1,94 @@
+// How a layout is found, and its keys spelled: parts, and no entry points. Callers have asked the questions that a `requires` names.
+use crate::IsomorphicLayout;
+use answer::NumberAnswer;
+use answer::Refusal;
+use genchain::rows;
+use genchain::rows::ChainRow;
+use mos::Mos;
+use pergen::Accidentals;
+use pergen::AccidentalsFormat;
+use pergen::coordinates;
+use pergen::euclid;
+ghost use mathlib.Core.Path.{_≡_};
+ghost use Prim.Native.Nat.{_<_};
+ghost use Rattle.genchain.specs.Chains.{TableRow};
+ghost use Rattle.mos.specs.Patterns.{genesis};
+ghost use Rattle.mos.specs.Walks.{children, firstWith};
+ghost use Rattle.pergen.specs.Spelling.{keyAccidentals};
+ghost use Rattle.layout.specs.Layouts.{lettersOf, withPattern, layoutOutcome};
+ghost use Rattle.layout.specs.Parts.{foundOutcome};
+
+// What an accepted layout has beside its three numbers.
+pub struct Found {
+    pub generator: u16,
+    pub pattern: Mos,
+}
+
+pub enum FoundAnswer {
+    Given(Found),
+    Refused(Refusal),
+}
+
+// The pattern with so many steps on the walk from the generator's genesis (4).
+pub fn with_pattern(octave: u16, generator: u16, num_letters: u16) -> FoundAnswer
+    requires { ⌜ 0 < octave ⌝ }
+    ensures { λ r. ⌜ foundOutcome r ≡ withPattern generator (firstWith «num_letters» (children (genesis octave generator))) ⌝ }
+{
+    let step = generator % octave;
+    let genesis = Mos {
+        num_primary_steps: 1,
+        num_secondary_steps: 1,
+        primary_step: step,
+        secondary_step: octave - step,
+    };
+    let mut found: [u16; 4] = [0, 0, 0, 0];
+    if mos::walks::seek(genesis, num_letters as u32, &mut found) {
+        return FoundAnswer::Given(Found {
+            generator,
+            pattern: Mos {
+                num_primary_steps: found[0],
+                num_secondary_steps: found[1],
+                primary_step: found[2],
+                secondary_step: found[3],
+            },
+        });
+    }
+    FoundAnswer::Refused(Refusal::Pattern)
+}
+
+// Questions 1 to 4, of a layout whose chain has so many letters.
+pub fn find(layout: IsomorphicLayout, num_letters: u16) -> FoundAnswer
+    requires { ⌜ «num_letters» ≡ lettersOf (layout .genchain) ⌝ }
+    ensures { λ r. ⌜ foundOutcome r ≡ layoutOutcome (layout .genchain) (layout .octave) (layout .tritave) ⌝ }
+{
+    match genchain::generator(layout.genchain, layout.octave, layout.tritave) {
+        NumberAnswer::Refused(q) => FoundAnswer::Refused(q),
+        NumberAnswer::Given(generator) => with_pattern(layout.octave, generator, num_letters),
+    }
+}
+
+// Questions 1 to 4.
+pub fn search(layout: IsomorphicLayout) -> FoundAnswer
+    ensures { λ r. ⌜ foundOutcome r ≡ layoutOutcome (layout .genchain) (layout .octave) (layout .tritave) ⌝ }
+{
+    let code = layout.genchain;
+    if 6 <= code {
+        return FoundAnswer::Refused(Refusal::Chain);
+    }
+    let row = rows::row(code);
+    find(layout, row.num_letters)
+}
+
+// The two spellings of a key, along the letters of a row.
+pub fn accidentals(row: ChainRow, octave: u16, generator: u16, key: u16) -> Accidentals
+    requires { ⌜ TableRow row × (0 < octave) ⌝ }
+    ensures { λ r. ⌜ r ≡ keyAccidentals octave generator (row .«num_letters») (row .start) key ⌝ }
+{
+    let solved = euclid::solve(octave, generator);
+    let generation = euclid::generation(solved, key);
+    let format = AccidentalsFormat {
+        num_symbols: row.num_letters,
+        genchain_origin: row.start,
+    };
+    coordinates::accidentals(solved.reduced_period, format, generation)
+}
