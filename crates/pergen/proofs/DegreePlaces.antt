@@ -162,7 +162,7 @@ module _ (P G N o i : ℕ) (hP : zero < P) (ho : o < N) where
   unfolding keyAccidentals
   good-key = good (reduced P G) N o (degree P G i) (cycleOf P G i) ho (degree-below P G hP i)
 
-  stars-are : starsOf ((keyAccidentals P G N o i) .cycle) ≡ cycle P G i
+  pub stars-are : starsOf ((keyAccidentals P G N o i) .cycle) ≡ cycle P G i
   unfolding keyAccidentals
   stars-are = ap starsOf (cycle-kept (reduced P G) N o (degree P G i) (cycleOf P G i)) ∙ stars-of-key P G i hP
 
