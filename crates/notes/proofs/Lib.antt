@@ -1,0 +1,11 @@
+pub mod Utf8
+pub mod Lengths
+pub mod Printing
+pub mod ShortNames
+pub mod RowLetters
+pub mod PlanTexts
+pub mod Counting
+pub mod Reader
+pub mod OneSpelling
+pub mod Calls
+pub mod Examples

@@ -1,0 +1,105 @@
+-- A plan's text is the name: one law for each way in which the plan is made; and how long a name can be.
+use Prim.Native.Nat.{ℕ, _+_, _≤_, _<_}
+use mathlib.Core.Path.{_≡_, refl, sym, ap, _∙_, subst}
+use mathlib.Core.Bool.{Bool, true, false}
+use mathlib.Core.List.{List, [], _∷_, _++_}
+use native.Mathlib.Omega.{arith}
+use lib.ListN.{length, replicate}
+use Rattle.pergen.specs.Spelling.{starsOf, sharpSpelling, flatSpelling}
+use Rattle.pergen.specs.declared.Cycle.{Cycle}
+use Rattle.pergen.specs.declared.Cycle.the-variants.{Absent, Number}
+use Rattle.pergen.specs.declared.Accidentals.{Accidentals}
+use Rattle.pergen.specs.declared.Spelling.{Spelling}
+use Rattle.notes.specs.Names.{pickText, letterText, letterAt, spellingText, letterAlone, inOrder, printed, inParentheses, spellingsText, nameText}
+use Rattle.notes.specs.Parts.{markText, twoText, bracketedText, bodyText, planText, sharpMark, flatMark, isPresent, onePlan, twoPlan, ShortLetters, Planned}
+use Rattle.notes.specs.declared.plans.Mark.{Mark}
+use Rattle.notes.specs.declared.plans.NamePlan.{NamePlan}
+use Rattle.notes.proofs.Printing.{printed-alone, printed-sharp, printed-flat, printed-both}
+
+parentheses : (c : Cycle) (text : List ℕ) → pickText (isPresent c) ((40 ∷ []) ++ text ++ (41 ∷ [])) text ≡ inParentheses c text
+parentheses Absent text = refl
+parentheses (Number n) text = refl
+
+module _ (letters : List ℕ) (sf : Bool) (a : Accidentals) (stars : ℕ) (is-stars : stars ≡ starsOf (a .cycle)) where
+  one-text : (m other : Mark) (s : Spelling) → printed sf a ≡ s ∷ [] → markText m ≡ spellingText letters sf s
+      → planText (onePlan m other stars) ≡ nameText letters sf a
+  unfolding planText bodyText nameText
+  one-text m other s p e = rw (p, e, is-stars)
+
+  two-text : (m n : Mark) (b : Bool) (s t : Spelling) → b ≡ isPresent (a .cycle) → printed sf a ≡ s ∷ t ∷ []
+      → markText m ≡ spellingText letters sf s → markText n ≡ spellingText letters sf t
+      → planText (twoPlan m n b stars) ≡ nameText letters sf a
+  unfolding planText bodyText bracketedText twoText nameText
+  two-text m n b s t k p e f =
+      rw (p, e, f, is-stars, k)
+      (ap (λ (x : List ℕ). x ++ replicate (starsOf (a .cycle)) 42)
+      (parentheses (a .cycle) (spellingText letters sf s ++ (47 ∷ []) ++ spellingText letters sf t)))
+
+  module _ (sharp flat : Mark)
+      (is-sharp : (sharp ≡ sharpMark letters sf (a .«sharp_index») (a .«sharp_count»)) × (sharp .letter < 2048))
+      (is-flat : (flat ≡ flatMark letters sf (a .«flat_index») (a .«flat_count»)) × (flat .letter < 2048)) where
+    sharp-text : markText sharp ≡ spellingText letters sf (sharpSpelling a)
+    unfolding markText sharpMark spellingText sharpSpelling
+    sharp-text = ap markText (is-sharp .0)
+
+    flat-text : markText flat ≡ spellingText letters sf (flatSpelling a)
+    unfolding markText flatMark spellingText flatSpelling
+    flat-text = ap markText (is-flat .0)
+
+    sharp-signs : sharp .count ≡ a .«sharp_count»
+    unfolding sharpMark
+    sharp-signs = ap (λ (m : Mark). m .count) (is-sharp .0)
+
+    flat-signs : flat .count ≡ a .«flat_count»
+    unfolding flatMark
+    flat-signs = ap (λ (m : Mark). m .count) (is-flat .0)
+
+    -- sharp and flat, in this order
+    sharp-then-flat : (both bracketed : Bool) (p : NamePlan)
+        → p ≡ record { first = sharp; second = flat; both = both; bracketed = bracketed; stars = stars }
+        → planText (record { first = sharp; second = flat; both = both; bracketed = bracketed; stars = stars }) ≡ nameText letters sf a
+        → Planned letters sf a p
+    sharp-then-flat both bracketed p e t =
+        rw e
+        (record {
+          text = t;
+          short = record { first = is-sharp .1; second = is-flat .1 };
+          signs = omega (arith, sharp-signs, flat-signs);
+          stars = is-stars;
+        })
+
+    flat-then-sharp : (both bracketed : Bool) (p : NamePlan)
+        → p ≡ record { first = flat; second = sharp; both = both; bracketed = bracketed; stars = stars }
+        → planText (record { first = flat; second = sharp; both = both; bracketed = bracketed; stars = stars }) ≡ nameText letters sf a
+        → Planned letters sf a p
+    flat-then-sharp both bracketed p e t =
+        rw e
+        (record {
+          text = t;
+          short = record { first = is-flat .1; second = is-sharp .1 };
+          signs = omega (arith, sharp-signs, flat-signs);
+          stars = is-stars;
+        })
+
+    pub planned-alone : {p : NamePlan} → p ≡ onePlan sharp flat stars → letterAlone a ≡ true → Planned letters sf a p
+    planned-alone {p} e h = sharp-then-flat false false p e (one-text sharp flat (sharpSpelling a) (printed-alone sf a h) sharp-text)
+
+    pub planned-sharp : {p : NamePlan} → p ≡ onePlan sharp flat stars → a .«sharp_count» < a .«flat_count» → Planned letters sf a p
+    planned-sharp {p} e h = sharp-then-flat false false p e (one-text sharp flat (sharpSpelling a) (printed-sharp sf a h) sharp-text)
+
+    pub planned-flat : {p : NamePlan} → p ≡ onePlan flat sharp stars → a .«flat_count» < a .«sharp_count» → Planned letters sf a p
+    planned-flat {p} e h = flat-then-sharp false false p e (one-text flat sharp (flatSpelling a) (printed-flat sf a h) flat-text)
+
+    module _ (b : Bool) (is-present : b ≡ isPresent (a .cycle)) (not-alone : letterAlone a ≡ false)
+        (le : a .«sharp_count» ≤ a .«flat_count») (ge : a .«flat_count» ≤ a .«sharp_count») where
+      pub planned-sharp-flat : {p : NamePlan} → p ≡ twoPlan sharp flat b stars → sf ≡ true → Planned letters sf a p
+      planned-sharp-flat {p} e t =
+          sharp-then-flat true b p e
+          (two-text sharp flat b (sharpSpelling a) (flatSpelling a) is-present
+          (printed-both sf a not-alone le ge ∙ ap (λ (x : Bool). inOrder x (sharpSpelling a) (flatSpelling a)) t) sharp-text flat-text)
+
+      pub planned-flat-sharp : {p : NamePlan} → p ≡ twoPlan flat sharp b stars → sf ≡ false → Planned letters sf a p
+      planned-flat-sharp {p} e t =
+          flat-then-sharp true b p e
+          (two-text flat sharp b (flatSpelling a) (sharpSpelling a) is-present
+          (printed-both sf a not-alone le ge ∙ ap (λ (x : Bool). inOrder x (sharpSpelling a) (flatSpelling a)) t) flat-text sharp-text)

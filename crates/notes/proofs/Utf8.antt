@@ -1,0 +1,26 @@
+-- UTF-8 of a letter, by its two forms: one byte, or two bytes above 127.
+use Prim.Native.Nat.{ℕ, _+_, _/_, _%_, _<_, _≤_}
+use mathlib.Core.Path.{_≡_}
+use mathlib.Core.Bool.{Bool, true, false}
+use mathlib.Core.List.{List, [], _∷_}
+use native.Mathlib.Omega.{arith}
+use lib.Dec.{ltb}
+use lib.ListN.{length}
+use borrow.Author.Tests.{lt-ltb, le-ltb}
+use Rattle.notes.specs.Names.{pickText, letterText}
+
+pub letter-one : (c : ℕ) → c < 128 → letterText c ≡ c ∷ []
+unfolding letterText
+letter-one c h = simp (lt-ltb c 128 h)
+
+pub letter-two : (c : ℕ) → 128 ≤ c → letterText c ≡ (192 + c / 64) ∷ (128 + c % 64) ∷ []
+unfolding letterText
+letter-two c h = simp (le-ltb c 128 h)
+
+pub length-letter : (c : ℕ) → length (letterText c) ≤ 2
+unfolding letterText
+length-letter c = by (ltb c 128)
+  where
+    by : (b : Bool) → length (pickText b (c ∷ []) ((192 + c / 64) ∷ (128 + c % 64) ∷ [])) ≤ 2
+    by true = omega arith
+    by false = omega arith

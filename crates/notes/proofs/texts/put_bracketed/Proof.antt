@@ -1,0 +1,36 @@
+-- Both spellings between parentheses.
+use native.Mathlib.Omega.{arith}
+use Rattle.answer.proofs.Writing.{then}
+use Rattle.notes.specs.Parts.{bracketedText}
+use Rattle.notes.proofs.Lengths.{length-bracketed}
+use borrow.Author.Needs.{needs}
+use Rattle.notes.proofs.texts.put_bracketed.Statement.{statement}
+use Rattle.notes.proofs.texts.put_bracketed.Tie as tie
+
+put-byte-requires : tie.Need-put-byte-requires
+put-byte-requires c κs = omega (arith, length-bracketed (c .before .before .args .plan))
+
+put-two-requires : tie.Need-put-two-requires
+put-two-requires c κs =
+    let d = c .before .before .before .before .before .before in
+    (d .pre .0, omega (arith, length-bracketed (d .args .plan)))
+
+put-byte-requires-2 : tie.Need-put-byte-requires-2
+put-byte-requires-2 c κs =
+    omega (arith, length-bracketed (c .before .before .before .before .before .before .before .before .before .before .args .plan))
+
+same-length : tie.Need-same-length
+same-length c = search needs
+
+returns : tie.Need-returns
+unfolding bracketedText
+returns c =
+    then
+    (then
+    (c .before .before .before .before .before .before .before .before .before .before .put-byte .ensures)
+    (c .before .before .before .before .before .before .put-two .ensures))
+    (c .before .before .put-byte2 .ensures)
+
+pub put-bracketed-spec : {M : Type 1} → statement M
+put-bracketed-spec =
+    tie.close (tie.spec put-byte-requires put-two-requires put-byte-requires-2 same-length returns)

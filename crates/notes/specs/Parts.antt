@@ -1,0 +1,80 @@
+-- What the parts behind the calls promise: a name's plan, and the text that it stands for.
+use Prim.Native.Nat.{ℕ, _+_, _≤_, _<_}
+use mathlib.Core.Path.{_≡_}
+use mathlib.Core.Bool.{Bool, true, false}
+use mathlib.Core.List.{List, [], _∷_, _++_}
+use lib.ListN.{length, replicate}
+use Rattle.pergen.specs.Spelling.{starsOf}
+use Rattle.pergen.specs.declared.Cycle.{Cycle}
+use Rattle.pergen.specs.declared.Cycle.the-variants.{Absent, Number}
+use Rattle.pergen.specs.declared.Accidentals.{Accidentals}
+use Rattle.notes.specs.Names.{pickText, letterText, letterAt, sharpSign, flatSign, nameText}
+use Rattle.notes.specs.declared.plans.Mark.{Mark}
+use Rattle.notes.specs.declared.plans.NamePlan.{NamePlan}
+
+-- ---- the text of a plan
+
+unfoldable pub markText : Mark → List ℕ
+markText m = letterText (m .letter) ++ replicate (m .count) (m .sign)
+
+unfoldable pub twoText : NamePlan → List ℕ
+twoText p = markText (p .first) ++ (47 ∷ []) ++ markText (p .second)
+
+unfoldable pub bracketedText : NamePlan → List ℕ
+bracketedText p = (40 ∷ []) ++ twoText p ++ (41 ∷ [])
+
+unfoldable pub bodyText : NamePlan → List ℕ
+bodyText p = pickText (p .both) (pickText (p .bracketed) (bracketedText p) (twoText p)) (markText (p .first))
+
+unfoldable pub planText : NamePlan → List ℕ
+planText p = bodyText p ++ replicate (p .stars) 42
+
+-- ---- the two spellings as marks
+
+unfoldable pub sharpMark : List ℕ → Bool → ℕ → ℕ → Mark
+sharpMark letters sharpFirst index count =
+    record { letter = letterAt letters index; sign = sharpSign sharpFirst; count = count }
+
+unfoldable pub flatMark : List ℕ → Bool → ℕ → ℕ → Mark
+flatMark letters sharpFirst index count =
+    record { letter = letterAt letters index; sign = flatSign sharpFirst; count = count }
+
+-- A cycle is present.
+abbrev pub isPresent : Cycle → Bool
+isPresent Absent = false
+isPresent (Number c) = true
+
+-- One spelling printed, or both.
+abbrev pub onePlan : Mark → Mark → ℕ → NamePlan
+onePlan printed other stars = record { first = printed; second = other; both = false; bracketed = false; stars = stars }
+
+abbrev pub twoPlan : Mark → Mark → Bool → ℕ → NamePlan
+twoPlan first second bracketed stars =
+    record { first = first; second = second; both = true; bracketed = bracketed; stars = stars }
+
+-- ---- promises
+
+-- Both letters take at most two bytes.
+pub record ShortLetters (p : NamePlan) : Type 0 where
+  pub first : p .first .letter < 2048
+  pub second : p .second .letter < 2048
+
+-- A plan whose text is the name, with all signs and stars of the accidentals, printed or not.
+pub record Planned (letters : List ℕ) (sharpFirst : Bool) (a : Accidentals) (p : NamePlan) : Type 0 where
+  pub text : planText p ≡ nameText letters sharpFirst a
+  pub short : ShortLetters p
+  pub signs : p .first .count + p .second .count ≡ a .«sharp_count» + a .«flat_count»
+  pub stars : p .stars ≡ starsOf (a .cycle)
+
+-- A text's length with its bound: two letters of two bytes, a slash and two parentheses are 7.
+pub record Measured (p : NamePlan) (n : ℕ) : Type 0 where
+  pub length-is : n ≡ length (planText p)
+  pub bound : n ≤ 7 + (p .first .count + p .second .count) + p .stars
+
+pub record MarkMeasured (m : Mark) (n : ℕ) : Type 0 where
+  pub length-is : n ≡ length (markText m)
+  pub bound : n ≤ 2 + m .count
+
+pub record BodyMeasured (p : NamePlan) (n : ℕ) : Type 0 where
+  pub length-is : n ≡ length (bodyText p)
+  pub bound : n ≤ 7 + (p .first .count + p .second .count)
