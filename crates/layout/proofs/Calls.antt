@@ -6,15 +6,21 @@ use native.Mathlib.Omega.{arith}
 use lib.ListN.{length}
 use Rattle.answer.specs.Outcome.{Outcome, given, refused, andThen}
 use Rattle.answer.specs.Lent.{heldIn, counted, Filled}
-use Rattle.genchain.specs.Chains.{chainOf, rowOf}
+use mathlib.Core.Bool.{Bool}
+use Rattle.genchain.specs.Chains.{chainOf, rowOf, lettersIn}
+use Rattle.genchain.proofs.TableRows.{table-row, row-letters}
+use Rattle.notes.specs.Names.{nameText}
+use Rattle.notes.specs.Parts.{planText, Planned, Measured}
+use Rattle.notes.specs.declared.plans.NamePlan.{NamePlan}
 use Rattle.genchain.specs.declared.rows.ChainRow.{ChainRow}
 use Rattle.mos.specs.declared.Mos.{Mos}
 use Rattle.pergen.specs.declared.PerGen.{PerGen}
 use Rattle.pergen.specs.declared.Accidentals.{Accidentals}
 use Rattle.pergen.specs.Spelling.{keyAccidentals}
-use Rattle.layout.specs.Layouts.{Layout, lettersOf, layoutOutcome, accidentalsIn}
+use Rattle.layout.specs.Layouts.{Layout, lettersOf, layoutOutcome, accidentalsIn, sharpFirst}
 use Rattle.layout.specs.ScaleNames.{scaleName}
-use Rattle.layout.specs.Answers.{ofLayout, createOutcome, getGenchain, getPergen, getMos, getAccidentals, getScaleName, inRoom}
+use Rattle.layout.specs.Answers.{ofLayout, createOutcome, getGenchain, getPergen, getMos, getAccidentals, getScaleName, getNoteName, inRoom}
+use Rattle.layout.specs.Names.{nameIn, noteName}
 use Rattle.layout.specs.Parts.{scaleRowOf, textIn}
 use Rattle.layout.specs.declared.IsomorphicLayout.{IsomorphicLayout}
 use Rattle.layout.specs.declared.scales.ScaleRow.{ScaleRow}
@@ -63,6 +69,15 @@ module _ (r : IsomorphicLayout) (n : ℕ) (e : refused n ≡ asked r) where
   unfolding getScaleName
   scale-refused = of-refused r _ n e
 
+  pub name-refused : (key : ℕ) → refused n ≡ getNoteName r key
+  unfolding getNoteName
+  name-refused key = of-refused r _ n e
+
+-- a planned name has the length that was measured
+pub planned-length : {letters : List ℕ} {style : Bool} {a : Accidentals} {p : NamePlan} {n : ℕ} → Planned letters style a p → Measured p n
+    → n ≡ length (nameText letters style a)
+planned-length p m = m .length-is ∙ ap length (p .text)
+
 module _ (r : IsomorphicLayout) (l : Layout) (e : given l ≡ asked r) where
   pub create-given : given r ≡ createOutcome (r .genchain) (r .octave) (r .tritave)
   unfolding createOutcome
@@ -89,6 +104,29 @@ module _ (r : IsomorphicLayout) (l : Layout) (e : given l ≡ asked r) where
   pub accidentals-given : (key : ℕ) (a : Accidentals) → a ≡ accidentalsIn (r .genchain) (r .octave) l key → given a ≡ getAccidentals r key
   unfolding getAccidentals
   accidentals-given key a q = ap given q ∙ of-given r _ l e
+
+  name-given : (key : ℕ) → given (nameIn (r .genchain) (r .octave) l key) ≡ getNoteName r key
+  unfolding getNoteName
+  name-given key = of-given r _ l e
+
+  -- a name along the letters of the chain's row is the layout's
+  module _ (key : ℕ) (row : ChainRow) (is : row ≡ rowOf (chainOf (r .genchain))) where
+    abbrev inRow : List ℕ
+    inRow = nameText (lettersIn row) (sharpFirst l) (keyAccidentals (r .octave) (l .generator) (row .«num_letters») (row .start) key)
+
+    name-in-row : inRow ≡ nameIn (r .genchain) (r .octave) l key
+    unfolding nameIn
+    name-in-row =
+        ap (λ (x : List ℕ). nameText x (sharpFirst l) (keyAccidentals (r .octave) (l .generator) (row .«num_letters») (row .start) key))
+        (row-letters row (table-row (r .genchain) row (parts-of r l e .chain) is))
+        ∙ ap (nameText (chainOf (r .genchain) .letters) (sharpFirst l)) (spelled key row _ is refl)
+
+    pub name-in-room : (room : ℕ) → heldIn room inRow ≡ inRoom room (getNoteName r key)
+    name-in-room room =
+        ap (heldIn room) name-in-row ∙ ap (λ (o : Outcome (List ℕ)). andThen o (heldIn room)) (name-given key)
+
+    pub name-count : (n : ℕ) → n ≡ length inRow → given n ≡ counted (getNoteName r key)
+    name-count n q = ap given (q ∙ ap length name-in-row) ∙ ap counted (name-given key)
 
   pub scale-given : given (scaleName (r .genchain) (l .pattern)) ≡ getScaleName r
   unfolding getScaleName

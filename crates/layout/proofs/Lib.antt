@@ -2,3 +2,5 @@ pub mod Finding
 pub mod Keys
 pub mod ScaleTable
 pub mod Calls
+pub mod Naming
+pub mod Examples

@@ -9,6 +9,7 @@ use Rattle.pergen.specs.declared.PerGen.{PerGen}
 use Rattle.pergen.specs.declared.Accidentals.{Accidentals}
 use Rattle.layout.specs.Layouts.{Layout, layoutOutcome, accidentalsIn}
 use Rattle.layout.specs.ScaleNames.{scaleName}
+use Rattle.layout.specs.Names.{noteName}
 use Rattle.layout.specs.declared.IsomorphicLayout.{IsomorphicLayout}
 use Rattle.layout.specs.declared.LayoutAnswer.{LayoutAnswer}
 use Rattle.layout.specs.declared.LayoutAnswer.the-variants as LayoutAnswer
@@ -43,6 +44,11 @@ getAccidentals r key = ofLayout r (λ (l : Layout). given (accidentalsIn (r .gen
 unfoldable pub getScaleName : IsomorphicLayout → Outcome (List ℕ)
 unfolding layoutOutcome scaleName
 getScaleName r = ofLayout r (λ (l : Layout). given (scaleName (r .genchain) (l .pattern)))
+
+-- Questions 1 to 4, then the key's name.
+unfoldable pub getNoteName : IsomorphicLayout → ℕ → Outcome (List ℕ)
+unfolding noteName
+getNoteName r key = noteName (r .genchain) (r .octave) (r .tritave) key
 
 -- Then question 10, of an output slice with `room` elements.
 abbrev pub inRoom : ℕ → Outcome (List ℕ) → Outcome (List ℕ)

@@ -1,4 +1,7 @@
 pub mod Layouts
 pub mod ScaleNames
+pub mod Names
 pub mod Answers
 pub mod Parts
+pub mod Theorems
+pub mod Examples

@@ -13,6 +13,7 @@ use answer::NumberAnswer;
 use answer::Refusal;
 use genchain::rows;
 use mos::MosAnswer;
+use notes::plans;
 use parts::FoundAnswer;
 use pergen::AccidentalsAnswer;
 use pergen::PerGen;
@@ -30,6 +31,7 @@ ghost use Rattle.layout.specs.Answers.{
   getMos,
   getAccidentals,
   getScaleName,
+  getNoteName,
   inRoom,
   answerOutcome,
 };
@@ -141,6 +143,41 @@ impl IsomorphicLayout {
                 scales::scale_row(self.genchain, found.pattern),
                 out,
             ),
+        }
+    }
+
+    // How many bytes a key's name has (1, 2, 3, 4).
+    pub fn note_name_len(self, key: u16) -> CountAnswer
+        ensures { λ r. ⌜ countOutcome r ≡ counted (getNoteName self key) ⌝ }
+    {
+        let code = self.genchain;
+        if 6 <= code {
+            return CountAnswer::Refused(Refusal::Chain);
+        }
+        let row = rows::row(code);
+        match parts::find(self, row.num_letters) {
+            FoundAnswer::Refused(q) => CountAnswer::Refused(q),
+            FoundAnswer::Given(found) => CountAnswer::Given(plans::plan_length(parts::plan_key(
+                row,
+                self.octave,
+                found,
+                key,
+            ))),
+        }
+    }
+
+    // The name of a key, as an engraver cuts it (1, 2, 3, 4, 10).
+    pub fn get_note_name(self, key: u16, out: &mut [u8]) -> CountAnswer
+        ensures { λ r. ⌜ Filled (inRoom (length (now (out .entry))) (getNoteName self key)) (countOutcome r) (now (out .entry)) (now (out .exit)) ⌝ }
+    {
+        let code = self.genchain;
+        if 6 <= code {
+            return CountAnswer::Refused(Refusal::Chain);
+        }
+        let row = rows::row(code);
+        match parts::find(self, row.num_letters) {
+            FoundAnswer::Refused(q) => CountAnswer::Refused(q),
+            FoundAnswer::Given(found) => parts::write_name(row, self.octave, found, key, out),
         }
     }
 }

@@ -1,22 +1,31 @@
 // How a layout is found, and its keys spelled: parts, and no entry points. Callers have asked the questions that a `requires` names.
 use crate::IsomorphicLayout;
+use answer::CountAnswer;
 use answer::NumberAnswer;
 use answer::Refusal;
 use genchain::rows;
 use genchain::rows::ChainRow;
 use mos::Mos;
+use notes::plans;
+use notes::plans::NamePlan;
+use notes::texts;
 use pergen::Accidentals;
 use pergen::AccidentalsFormat;
 use pergen::coordinates;
 use pergen::euclid;
 ghost use mathlib.Core.Path.{_≡_};
 ghost use Prim.Native.Nat.{_<_};
-ghost use Rattle.genchain.specs.Chains.{TableRow};
+ghost use lib.ListN.{length};
+ghost use Rattle.answer.specs.Lent.{heldIn, Filled};
+ghost use Rattle.answer.specs.Refusals.{countOutcome};
+ghost use Rattle.genchain.specs.Chains.{TableRow, lettersIn};
 ghost use Rattle.mos.specs.Patterns.{genesis};
 ghost use Rattle.mos.specs.Walks.{children, firstWith};
+ghost use Rattle.notes.specs.Names.{nameText};
+ghost use Rattle.notes.specs.Parts.{Planned};
 ghost use Rattle.pergen.specs.Spelling.{keyAccidentals};
-ghost use Rattle.layout.specs.Layouts.{lettersOf, withPattern, layoutOutcome};
-ghost use Rattle.layout.specs.Parts.{foundOutcome};
+ghost use Rattle.layout.specs.Layouts.{lettersOf, withPattern, layoutOutcome, sharpFirst};
+ghost use Rattle.layout.specs.Parts.{layoutOf, foundOutcome};
 
 // What an accepted layout has beside its three numbers.
 pub struct Found {
@@ -91,4 +100,28 @@ pub fn accidentals(row: ChainRow, octave: u16, generator: u16, key: u16) -> Acci
         genchain_origin: row.start,
     };
     coordinates::accidentals(solved.reduced_period, format, generation)
+}
+
+// The plan of a key's name. The style goes by the steps: sharp first where the primary is at least the secondary.
+pub fn plan_key(row: ChainRow, octave: u16, found: Found, key: u16) -> NamePlan
+    requires { ⌜ TableRow row × (0 < octave) ⌝ }
+    ensures { λ r. ⌜ Planned (lettersIn row) (sharpFirst (layoutOf found)) (keyAccidentals octave (found .generator) (row .«num_letters») (row .start) key) r ⌝ }
+{
+    let pattern = found.pattern;
+    let spelled = accidentals(row, octave, found.generator, key);
+    plans::plan_name(row, spelled, pattern.secondary_step <= pattern.primary_step)
+}
+
+// A key's name at the front of a slice that holds it (10).
+pub fn write_name(row: ChainRow, octave: u16, found: Found, key: u16, out: &mut [u8]) -> CountAnswer
+    requires { ⌜ TableRow row × (0 < octave) ⌝ }
+    ensures { λ r. ⌜ Filled (heldIn (length (now (out .entry))) (nameText (lettersIn row) (sharpFirst (layoutOf found)) (keyAccidentals octave (found .generator) (row .«num_letters») (row .start) key))) (countOutcome r) (now (out .entry)) (now (out .exit)) ⌝ }
+{
+    let plan = plan_key(row, octave, found, key);
+    let bytes = plans::plan_length(plan);
+    if out.len() < bytes {
+        return CountAnswer::Refused(Refusal::Room);
+    }
+    texts::put_name(out, 0, plan);
+    CountAnswer::Given(bytes)
 }
