@@ -21,121 +21,69 @@ pub struct ScaleRow {
 
 // Equalized, then for each chain code the name for sharpness above and below 0.
 const SCALES: [ScaleRow; 13] = [
+    // equalized
     ScaleRow {
-        text: [
-            b'e',
-            b'q',
-            b'u',
-            b'a',
-            b'l',
-            b'i',
-            b'z',
-            b'e',
-            b'd',
-            0,
-            0,
-            0,
-        ],
+        text: [101, 113, 117, 97, 108, 105, 122, 101, 100, 0, 0, 0],
         length: 9,
     },
+    // armotonic
     ScaleRow {
-        text: [
-            b'a',
-            b'r',
-            b'm',
-            b'o',
-            b't',
-            b'o',
-            b'n',
-            b'i',
-            b'c',
-            0,
-            0,
-            0,
-        ],
+        text: [97, 114, 109, 111, 116, 111, 110, 105, 99, 0, 0, 0],
         length: 9,
     },
+    // balzano
     ScaleRow {
-        text: [b'b', b'a', b'l', b'z', b'a', b'n', b'o', 0, 0, 0, 0, 0],
+        text: [98, 97, 108, 122, 97, 110, 111, 0, 0, 0, 0, 0],
         length: 7,
     },
+    // diatonic
     ScaleRow {
-        text: [b'd', b'i', b'a', b't', b'o', b'n', b'i', b'c', 0, 0, 0, 0],
+        text: [100, 105, 97, 116, 111, 110, 105, 99, 0, 0, 0, 0],
         length: 8,
     },
+    // antidiatonic
     ScaleRow {
-        text: [
-            b'a',
-            b'n',
-            b't',
-            b'i',
-            b'd',
-            b'i',
-            b'a',
-            b't',
-            b'o',
-            b'n',
-            b'i',
-            b'c',
-        ],
+        text: [97, 110, 116, 105, 100, 105, 97, 116, 111, 110, 105, 99],
         length: 12,
     },
+    // antipentic
     ScaleRow {
-        text: [
-            b'a',
-            b'n',
-            b't',
-            b'i',
-            b'p',
-            b'e',
-            b'n',
-            b't',
-            b'i',
-            b'c',
-            0,
-            0,
-        ],
+        text: [97, 110, 116, 105, 112, 101, 110, 116, 105, 99, 0, 0],
         length: 10,
     },
+    // pentic
     ScaleRow {
-        text: [b'p', b'e', b'n', b't', b'i', b'c', 0, 0, 0, 0, 0, 0],
+        text: [112, 101, 110, 116, 105, 99, 0, 0, 0, 0, 0, 0],
         length: 6,
     },
+    // pine
     ScaleRow {
-        text: [b'p', b'i', b'n', b'e', 0, 0, 0, 0, 0, 0, 0, 0],
+        text: [112, 105, 110, 101, 0, 0, 0, 0, 0, 0, 0, 0],
         length: 4,
     },
+    // antipine
     ScaleRow {
-        text: [b'a', b'n', b't', b'i', b'p', b'i', b'n', b'e', 0, 0, 0, 0],
+        text: [97, 110, 116, 105, 112, 105, 110, 101, 0, 0, 0, 0],
         length: 8,
     },
+    // archeotonic
     ScaleRow {
-        text: [
-            b'a',
-            b'r',
-            b'c',
-            b'h',
-            b'e',
-            b'o',
-            b't',
-            b'o',
-            b'n',
-            b'i',
-            b'c',
-            0,
-        ],
+        text: [97, 114, 99, 104, 101, 111, 116, 111, 110, 105, 99, 0],
         length: 11,
     },
+    // onyx
     ScaleRow {
-        text: [b'o', b'n', b'y', b'x', 0, 0, 0, 0, 0, 0, 0, 0],
+        text: [111, 110, 121, 120, 0, 0, 0, 0, 0, 0, 0, 0],
         length: 4,
     },
+    // smitonic
     ScaleRow {
-        text: [b's', b'm', b'i', b't', b'o', b'n', b'i', b'c', 0, 0, 0, 0],
+        text: [115, 109, 105, 116, 111, 110, 105, 99, 0, 0, 0, 0],
         length: 8,
     },
+    // mosh
     ScaleRow {
-        text: [b'm', b'o', b's', b'h', 0, 0, 0, 0, 0, 0, 0, 0],
+        text: [109, 111, 115, 104, 0, 0, 0, 0, 0, 0, 0, 0],
         length: 4,
     },
 ];
