@@ -1,14 +1,14 @@
 -- The answers of the calls, by what the code tests; runs are the eight runs that it works from.
-use Prim.Native.Nat.{ℕ, _+_, _*_, _/_, _≤_, _<_}
-use mathlib.Core.Path.{_≡_, refl, sym, ap, ap₂, _∙_, subst}
+use Prim.Native.Nat.{ℕ, _/_, _≤_, _<_}
+use mathlib.Core.Path.{_≡_, refl, sym, ap, ap₂, _∙_}
 use mathlib.Core.Bool.{Bool, true, false}
 use mathlib.Core.List.{List}
 use native.Mathlib.Nat.{div-le-self}
 use native.Mathlib.Omega.{arith}
 use lib.ListN.{length}
-use Rattle.answer.specs.Outcome.{Outcome, given, refused}
+use Rattle.answer.specs.Outcome.{given, refused}
 use Rattle.answer.specs.Lent.{Filled}
-use Rattle.answer.specs.Writing.{Room, Wrote}
+use Rattle.answer.specs.Writing.{Wrote}
 use Rattle.answer.proofs.Lent.{held, not-held, filled-refused, filled-given}
 use Rattle.answer.proofs.Writing.{wrote-as}
 use Rattle.math.specs.Gcd.{gcdOrOne}

@@ -4,7 +4,6 @@ use mathlib.Core.Path.{_≡_, refl, ap, ap₂, sym, _∙_}
 use mathlib.Core.Bool.{true}
 use native.Mathlib.Nat.{div-eq-of-eq-mul-left, add-mul, mul-assoc, div-mul-cancel, div-le-self, mul-le-mul-left}
 use native.Mathlib.Omega.{arith}
-use lib.ListN.{length}
 use Rattle.math.specs.Gcd.{gcdOrOne}
 use Rattle.math.proofs.Gcd.{gcd-or-one-positive, gcd-or-one-left, gcd-or-one-right}
 use Rattle.mos.specs.declared.Mos.{Mos}

@@ -1,8 +1,7 @@
 -- What the calls answer: question 7 of the pattern, then question 10 of the lent slice.
 use Prim.Native.Nat.{ℕ}
 use mathlib.Core.List.{List}
-use lib.ListN.{length}
-use Rattle.answer.specs.Outcome.{Outcome, given, ask}
+use Rattle.answer.specs.Outcome.{Outcome, ask}
 use Rattle.answer.specs.Lent.{heldIn}
 use Rattle.mos.specs.declared.Mos.{Mos}
 use Rattle.mos.specs.Patterns.{isPattern}

@@ -7,7 +7,6 @@ use Rattle.answer.specs.Writing.{Wrote, joined}
 use Rattle.layers.specs.declared.Cursor.{Cursor}
 use Rattle.layers.specs.declared.Runs.{Runs}
 use Rattle.layers.specs.Layers.{dropEmpty, numbered}
-use Rattle.layers.specs.Theorems.{sum}
 
 -- Run i: layers of one size, as often as the run says.
 abbrev pub runAt : List ℕ → List ℕ → ℕ → List ℕ

@@ -1,10 +1,10 @@
 -- The answers of `coprime`, by what the code tests; step is the secondary step that it found.
 use Prim.Native.Nat.{ℕ, _≤_, _<_}
-use mathlib.Core.Path.{_≡_, refl, sym, ap, _∙_, subst}
+use mathlib.Core.Path.{_≡_, sym, ap, _∙_, subst}
 use mathlib.Core.Bool.{Bool, true, false}
 use native.Mathlib.Omega.{arith}
 use borrow.Author.Tests.{le-leb, lt-leb}
-use Rattle.answer.specs.Outcome.{Outcome, given, refused}
+use Rattle.answer.specs.Outcome.{given, refused}
 use Rattle.mos.specs.declared.Mos.{Mos}
 use Rattle.mos.specs.Patterns.{mos, primaries, secondaries, primary, secondary, sizeOf, isPattern}
 use Rattle.mos.specs.Coprime.{coprimeStep, coprimeOf}

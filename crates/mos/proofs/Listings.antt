@@ -1,20 +1,18 @@
 -- Writing patterns: the four stores of one pattern, and the room that a listing leaves for its first pattern and then for the rest.
 use Prim.Native.Nat.{ℕ, suc, _+_, _*_, _≤_, _<_}
-use mathlib.Core.Path.{_≡_, refl, sym, ap, _∙_, subst}
-use mathlib.Core.Option.{some}
+use mathlib.Core.Path.{_≡_, refl, sym, ap, _∙_}
 use mathlib.Core.Bool.{Bool, true, false}
-use mathlib.Core.List.{List, [], _∷_, _++_}
+use mathlib.Core.List.{List, [], _∷_}
 use native.Mathlib.Omega.{arith}
 use lib.ListN.{length, set}
-use lib.Seq.{sets}
-use Rattle.answer.specs.Outcome.{Outcome, given, refused}
-use Rattle.answer.specs.Lent.{Filled, heldIn}
+use Rattle.answer.specs.Outcome.{given, refused}
+use Rattle.answer.specs.Lent.{Filled}
 use Rattle.answer.specs.Writing.{Room, Wrote}
 use Rattle.answer.proofs.Lent.{held, not-held, filled-refused, filled-given}
-use Rattle.answer.proofs.Writing.{then, wrote-as, room-first, room-next}
+use Rattle.answer.proofs.Writing.{then}
 use Rattle.mos.specs.declared.Mos.{Mos}
 use Rattle.mos.specs.Patterns.{isPattern}
-use Rattle.mos.specs.Walks.{fields, listed}
+use Rattle.mos.specs.Walks.{listed}
 use Rattle.mos.specs.Answers.{listingOutcome}
 use Rattle.mos.proofs.Sequences.{length-listed}
 

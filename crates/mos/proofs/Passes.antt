@@ -1,13 +1,13 @@
 -- The passes of `coprime`. Both steps are multiples of g, so their difference is 0 or above 1, and a pass divides it by g: it falls,
 -- but for equal steps, whose next difference is 1, where the passes end.
-use Prim.Native.Nat.{ℕ, zero, suc, _+_, _*_, _-_, _/_, _%_, _≤_, _<_, _∣_, max}
+use Prim.Native.Nat.{ℕ, zero, suc, _+_, _-_, _/_, _≤_, _<_, _∣_, max}
 use mathlib.Core.Path.{_≡_, refl, ap, sym, subst, _∙_}
 use mathlib.Core.Bool.{Bool, true, false}
-use native.Mathlib.Nat.{dvd-sub, dvd-one, div-lt-self, div-le-self, max-eq-right, le-refl, le-of-lt}
+use native.Mathlib.Nat.{dvd-sub, dvd-one, div-lt-self, div-le-self, max-eq-right, le-of-lt}
 use native.Mathlib.Omega.{arith}
 use lib.Dec.{eqb, leb}
 use borrow.Author.Tests.{eq-eqb, ne-eqb, eqb-true, eqb-false, leb-true, leb-false, le-leb, lt-leb}
-use Rattle.math.specs.Gcd.{gcd, gcdOrOne}
+use Rattle.math.specs.Gcd.{gcdOrOne}
 use Rattle.math.proofs.Gcd.{gcd-zero, gcd-or-one-positive, gcd-or-one-left, gcd-or-one-right}
 use Rattle.mos.specs.Patterns.{pick}
 use Rattle.mos.specs.Coprime.{distance, pass, passes, coprimeStep}

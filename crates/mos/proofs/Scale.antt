@@ -3,18 +3,18 @@
 -- q × (a + b) and the place reached (`Reached`): after a + b steps that is place 0, a primary and b secondary steps up. The counts are
 -- coprime, so no place is met twice.
 use mathlib.Core.Path.{_≡_, refl, ap, ap₂, sym, subst, _∙_}
-use mathlib.Core.Option.{Option, none, some}
+use mathlib.Core.Option.{some}
 use mathlib.Core.Bool.{Bool, true, false}
 use Prim.Native.Nat.{ℕ, zero, suc, _+_, _*_, _-_, _/_, _%_, _≤_, _<_}
-use native.Mathlib.Nat.{le-refl, mod-lt, mod-mod, add-mod-right, mod-eq-of-lt, div-add-mod', mul-add, add-mul, mul-comm, mul-assoc, mul-suc, suc-mul, mul-one, one-mul, mul-zero, zero-mul, mul-le-mul-left}
+use native.Mathlib.Nat.{mod-lt, mod-mod, add-mod-right, mod-eq-of-lt, div-add-mod', mul-add, add-mul, mul-comm, mul-assoc, suc-mul, mul-one, mul-zero, zero-mul}
 use native.Mathlib.Omega.{arith}
 use lib.Arith.{digits-div, digits-mod}
 use lib.ListN.{getElem?}
 use lib.Dec.{ltb}
-use borrow.Author.Tests.{ltb-true, ltb-false, lt-ltb, le-ltb}
-use Rattle.math.proofs.Congruence.{of-cong, to-cong, add-cong, add-cancel, mul-cong}
+use borrow.Author.Tests.{ltb-true, ltb-false}
+use Rattle.math.proofs.Congruence.{of-cong, add-cong, add-cancel, mul-cong}
 use Rattle.mos.specs.declared.Mos.{Mos}
-use Rattle.mos.specs.Patterns.{pick, mos, primaries, secondaries, primary, secondary, countOf, sizeOf, genesis, childOf}
+use Rattle.mos.specs.Patterns.{pick, primaries, secondaries, primary, secondary, countOf, sizeOf, genesis}
 use Rattle.mos.specs.Walks.{children}
 use Rattle.mos.specs.Scale.{keyOf, above, stepAbove, round, climbed, MomentOfSymmetry, InOrderOfPitch, PatternIsScale}
 use Rattle.mos.proofs.Descent.{Child, longer-primary, longer-secondary, child-at, child-keeps-size}

@@ -1,17 +1,14 @@
 -- The search for a pattern with n steps, by what the code tests. Counts only grow along the walk, so it may stop past n.
 use mathlib.Core.Path.{_≡_, refl, ap, sym, _∙_}
 use mathlib.Core.Option.{Option, none, some}
-use mathlib.Core.Bool.{Bool, true, false}
-use mathlib.Core.List.{List, [], _∷_}
-use Prim.Native.Nat.{ℕ, zero, suc, _+_, _≤_, _<_}
+use mathlib.Core.Bool.{false}
+use Prim.Native.Nat.{ℕ, zero, suc, _≤_, _<_}
 use native.Mathlib.Nat.{le-refl}
 use native.Mathlib.Omega.{arith}
-use lib.ListN.{getElem?}
-use lib.Dec.{eqb}
 use borrow.Author.Tests.{eq-eqb, ne-eqb}
 use Rattle.mos.specs.declared.Mos.{Mos}
-use Rattle.mos.specs.Patterns.{countOf, stepsOf, childOf, parentOf}
-use Rattle.mos.specs.Walks.{onward, children, parents, firstWith}
+use Rattle.mos.specs.Patterns.{countOf, stepsOf, childOf}
+use Rattle.mos.specs.Walks.{onward, children, firstWith}
 use Rattle.mos.specs.Parts.{isSome}
 use Rattle.mos.proofs.Descent.{Child, child-view, child-falls, child-counts}
 use Rattle.mos.proofs.Sequences.{children-follow, children-next, children-end, none-of}

@@ -1,19 +1,17 @@
 -- Walks without their bounds: where a number falls with each pattern, one equation gives a walk from the walk of what comes next.
-use mathlib.Core.Path.{_≡_, refl, ap, ap₂, sym, subst, _∙_}
+use mathlib.Core.Path.{_≡_, refl, ap, sym, _∙_}
 use mathlib.Core.Option.{Option, none, some}
 use mathlib.Core.Bool.{Bool, true, false}
-use mathlib.Core.List.{List, [], _∷_, _++_}
+use mathlib.Core.List.{List, [], _∷_}
 use Prim.Native.Nat.{ℕ, zero, suc, _+_, _*_, _-_, _≤_, _<_}
 use native.Mathlib.Nat.{le-refl}
 use native.Mathlib.Omega.{arith}
 use lib.ListN.{length, getElem?}
-use lib.Dec.{eqb}
-use borrow.Author.Tests.{eq-eqb, ne-eqb, eqb-true, eqb-false}
 use Rattle.mos.specs.declared.Mos.{Mos}
 use Rattle.mos.specs.Patterns.{countOf, stepsOf, childOf, parentOf}
-use Rattle.mos.specs.Walks.{onward, walk, children, parents, firstWith, lastAfter, genesisOf, fields, listed}
+use Rattle.mos.specs.Walks.{onward, walk, children, parents, lastAfter, genesisOf, listed}
 use Rattle.mos.specs.Parts.{isSome, readBack, met}
-use Rattle.mos.proofs.Descent.{child-at, child-falls, parent-falls, child-counts}
+use Rattle.mos.proofs.Descent.{child-at, child-falls, parent-falls}
 
 -- ---- any walk, with the number that falls
 
@@ -147,28 +145,9 @@ parents-few m = length-walk parentOf (countOf m) m
 
 -- ---- listings
 
-pub children-list : (m c : Mos) → childOf m ≡ some c → fields m ++ listed (children c) ≡ listed (children m)
-children-list m c e = sym (ap listed (children-next m c e))
-
-pub parents-list : (m q : Mos) → parentOf m ≡ some q → fields m ++ listed (parents q) ≡ listed (parents m)
-parents-list m q e = sym (ap listed (parents-next m q e))
-
-pub children-list-end : (m : Mos) → isSome (childOf m) ≡ false → fields m ≡ listed (children m)
-children-list-end m e = sym (ap listed (children-end m (none-of _ e)))
-
-pub parents-list-end : (m : Mos) → isSome (parentOf m) ≡ false → fields m ≡ listed (parents m)
-parents-list-end m e = sym (ap listed (parents-end m (none-of _ e)))
-
 pub length-listed : (ms : List Mos) → length (listed ms) ≡ length ms * 4
 length-listed [] = refl
 length-listed (m ∷ ms) = omega (arith, length-listed ms)
-
--- a listing begins with its first pattern, so there is room for that one
-pub children-listing : (m : Mos) → listed (children m) ≡ fields m ++ listed (onward (childOf m) children)
-children-listing m = ap listed (children-follow m)
-
-pub parents-listing : (m : Mos) → listed (parents m) ≡ fields m ++ listed (onward (parentOf m) parents)
-parents-listing m = ap listed (parents-follow m)
 
 -- ---- what an inner walk leaves in its array
 

@@ -1,14 +1,14 @@
 -- Laws of sizes: question 7 is decided by the size alone, and the products of 16-bit numbers fit the code's wide numbers.
-use Prim.Native.Nat.{ℕ, _+_, _*_, _≤_, _<_}
+use Prim.Native.Nat.{ℕ, _*_, _≤_, _<_}
 use mathlib.Core.Path.{_≡_, refl, sym, ap, _∙_}
 use mathlib.Core.Bool.{Bool, true, false, _&&_, and-false}
 use native.Mathlib.Nat.{le-mul-of-pos-right, mul-le-mul, mul-comm, lt-of-le-of-lt}
 use native.Mathlib.Omega.{arith}
 use lib.Dec.{leb, lit<}
-use borrow.Author.Tests.{leb-true, leb-false, le-leb, lt-leb}
-use Rattle.answer.specs.Outcome.{Outcome, given, refused}
+use borrow.Author.Tests.{leb-true, le-leb, lt-leb}
+use Rattle.answer.specs.Outcome.{given, refused}
 use Rattle.mos.specs.declared.Mos.{Mos}
-use Rattle.mos.specs.Patterns.{primaries, secondaries, primary, secondary, countOf, sizeOf, isPattern, dualOf, mirrorOf}
+use Rattle.mos.specs.Patterns.{primaries, secondaries, primary, secondary, countOf, sizeOf, isPattern, dualOf}
 use Rattle.mos.specs.Answers.{ofPattern}
 
 pub product-fits : (a b : ℕ) → a < 65536 → b < 65536 → a * b < 4294967296
@@ -47,10 +47,6 @@ counts-fit m hp hs = omega (arith, le-mul-of-pos-right (primaries m) hp, le-mul-
 pub dual-size : (m : Mos) → sizeOf (dualOf m) ≡ sizeOf m
 unfolding sizeOf
 dual-size m = omega (arith, mul-comm (primaries m) (primary m), mul-comm (secondaries m) (secondary m))
-
-pub mirror-size : (m : Mos) → sizeOf (mirrorOf m) ≡ sizeOf m
-unfolding sizeOf
-mirror-size m = omega arith
 
 pub dual-pattern : (m : Mos) → isPattern (dualOf m) ≡ isPattern m
 dual-pattern m = pattern-same m (dualOf m) (dual-size m)

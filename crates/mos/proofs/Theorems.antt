@@ -1,16 +1,16 @@
 -- Facts of a child carry over to whole walks by `walk-keeps`; parents are children of the dual.
 use mathlib.Core.Path.{_≡_, refl, ap, ap₂, sym, subst, _∙_}
 use mathlib.Core.Option.{Option, none, some, Option·map}
-use mathlib.Core.Bool.{true, false}
-use mathlib.Core.List.{List, [], _∷_}
-use Prim.Native.Nat.{ℕ, zero, suc, _+_, _*_, _-_, _/_, _%_, _≤_, _<_, _∣_}
+use mathlib.Core.Bool.{false}
+use mathlib.Core.List.{List}
+use Prim.Native.Nat.{ℕ, zero, suc, _*_, _-_, _≤_, _<_, _∣_}
 use native.Mathlib.Nat.{le-refl, le-of-lt, le-of-dvd, mod-lt, dvd-add, dvd-sub, dvd-antisymm, sub-add-cancel, add-sub-cancel-left, add-mul, mul-le-mul-left, le-div-iff-mul-le}
 use native.Mathlib.Omega.{arith}
 use lib.ListN.{getElem?}
-use Rattle.math.specs.Gcd.{gcd, gcdOrOne}
+use Rattle.math.specs.Gcd.{gcd}
 use Rattle.math.proofs.Gcd.{gcd-is, gcd-positive, gcd-or-one}
 use Rattle.mos.specs.declared.Mos.{Mos}
-use Rattle.mos.specs.Patterns.{mos, primaries, secondaries, primary, secondary, countOf, sizeOf, isPattern, genesis, collapsed, childOf, parentOf, dualOf, cyclesOf, reducedSizeOf}
+use Rattle.mos.specs.Patterns.{mos, primaries, secondaries, primary, secondary, countOf, sizeOf, genesis, collapsed, childOf, parentOf, dualOf, cyclesOf, reducedSizeOf}
 use Rattle.mos.specs.Walks.{onward, children, genesisOf}
 use Rattle.mos.specs.Parts.{isSome}
 use Rattle.mos.specs.Theorems.{ChildKeeps, ParentUndoesChild, WalksAreWhole, CountsGrow, StepsStayAbove, LettersFit, GenesisIsFoundAgain, CoprimeEnds, MadePatterns}

@@ -1,6 +1,5 @@
 -- What each call answers: the questions with their numbers, in rising order, and what an answer means.
 use Prim.Native.Nat.{ℕ}
-use mathlib.Core.Bool.{Bool}
 use mathlib.Core.Option.{Option, none, some}
 use mathlib.Core.List.{List}
 use lib.Dec.{leb}

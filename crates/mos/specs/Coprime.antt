@@ -1,6 +1,6 @@
 -- `coprime` (document 01, "Step patterns").
 use Prim.Native.Nat.{ℕ, zero, suc, _+_, _-_, _/_, max}
-use mathlib.Core.Bool.{Bool, true, false}
+use mathlib.Core.Bool.{true, false}
 use lib.Dec.{leb}
 use Rattle.math.specs.Gcd.{gcdOrOne}
 use Rattle.mos.specs.declared.Mos.{Mos}

@@ -8,8 +8,8 @@ use mathlib.Core.List.{List, [], _∷_, map}
 use lib.IntN.{ℤ, pos, negsuc}
 use Rattle.answer.specs.Outcome.{Outcome, given, refused}
 use Rattle.mos.specs.declared.Mos.{Mos}
-use Rattle.mos.specs.Patterns.{mos, isPattern, genesis, collapsed, childOf, parentOf, dualOf, mirrorOf, sharpnessOf, cyclesOf, reducedSizeOf, keyAt}
-use Rattle.mos.specs.Walks.{children, parents, firstWith, genesisOf, listed}
+use Rattle.mos.specs.Patterns.{mos, isPattern, genesis, childOf, parentOf, dualOf, mirrorOf, sharpnessOf, cyclesOf, reducedSizeOf, keyAt}
+use Rattle.mos.specs.Walks.{children, parents, firstWith, genesisOf}
 use Rattle.mos.specs.Answers.{ofPattern, genesisOutcome, coprimeOutcome, listingOutcome}
 use Rattle.mos.specs.Scale.{round, climbed}
 

@@ -1,7 +1,7 @@
 -- The pattern is the scale: the moment of symmetry of the Xenharmonic Wiki, tied to the numbers of every walk.
 use Prim.Native.Nat.{ℕ, zero, suc, _+_, _*_, _-_, _%_, _≤_, _<_}
 use mathlib.Core.Path.{_≡_}
-use mathlib.Core.Option.{Option, some}
+use mathlib.Core.Option.{some}
 use lib.Dec.{ltb}
 use lib.ListN.{getElem?}
 use Rattle.mos.specs.declared.Mos.{Mos}

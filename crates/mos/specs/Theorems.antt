@@ -1,9 +1,9 @@
 -- What holds of every pattern and of every walk. Each statement is proved in proofs/Theorems.antt.
-use Prim.Native.Nat.{ℕ, _*_, _%_, _≤_, _<_}
+use Prim.Native.Nat.{ℕ, _*_, _≤_, _<_}
 use mathlib.Core.Path.{_≡_}
 use mathlib.Core.Bool.{true}
-use mathlib.Core.Option.{Option, some}
-use mathlib.Core.List.{List, _∷_}
+use mathlib.Core.Option.{some}
+use mathlib.Core.List.{_∷_}
 use lib.ListN.{getElem?}
 use Rattle.math.specs.Gcd.{gcd, gcdOrOne}
 use Rattle.mos.specs.declared.Mos.{Mos}

@@ -1,6 +1,6 @@
 -- Walks of step patterns: the sequence of children, and the sequence of parents (document 01, "Step patterns" and "Port order").
 use Prim.Native.Nat.{ℕ, zero, suc}
-use mathlib.Core.Bool.{Bool, true, false}
+use mathlib.Core.Bool.{true, false}
 use mathlib.Core.Option.{Option, none, some}
 use mathlib.Core.List.{List, [], _∷_, _++_}
 use lib.Dec.{eqb}

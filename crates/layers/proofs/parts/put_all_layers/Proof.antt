@@ -1,13 +1,12 @@
 -- After i turns the layers of the first i runs are written from the start on.
-use Prim.Native.Nat.{ℕ, _+_, _-_, _≤_}
-use mathlib.Core.Path.{_≡_, sym, ap, subst, _∙_}
+use Prim.Native.Nat.{ℕ, _-_, _≤_}
+use mathlib.Core.Path.{ap, subst, _∙_}
 use native.Mathlib.Nat.{le-antisymm, zero-add}
 use native.Mathlib.Omega.{arith}
 use lib.ListN.{getD}
 use Rattle.answer.specs.Writing.{Wrote, joined}
 use Rattle.layers.specs.Layers.{dropEmpty, numbered}
-use Rattle.layers.specs.Theorems.{sum}
-use Rattle.layers.specs.Parts.{runAt, Laid, Space}
+use Rattle.layers.specs.Parts.{runAt, Laid}
 use Rattle.layers.proofs.Sizes.{sum-replicate}
 use Rattle.layers.proofs.Cursors.{all-start, all-more, all-space, laid-as, laid-length, laid-place}
 use Rattle.layers.proofs.parts.put_all_layers.Statement.{statement}

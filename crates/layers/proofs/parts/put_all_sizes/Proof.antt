@@ -1,10 +1,9 @@
 -- After i turns the sizes of the first i runs stand at the front, empty ones dropped run by run.
-use Prim.Native.Nat.{ℕ, _+_, _-_, _≤_}
+use Prim.Native.Nat.{ℕ, _-_, _≤_}
 use mathlib.Core.Path.{_≡_, sym, ap, subst, _∙_}
 use mathlib.Core.List.{List}
 use native.Mathlib.Nat.{le-antisymm, zero-add}
 use native.Mathlib.Omega.{arith}
-use lib.ListN.{length}
 use Rattle.answer.specs.Writing.{Room, Wrote, joined}
 use Rattle.answer.proofs.Writing.{wrote-as, wrote-length}
 use Rattle.answer.proofs.Joined.{joined-start, joined-step, joined-room}

@@ -1,7 +1,5 @@
 -- A run of empty layers is dropped; any other is written whole.
-use Prim.Native.Nat.{ℕ}
 use mathlib.Core.Path.{sym, subst}
-use mathlib.Core.List.{List}
 use Rattle.answer.specs.Writing.{Room}
 use Rattle.answer.proofs.Writing.{wrote-as, wrote-none}
 use Rattle.layers.proofs.Sizes.{drop-none, drop-all}

@@ -1,5 +1,4 @@
 -- The numbers of the eight runs, each from its own call.
-use native.Mathlib.Omega.{arith}
 use Rattle.layers.proofs.Plans.{planned, full-room, odd-room}
 use borrow.Author.Needs.{needs}
 use Rattle.layers.proofs.parts.runs_of.Statement.{statement}

@@ -2,7 +2,7 @@
 use Prim.Native.Nat.{ℕ, _/_}
 use mathlib.Core.Path.{ap₂}
 use Rattle.mos.proofs.Sizes.{size-given, size-refused}
-use Rattle.mos.specs.Patterns.{cyclesOf, reducedSizeOf}
+use Rattle.mos.specs.Patterns.{reducedSizeOf}
 use borrow.Author.Needs.{needs}
 use Rattle.mos.proofs.Mos.reduced_size.Statement.{statement}
 use Rattle.mos.proofs.Mos.reduced_size.Tie as tie

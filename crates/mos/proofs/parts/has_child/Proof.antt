@@ -1,5 +1,4 @@
 -- No child with a step of 0 or with equal steps; a child otherwise.
-use native.Mathlib.Nat.{pos-of-ne-zero}
 use Rattle.mos.proofs.Descent.{no-child-zero-primary, no-child-zero-secondary, child-unless-equal}
 use Rattle.mos.proofs.parts.has_child.Statement.{statement}
 use Rattle.mos.proofs.parts.has_child.Tie as tie

@@ -1,5 +1,4 @@
 -- A parent is a child of the dual.
-use Prim.Native.Nat.{ℕ}
 use mathlib.Core.Path.{sym, ap, _∙_}
 use borrow.Author.Needs.{needs}
 use Rattle.mos.specs.declared.Mos.{Mos}

@@ -1,10 +1,9 @@
 -- Swap counts with steps, child, swap back.
-use mathlib.Core.Path.{_≡_, sym, ap, _∙_, subst}
-use mathlib.Core.Bool.{true}
+use mathlib.Core.Path.{sym, ap, _∙_}
 use mathlib.Core.Option.{some}
 use borrow.Author.Needs.{needs}
 use Rattle.mos.specs.declared.Mos.{Mos}
-use Rattle.mos.specs.Patterns.{isPattern, childOf, dualOf}
+use Rattle.mos.specs.Patterns.{isPattern, childOf}
 use Rattle.mos.specs.Parts.{isSome}
 use Rattle.mos.proofs.Sizes.{dual-pattern}
 use Rattle.mos.proofs.Descent.{parent-there, dual-parent}

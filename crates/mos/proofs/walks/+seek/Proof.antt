@@ -1,6 +1,6 @@
 -- Each return is one equation of the search; the sum of the steps falls with each child.
 use Prim.Native.Nat.{ℕ, _<_}
-use mathlib.Core.Path.{sym, ap, _∙_, subst}
+use mathlib.Core.Path.{sym, _∙_, subst}
 use native.Mathlib.Omega.{arith}
 use borrow.Author.Needs.{needs}
 use borrow.Fn.Kinds.{In}

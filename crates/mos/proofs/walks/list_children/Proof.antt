@@ -1,5 +1,5 @@
 -- Block after block: what is listed and what is still to come make up the whole walk; the count of patterns left falls.
-use Prim.Native.Nat.{ℕ, _≤_}
+use Prim.Native.Nat.{_≤_}
 use mathlib.Core.Path.{_≡_, _∙_}
 use mathlib.Core.Bool.{true}
 use mathlib.Core.Option.{some}
@@ -7,7 +7,6 @@ use native.Mathlib.Nat.{le-refl}
 use native.Mathlib.Omega.{arith}
 use borrow.Author.Needs.{needs}
 use Rattle.answer.proofs.Writing.{wrote-length}
-use Rattle.answer.specs.Writing.{Room}
 use Rattle.mos.specs.declared.Mos.{Mos}
 use Rattle.mos.specs.Patterns.{isPattern, childOf}
 use Rattle.mos.specs.Walks.{children, listed}
