@@ -1,10 +1,11 @@
--- How long a name can be: two letters of two bytes, a slash, two parentheses, and the signs and stars.
+-- How long a name is: at least one letter; at most two letters of two bytes, a slash, two parentheses, and the signs and stars.
 use Prim.Native.Nat.{ℕ, _+_, _≤_}
 use native.Mathlib.Omega.{arith}
 use mathlib.Core.Path.{_≡_, refl, ap, _∙_}
 use mathlib.Core.Bool.{Bool}
 use mathlib.Core.List.{List, [], _∷_, _++_}
 use lib.ListN.{length, replicate, length-append, length-replicate}
+use Rattle.genchain.specs.Chains.{chainOf}
 use Rattle.pergen.specs.Spelling.{starsOf}
 use Rattle.pergen.specs.declared.Cycle.{Cycle}
 use Rattle.pergen.specs.declared.Cycle.the-variants.{Absent, Number}
@@ -13,8 +14,9 @@ use Rattle.pergen.specs.declared.Signs.{Signs}
 use Rattle.pergen.specs.declared.Signs.the-variants.{Sharps, Flats}
 use Rattle.pergen.specs.declared.Spelling.{Spelling}
 use Rattle.notes.specs.Names.{signsText, sharpSign, flatSign, letterText, letterAt, spellingText, printed, inParentheses, spellingsText, nameText}
-use Rattle.notes.specs.Theorems.{NamesAreShort}
-use Rattle.notes.proofs.Utf8.{length-letter}
+use Rattle.notes.specs.Answers.{chainName}
+use Rattle.notes.specs.Theorems.{NamesAreShort, NamesAreNotEmpty}
+use Rattle.notes.proofs.Utf8.{length-letter, letter-not-empty}
 use Rattle.notes.proofs.Printing.{signsIn, Printed, one, two, printed-view, signs-of}
 
 length-signs : (sf : Bool) (s : Signs) → length (signsText sf s) ≡ signsIn s
@@ -54,3 +56,36 @@ names-are-short letters sf a =
       length-replicate {A = ℕ} (starsOf (a .cycle)) 42,
       length-spellings letters sf a (a .cycle) (printed sf a) (printed-view sf a),
     )
+
+-- of a chain
+pub chain-names-are-short : (code : ℕ) (sf : Bool) (a : Accidentals)
+    → length (chainName code sf a) ≤ 7 + (a .«sharp_count» + a .«flat_count») + starsOf (a .cycle)
+unfolding chainName
+chain-names-are-short code sf a = names-are-short (chainOf code .letters) sf a
+
+-- ---- at least one letter
+
+module _ (letters : List ℕ) (sf : Bool) where
+  spelling-not-empty : (s : Spelling) → 1 ≤ length (spellingText letters sf s)
+  unfolding spellingText
+  spelling-not-empty s = simp length-append (omega (arith, letter-not-empty (letterAt letters (s .index))))
+
+  parentheses-keep : (c : Cycle) (text : List ℕ) → length text ≤ length (inParentheses c text)
+  parentheses-keep Absent text = omega arith
+  parentheses-keep (Number n) text = simp length-append (omega arith)
+
+  spellings-not-empty : (a : Accidentals) (c : Cycle) (l : List Spelling) → Printed a l → 1 ≤ length (spellingsText letters sf c l)
+  spellings-not-empty a c l (one s o) = spelling-not-empty s
+  spellings-not-empty a c l (two s t o p n) =
+      let pair = spellingText letters sf s ++ (47 ∷ []) ++ spellingText letters sf t in
+      let some : 1 ≤ length pair = simp length-append (omega arith) in
+      omega (arith, some, parentheses-keep c pair)
+
+pub names-are-not-empty : NamesAreNotEmpty
+unfolding nameText
+names-are-not-empty letters sf a =
+    simp length-append (omega (arith, spellings-not-empty letters sf a (a .cycle) (printed sf a) (printed-view sf a)))
+
+pub chain-names-are-not-empty : (code : ℕ) (sf : Bool) (a : Accidentals) → 1 ≤ length (chainName code sf a)
+unfolding chainName
+chain-names-are-not-empty code sf a = names-are-not-empty (chainOf code .letters) sf a

@@ -24,3 +24,11 @@ length-letter c = by (ltb c 128)
     by : (b : Bool) → length (pickText b (c ∷ []) ((192 + c / 64) ∷ (128 + c % 64) ∷ [])) ≤ 2
     by true = omega arith
     by false = omega arith
+
+pub letter-not-empty : (c : ℕ) → 1 ≤ length (letterText c)
+unfolding letterText
+letter-not-empty c = by (ltb c 128)
+  where
+    by : (b : Bool) → 1 ≤ length (pickText b (c ∷ []) ((192 + c / 64) ∷ (128 + c % 64) ∷ []))
+    by true = omega arith
+    by false = omega arith

@@ -41,9 +41,9 @@ nameExamples =
     -- code 1, 16, 25: D+/E- and B+, flats first and written +
     ∷ record { code = 1; sharpFirst = false; accidentals = spelt Absent 5 1 3 1; name = 68 ∷ 43 ∷ 47 ∷ 69 ∷ 45 ∷ []; reading = found 68 0 1 0 }
     ∷ record { code = 1; sharpFirst = false; accidentals = spelt Absent 1 2 6 1; name = 66 ∷ 43 ∷ []; reading = found 66 0 1 0 }
-    -- code 2, 7, 11: A+/C-
+    -- code 2, 7, 8: A+/C-
     ∷ record { code = 2; sharpFirst = false; accidentals = spelt Absent 0 1 3 1; name = 65 ∷ 43 ∷ 47 ∷ 67 ∷ 45 ∷ []; reading = found 65 0 1 0 }
-    -- code 0: β, φ- and β++, letters of two bytes
+    -- letters of two bytes, of code 0: β, φ- and β++**
     ∷ record { code = 0; sharpFirst = true; accidentals = spelt Absent 0 0 0 0; name = 206 ∷ 178 ∷ []; reading = found 946 0 0 0 }
     ∷ record { code = 0; sharpFirst = false; accidentals = spelt Absent 8 1 0 2; name = 207 ∷ 134 ∷ 45 ∷ []; reading = found 966 1 0 0 }
     ∷ record { code = 0; sharpFirst = false; accidentals = spelt (Number 2) 4 3 0 2; name = 206 ∷ 178 ∷ 43 ∷ 43 ∷ 42 ∷ 42 ∷ []; reading = found 946 0 2 2 }

@@ -52,3 +52,7 @@ abbrev pub NamesAreShort : Type 0
 NamesAreShort =
     (letters : List ℕ) (sharpFirst : Bool) (a : Accidentals)
     → length (nameText letters sharpFirst a) ≤ 7 + (a .«sharp_count» + a .«flat_count») + starsOf (a .cycle)
+
+-- And it has one byte at least.
+abbrev pub NamesAreNotEmpty : Type 0
+NamesAreNotEmpty = (letters : List ℕ) (sharpFirst : Bool) (a : Accidentals) → 1 ≤ length (nameText letters sharpFirst a)

@@ -48,6 +48,7 @@ fn letter_at(row: ChainRow, index: u16) -> u16
     63
 }
 
+// The spelling with sharps.
 fn sharp_mark(row: ChainRow, index: u16, count: u16, sharp_first: bool) -> Mark
     requires { ⌜ TableRow row ⌝ }
     ensures { λ r. ⌜ (r ≡ sharpMark (lettersIn row) «sharp_first» index count) × (r .letter < 2048) ⌝ }
@@ -67,6 +68,7 @@ fn sharp_mark(row: ChainRow, index: u16, count: u16, sharp_first: bool) -> Mark
     }
 }
 
+// The spelling with flats.
 fn flat_mark(row: ChainRow, index: u16, count: u16, sharp_first: bool) -> Mark
     requires { ⌜ TableRow row ⌝ }
     ensures { λ r. ⌜ (r ≡ flatMark (lettersIn row) «sharp_first» index count) × (r .letter < 2048) ⌝ }
@@ -86,6 +88,7 @@ fn flat_mark(row: ChainRow, index: u16, count: u16, sharp_first: bool) -> Mark
     }
 }
 
+// A cycle is there, even cycle 0.
 fn is_present(cycle: Cycle) -> bool
     ensures { λ r. ⌜ r ≡ isPresent cycle ⌝ }
 {
@@ -108,6 +111,7 @@ fn letter_alone(accidentals: Accidentals) -> bool
     accidentals.sharp_index == accidentals.flat_index
 }
 
+// One spelling is printed.
 fn one(printed: Mark, other: Mark, stars: u16) -> NamePlan
     ensures { λ r. ⌜ r ≡ onePlan printed other stars ⌝ }
 {
@@ -120,6 +124,7 @@ fn one(printed: Mark, other: Mark, stars: u16) -> NamePlan
     }
 }
 
+// Both are printed.
 fn two(first: Mark, second: Mark, bracketed: bool, stars: u16) -> NamePlan
     ensures { λ r. ⌜ r ≡ twoPlan first second bracketed stars ⌝ }
 {
