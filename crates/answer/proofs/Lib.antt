@@ -2,4 +2,5 @@ pub mod Writing
 pub mod Joined
 pub mod Lent
 pub mod Questions
+pub mod Asked
 pub mod Examples

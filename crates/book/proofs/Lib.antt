@@ -1,0 +1,5 @@
+pub mod Numbers
+pub mod Pairs
+pub mod Cover
+pub mod Lookup
+pub mod Examples
