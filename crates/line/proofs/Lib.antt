@@ -1,0 +1,5 @@
+pub mod Digits
+pub mod Numbers
+pub mod WholeLine
+pub mod ReadBack
+pub mod Examples
