@@ -3,7 +3,7 @@ use Prim.Native.Nat.{ℕ}
 use native.Mathlib.Omega.{arith}
 use mathlib.Core.Bool.{Bool, true, false, _&&_, false≢true}
 use mathlib.Core.Path.{_≡_, refl}
-use Rattle.answer.specs.Outcome.{Outcome, given, refused, ask, andThen}
+use Rattle.answer.specs.Outcome.{Outcome, given, ask, andThen}
 
 pub given-same : {A : Type 0} {a b : A} → given a ≡ given b → a ≡ b
 given-same e = cc

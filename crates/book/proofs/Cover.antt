@@ -1,16 +1,16 @@
 -- The names of an accepted book are its text: key after key, each begins where the one before it ends, up to the book's end.
-use Prim.Native.Nat.{ℕ, zero, suc, _+_, _-_, _*_, _<_, _≤_}
-use native.Mathlib.Nat.{add-zero, add-suc, le-refl, le-trans, add-sub-of-le, sub-self}
+use Prim.Native.Nat.{ℕ, zero, suc, _+_, _-_, _<_, _≤_}
+use native.Mathlib.Nat.{add-zero, add-suc, le-refl, add-sub-of-le, sub-self}
 use native.Mathlib.Numerals.{add-one}
 use native.Mathlib.Omega.{arith}
-use mathlib.Core.Bool.{Bool, true, false}
-use mathlib.Core.Path.{_≡_, refl, sym, ap, _∙_, subst}
-use mathlib.Core.List.{List, [], _++_}
+use mathlib.Core.Bool.{true}
+use mathlib.Core.Path.{_≡_, sym, ap, _∙_, subst}
+use mathlib.Core.List.{List, _++_}
 use lib.ListN.{length, take, drop, length-drop}
 use lib.Dec.{leb, ltb, eqb}
 use lib.Seq.{take-add, take-all, drop-drop, length-take-le}
 use borrow.Author.Tests.{leb-true, ltb-true, eqb-true, lt-ltb}
-use Rattle.answer.specs.Outcome.{Outcome, given, refused, ask}
+use Rattle.answer.specs.Outcome.{Outcome, given}
 use Rattle.answer.specs.Writing.{joined}
 use Rattle.answer.proofs.Asked.{given-same, asked-yes, asked-rest, and-left, and-right}
 use Rattle.book.specs.declared.Place.{Place}

@@ -2,4 +2,5 @@ pub mod Numbers
 pub mod Pairs
 pub mod Cover
 pub mod Lookup
+pub mod Written
 pub mod Examples

@@ -2,14 +2,17 @@
 use Prim.Native.Nat.{ℕ}
 use mathlib.Core.List.{List, [], _∷_, _++_, map}
 use mathlib.Core.Path.{_≡_}
-use lib.ListN.{take}
+use lib.ListN.{getD, take}
 use Rattle.answer.specs.Outcome.{Outcome, given, refused}
 use Rattle.book.specs.declared.Place.{Place}
-use Rattle.book.specs.Books.{le32, value32, keysOutcome, findOutcome, nameIn}
+use Rattle.book.specs.Books.{le32, value32, keysOutcome, findOutcome, nameIn, bookText}
 
 -- D and Eb, in UTF-8
 abbrev pub names : List ℕ
 names = 68 ∷ 69 ∷ 98 ∷ []
+
+abbrev pub nameOf : ℕ → List ℕ
+nameOf key = getD ((68 ∷ []) ∷ (69 ∷ 98 ∷ []) ∷ []) key []
 
 -- A book of two pairs, each an offset and a length, and a text.
 abbrev pub twoPairs : ℕ → ℕ → ℕ → ℕ → ℕ → List ℕ → List ℕ
@@ -64,6 +67,7 @@ bookExamples =
 -- Theorem.
 pub record ExamplesHold : Type 0 where
   pub bytes : good ≡ 2 ∷ 0 ∷ 0 ∷ 0 ∷ 20 ∷ 0 ∷ 0 ∷ 0 ∷ 1 ∷ 0 ∷ 0 ∷ 0 ∷ 21 ∷ 0 ∷ 0 ∷ 0 ∷ 2 ∷ 0 ∷ 0 ∷ 0 ∷ 68 ∷ 69 ∷ 98 ∷ []
+  pub written : bookText nameOf 2 ≡ good
   pub least-first : le32 67305985 ≡ 1 ∷ 2 ∷ 3 ∷ 4 ∷ []
   pub number : value32 (9 ∷ 1 ∷ 2 ∷ 3 ∷ 4 ∷ 9 ∷ []) 1 ≡ 67305985
   pub keys : map (λ (e : BookExample). keysOutcome (e .book)) bookExamples ≡ map (λ (e : BookExample). e .keys) bookExamples

@@ -7,7 +7,7 @@ use lib.ListN.{length, drop}
 use Rattle.answer.specs.Outcome.{given}
 use Rattle.answer.specs.Writing.{joined}
 use Rattle.book.specs.declared.Place.{Place}
-use Rattle.book.specs.Books.{le32, value32, count, offset, size, textStart, holdsPairs, textCovered, placeOf, findOutcome, nameIn}
+use Rattle.book.specs.Books.{le32, value32, count, offset, size, textStart, holdsPairs, textCovered, placeOf, keysOutcome, findOutcome, nameIn, bookText}
 
 -- Theorem: a number below 2³² is read back from its four bytes, whatever stands before and behind them.
 abbrev pub NumbersReadBack : Type 0
@@ -42,3 +42,21 @@ pub record InText (book : List ℕ) (key : ℕ) (place : Place) : Type 0 where
 -- Theorem: of any bytes whatever, a place that is found lies in the text, and is not empty.
 abbrev pub FoundLiesInText : Type 0
 FoundLiesInText = (book : List ℕ) (key : ℕ) (place : Place) → findOutcome book key ≡ given place → InText book key place
+
+-- A book that can be written: it has a key, no name is empty, and the whole book is shorter than 2³², so each offset has its four bytes.
+pub record Writable (name : ℕ → List ℕ) (keys : ℕ) : Type 0 where
+  pub some : 1 ≤ keys
+  pub not-empty : (key : ℕ) → key < keys → 1 ≤ length (name key)
+  pub short : 4 + 8 * keys + length (joined name keys) < 4294967296
+
+-- A book that gives back what was written into it.
+pub record ReadBack (name : ℕ → List ℕ) (keys : ℕ) (book : List ℕ) : Type 0 where
+  pub accepted : Accepted book
+  pub counted : keysOutcome book ≡ given keys
+  pub found : (key : ℕ) → key < keys
+      → findOutcome book key ≡ given (record { offset = 4 + 8 * keys + length (joined name key); length = length (name key) })
+  pub named : (key : ℕ) → key < keys → nameIn book key ≡ name key
+
+-- Theorem: what is written is accepted, and looking key k up gives key k's name.
+abbrev pub BooksReadBack : Type 0
+BooksReadBack = (name : ℕ → List ℕ) (keys : ℕ) → Writable name keys → ReadBack name keys (bookText name keys)

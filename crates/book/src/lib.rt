@@ -2,9 +2,11 @@
 //
 // Holds the reading of a book: how many keys it has, where a key's name stands, and the name as a part of the
 // caller's bytes. No public function has a `requires`: each is answered for any bytes whatever, damaged ones too,
-// with questions 11, 12 and 13, and no part outside the book's text is ever handed out.
-// specs/: the format and its questions (Books), that the names of an accepted book are its text (Theorems).
-// Nothing is assumed.
+// with questions 11, 12 and 13, and no part outside the book's text is ever handed out. In `writer`, its numbers' store.
+// specs/: the format and its questions (Books); that the names of an accepted book are its text, and that a written
+// book is read back (Theorems). Nothing is assumed.
+pub mod writer;
+
 use answer::Refusal;
 ghost use mathlib.Core.Path.{_≡_};
 ghost use Prim.Native.Nat.{_+_, _<_, _≤_};

@@ -1,20 +1,18 @@
 -- One number on a line, read digit by digit: what is left of the digits says the rest of the number.
-use Prim.Native.Nat.{ℕ, suc, _+_, _-_, _*_, _≤_, _<_}
-use native.Mathlib.Nat.{le-antisymm}
+use Prim.Native.Nat.{ℕ, _+_, _-_, _*_, _≤_, _<_}
 use native.Mathlib.Numerals.{add-one}
 use native.Mathlib.Omega.{arith}
-use mathlib.Core.Bool.{Bool, true, false, _&&_, and-false}
+use mathlib.Core.Bool.{Bool, true, false, and-false}
 use mathlib.Core.Logic.{⊎-elim, _⊎_, inl, inr}
-use mathlib.Core.Path.{_≡_, refl, sym, ap, _∙_, subst}
+use mathlib.Core.Path.{_≡_, refl, sym, ap, _∙_}
 use mathlib.Core.List.{List, [], _∷_}
 use lib.ListN.{length, getD, drop, drop-of-length-le, List·getD-eq-default}
 use lib.Seq.{drop-cons}
-use lib.Dec.{leb, ltb, eqb}
+use lib.Dec.{leb, ltb}
 use borrow.Author.Tests.{ltb-true, ltb-false, leb-true, le-leb, lt-leb, eq-eqb, ne-eqb}
 use Rattle.answer.proofs.Asked.{and-left, and-right}
-use Rattle.line.specs.Decimal.{isDigit, leading, value, valueFrom}
-use Rattle.line.specs.Lines.{digitsAt, valueAt, endAt, isNumber, digitAt, numberAt, pickNumber, pickReading}
-use Rattle.line.specs.declared.Reading.{Reading}
+use Rattle.line.specs.Decimal.{isDigit, leading, valueFrom}
+use Rattle.line.specs.Lines.{digitsAt, valueAt, endAt, isNumber, digitAt, numberAt, pickReading}
 use Rattle.line.specs.declared.Reading.the-variants.{Number, Nothing}
 use Rattle.line.proofs.Digits.{value-rises, leading-digit, leading-other, leading-none, is-digit}
 

@@ -1,21 +1,17 @@
 -- A written line is read back: its digits are digits, the byte behind them is none, so each number is read where it stands.
-use Prim.Native.Nat.{ℕ, suc, _+_, _*_, _/_, _%_, _≤_, _<_}
-use native.Mathlib.Nat.{zero-add, mod-lt}
+use Prim.Native.Nat.{ℕ, _+_, _%_, _≤_}
 use native.Mathlib.Omega.{arith}
-use mathlib.Core.Bool.{Bool, true, false}
-use mathlib.Core.Logic.{⊎-elim, _⊎_, inl, inr}
+use mathlib.Core.Bool.{true, false}
 use mathlib.Core.Path.{_≡_, refl, sym, ap, _∙_, subst}
 use mathlib.Core.List.{List, [], _∷_, _++_, append-assoc}
 use lib.ListN.{length, getD, drop, length-append}
 use lib.Seq.{drop-at, getD-append-add, getD-append-seam}
-use borrow.Author.Tests.{lt-ltb, le-ltb, ltb-true, ltb-false}
-use lib.Dec.{ltb}
-use Rattle.answer.specs.Outcome.{Outcome, given}
-use Rattle.line.specs.Decimal.{isDigit, leading, value, valueFrom, digits, DigitsLength}
-use Rattle.line.specs.Lines.{digitsAt, valueAt, endAt, isNumber, numberAt, space, lineFeed, lineText, lineOutcome}
+use Rattle.answer.specs.Outcome.{given}
+use Rattle.line.specs.Decimal.{isDigit, leading, value, digits}
+use Rattle.line.specs.Lines.{digitsAt, valueAt, endAt, numberAt, space, lineFeed, lineText, lineOutcome}
 use Rattle.line.specs.Theorems.{DigitsReadBack, LinesReadBack}
 use Rattle.line.specs.declared.Reading.the-variants.{Number}
-use Rattle.line.proofs.Digits.{digits-one, digits-more, by-digits, is-digit, leading-digit, leading-other, leading-none, value-digits, digits-length}
+use Rattle.line.proofs.Digits.{digits-one, digits-more, by-digits, is-digit, leading-digit, leading-other, value-digits, digits-length}
 use Rattle.line.proofs.Numbers.{is-number, a-number, length-is}
 use Rattle.line.proofs.WholeLine.{line-given}
 

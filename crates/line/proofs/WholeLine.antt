@@ -6,10 +6,9 @@ use mathlib.Core.Path.{_≡_, refl, sym, ap, _∙_, subst}
 use mathlib.Core.List.{List}
 use lib.Dec.{leb}
 use borrow.Author.Tests.{le-leb, lt-leb}
-use Rattle.answer.specs.Outcome.{Outcome, given, refused, ask}
+use Rattle.answer.specs.Outcome.{given, refused, ask}
 use Rattle.line.specs.Lines.{valueAt, endAt, isNumber, numberAt, pickReading, space, lineFeed, octaveAt, tritaveAt, isLine, lineOutcome}
 use Rattle.line.specs.declared.Line.{Line}
-use Rattle.line.specs.declared.Reading.{Reading}
 use Rattle.line.specs.declared.Reading.the-variants.{Number, Nothing}
 
 -- ---- one reading, back to its tests

@@ -1,9 +1,9 @@
 -- Worked examples of lines, given and refused, and one theorem that the definitions give what is said here.
 use Prim.Native.Nat.{ℕ}
-use mathlib.Core.List.{List, [], _∷_, _++_, map}
+use mathlib.Core.List.{List, [], _∷_, map}
 use mathlib.Core.Path.{_≡_}
 use Rattle.answer.specs.Outcome.{Outcome, given, refused}
-use Rattle.line.specs.Decimal.{value, digits}
+use Rattle.line.specs.Decimal.{digits}
 use Rattle.line.specs.Lines.{lineText, lineOutcome}
 use Rattle.line.specs.declared.Line.{Line}
 

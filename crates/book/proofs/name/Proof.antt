@@ -1,5 +1,5 @@
 -- A place that is found lies in the book, so the part can be lent; it is the name.
-use mathlib.Core.Path.{_≡_, sym, ap, _∙_}
+use mathlib.Core.Path.{sym, ap, _∙_}
 use Rattle.book.specs.Answers.{findAnswered}
 use Rattle.book.proofs.Cover.{found-lies-in-text}
 use Rattle.book.proofs.Lookup.{name-found, name-refused}

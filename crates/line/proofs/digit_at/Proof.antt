@@ -1,6 +1,5 @@
 -- The byte's three ways not to be a digit, and the digit.
 use mathlib.Core.Path.{sym}
-use native.Mathlib.Omega.{arith}
 use Rattle.line.proofs.Numbers.{none-past, low-byte, high-byte, digit-here}
 use borrow.Author.Needs.{needs}
 use Rattle.line.proofs.digit_at.Statement.{statement}

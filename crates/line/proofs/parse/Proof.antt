@@ -1,5 +1,5 @@
 -- The three numbers in turn, then the octave's bound.
-use mathlib.Core.Path.{_≡_, sym, _∙_}
+use mathlib.Core.Path.{sym, _∙_}
 use Rattle.line.proofs.WholeLine.{no-first, no-second, no-third, octave-too-large, line-given}
 use borrow.Author.Needs.{needs}
 use Rattle.line.proofs.parse.Statement.{statement}

@@ -1,6 +1,5 @@
 -- One digit is one byte; of more, a tenth of the number is written first. The measure is the number.
 use native.Mathlib.Omega.{arith}
-use mathlib.Core.Path.{sym}
 use borrow.Author.Needs.{needs}
 use Rattle.line.proofs.Digits.{length-one, length-more, room-last, wrote-one-digit, wrote-digits}
 use Prim.Native.Nat.{ℕ, _<_}
