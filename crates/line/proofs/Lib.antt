@@ -2,4 +2,5 @@ pub mod Digits
 pub mod Numbers
 pub mod WholeLine
 pub mod ReadBack
+pub mod Enough
 pub mod Examples

@@ -5,10 +5,11 @@ use mathlib.Core.Bool.{Bool, true, false, _&&_, and-false}
 use mathlib.Core.Path.{_≡_, refl, sym, ap, _∙_, subst}
 use mathlib.Core.List.{List}
 use lib.Dec.{leb}
-use borrow.Author.Tests.{le-leb, lt-leb}
+use borrow.Author.Tests.{le-leb, lt-leb, leb-true, leb-false}
 use Rattle.answer.specs.Outcome.{given, refused, ask}
 use Rattle.line.specs.Lines.{valueAt, endAt, isNumber, numberAt, pickReading, space, lineFeed, octaveAt, tritaveAt, isLine, lineOutcome}
 use Rattle.line.specs.declared.Line.{Line}
+use Rattle.line.specs.declared.Reading.{Reading}
 use Rattle.line.specs.declared.Reading.the-variants.{Number, Nothing}
 
 -- ---- one reading, back to its tests
@@ -127,3 +128,38 @@ module _ (line : List ℕ) where
             (tests
             ∙ all-4 _ _ _ _ (number-is line 0 space a second first .yes) (octave-is .yes) (tritave-is .yes)
             (le-leb (valueAt line (octaveAt line)) 4096 (omega (arith, octave-is .is-value)))))
+
+-- ---- two lines on which each number reads the same have the same outcome
+
+module _ (line other : List ℕ) (first : numberAt line 0 space ≡ numberAt other 0 space)
+    (second : (a at : ℕ) → Number a at ≡ numberAt line 0 space → numberAt line at space ≡ numberAt other at space)
+    (third : (a b at next : ℕ) → Number a at ≡ numberAt line 0 space → Number b next ≡ numberAt line at space → numberAt line next lineFeed ≡ numberAt other next lineFeed)
+  where
+    small-octave : (a at b next c end : ℕ) → Number a at ≡ numberAt line 0 space → Number b next ≡ numberAt line at space → Number c end ≡ numberAt line next lineFeed
+        → (test : Bool) → leb b 4096 ≡ test → lineOutcome line ≡ lineOutcome other
+    small-octave a at b next c end e f g true t =
+        let h = leb-true b 4096 t in
+        sym (line-given line a at e b next f c end g h)
+        ∙ line-given other a at (e ∙ first) b next (f ∙ second a at e) c end (g ∙ third a b at next e f) h
+    small-octave a at b next c end e f g false t =
+        let h = leb-false b 4096 t in
+        sym (octave-too-large line a at e b next f c end g h)
+        ∙ octave-too-large other a at (e ∙ first) b next (f ∙ second a at e) c end (g ∙ third a b at next e f) h
+
+    by-third : (a at b next : ℕ) → Number a at ≡ numberAt line 0 space → Number b next ≡ numberAt line at space
+        → (r : Reading) → r ≡ numberAt line next lineFeed → lineOutcome line ≡ lineOutcome other
+    by-third a at b next e f Nothing g =
+        sym (no-third line a at e b next f g)
+        ∙ no-third other a at (e ∙ first) b next (f ∙ second a at e) (g ∙ third a b at next e f)
+    by-third a at b next e f (Number c end) g = small-octave a at b next c end e f g (leb b 4096) refl
+
+    by-second : (a at : ℕ) → Number a at ≡ numberAt line 0 space → (r : Reading) → r ≡ numberAt line at space → lineOutcome line ≡ lineOutcome other
+    by-second a at e Nothing f = sym (no-second line a at e f) ∙ no-second other a at (e ∙ first) (f ∙ second a at e)
+    by-second a at e (Number b next) f = by-third a at b next e f (numberAt line next lineFeed) refl
+
+    by-first : (r : Reading) → r ≡ numberAt line 0 space → lineOutcome line ≡ lineOutcome other
+    by-first Nothing e = sym (no-first line e) ∙ no-first other (e ∙ first)
+    by-first (Number a at) e = by-second a at e (numberAt line at space) refl
+
+    pub same-outcome : lineOutcome line ≡ lineOutcome other
+    same-outcome = by-first (numberAt line 0 space) refl
