@@ -33,7 +33,7 @@ lastDigits zero n = []
 lastDigits (suc most) n =
     elim (ltb n 10) [ true ↦ (48 + n) ∷ [] | false ↦ lastDigits most (n / 10) ++ ((48 + n % 10) ∷ []) ]
 
--- A number in decimal, without leading zeros. It never has more digits than it says, plus 1.
+-- A number in decimal, without leading zeros; n + 1 digits are always enough for n.
 unfoldable pub digits : ℕ → List ℕ
 unfolding lastDigits
 digits n = lastDigits (n + 1) n

@@ -2,8 +2,8 @@
 //
 // Holds the reading of the line, answered for any bytes whatever, and in `decimal` the parts that write a number in
 // decimal. No public function outside `decimal` has a `requires`.
-// specs/: decimal digits, read and written (Decimal), the line and its question (Lines), that a written line is read
-// back (Theorems). Nothing is assumed.
+// specs/: decimal digits, read and written (Decimal); the line and its question (Lines); that a written line is read
+// back, and that later bytes change nothing (Theorems). Nothing is assumed.
 pub mod decimal;
 
 use answer::Refusal;
