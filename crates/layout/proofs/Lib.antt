@@ -1,4 +1,5 @@
 pub mod Finding
 pub mod Keys
+pub mod PatternShape
 pub mod ScaleTable
 pub mod Calls
