@@ -1,36 +1,32 @@
+-- The definition's test.
+use Prim.Native.Nat.{_+_}
+use native.Mathlib.Omega.{arith}
+use native.Mathlib.Nat.{mul-le-mul}
+use Rattle.layout_layers.proofs.PlanLaws.{alternating-same, alternating-other, steps-fit}
 use borrow.Author.Needs.{needs}
 use Rattle.layout_layers.proofs.parts.alternate.Statement.{statement}
 use Rattle.layout_layers.proofs.parts.alternate.Tie as tie
-use Rattle.layout_layers.proofs.parts.alternate.Reads as reads
-use Rattle.layout_layers.proofs.parts.alternate.Lts as lts
 
--- src/parts.rt:120:16
 mul-here : tie.Need-mul-here
-mul-here c = ?
+mul-here c = omega (arith, mul-le-mul {n₂ = 524280} {m₂ = 9} (c .pre .2) (c .pre .1))
 
--- src/parts.rt:120:16
 div-here : tie.Need-div-here
 div-here c = search needs
 
--- src/parts.rt:121:18
 add-there : tie.Need-add-there
 add-there c = search needs
 
--- src/parts.rt:121:17
 mul-there : tie.Need-mul-there
-mul-there c = ?
+mul-there c = omega (arith, steps-fit (c .args .offset) (c .args .secondaries) (c .args .turn) (c .pre .1) (c .pre .2) (c .pre .3))
 
--- src/parts.rt:121:17
 div-there : tie.Need-div-there
 div-there c = search needs
 
--- src/parts.rt:123:9
 returns : tie.Need-returns
-returns c = ?
+returns c = alternating-same _ _ _ _ (c .if1 .taken)
 
--- src/parts.rt:114:1
 returns-2 : tie.Need-returns-2
-returns-2 c = ?
+returns-2 c = alternating-other _ _ _ _ (c .if1 .left)
 
 pub alternate-spec : {M : Type 1} → statement M
 alternate-spec =

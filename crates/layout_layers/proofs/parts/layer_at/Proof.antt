@@ -1,94 +1,135 @@
+-- After i runs, what is left of the place lies behind them, and their layers are counted; a run that holds what is left has the layer.
+use Prim.Native.Nat.{ℕ, _+_, _*_, _-_, _≤_}
+use mathlib.Core.Path.{_≡_, refl, ap, _∙_}
+use native.Mathlib.Nat.{mul-comm}
+use native.Mathlib.Omega.{arith}
+use lib.ListN.{length, getD}
+use borrow.Author.Needs.{needs}
+use Rattle.answer.specs.Writing.{joined}
+use Rattle.answer.proofs.Joined.{joined-none}
+use Rattle.layers.specs.Layers.{dropEmpty}
+use Rattle.layers.specs.Theorems.{sum}
+use Rattle.layers.specs.Parts.{runAt}
+use Rattle.layers.proofs.Sizes.{count-none, count-more, sum-replicate, sum-joined-le, sum-joined-more}
+use Rattle.layout_layers.specs.Parts.{runLayer}
+use Rattle.layout_layers.proofs.RunPlaces.{run-passed, run-size, run-found, run-small}
 use Rattle.layout_layers.proofs.parts.layer_at.Statement.{statement}
 use Rattle.layout_layers.proofs.parts.layer_at.Tie as tie
-use Rattle.layout_layers.proofs.parts.layer_at.Reads as reads
-use Rattle.layout_layers.proofs.parts.layer_at.Lts as lts
-use Rattle.layout_layers.proofs.parts.layers_in.Reads as layers-in-reads
 
 abbrev Inv-loop : tie.InvT-loop
-Inv-loop place sizes times left₀ number₀ i₀ left number i = ?
+Inv-loop place sizes times left₀ number₀ i₀ left number i =
+    (place ≡ left + sum (joined (runAt sizes times) i)) × (number ≡ length (dropEmpty (joined (runAt sizes times) i))) × (number ≤ 65535 * i) × (i ≤ 8)
 
 abbrev μ-loop : tie.MeasureT-loop
-μ-loop place sizes times left₀ number₀ i₀ left number i = ?
+μ-loop place sizes times left₀ number₀ i₀ left number i = 8 - i
 
--- src/parts.rt:99:5
 loop-holds : tie.Need-loop-holds Inv-loop μ-loop
-loop-holds c = ?
+loop-holds c =
+    let runs = c .before .before .args .runs in
+    let f = runAt (runs .sizes) (runs .times) in
+    (omega (arith, ap sum (joined-none f)), count-none f, omega arith, omega arith)
 
--- src/parts.rt:100:20
 mul-size : tie.Need-mul-size Inv-loop μ-loop
-mul-size c = ?
+mul-size c = omega arith
 
--- src/parts.rt:100:20
 array-read-size : tie.Need-array-read-size Inv-loop μ-loop
-array-read-size c = ?
+array-read-size c = omega arith
 
--- src/parts.rt:101:21
 mul-count : tie.Need-mul-count Inv-loop μ-loop
-mul-count c = ?
+mul-count c = omega arith
 
--- src/parts.rt:101:21
 array-read-count : tie.Need-array-read-count Inv-loop μ-loop
-array-read-count c = ?
+array-read-count c = omega arith
 
--- src/parts.rt:102:21
 cast-span : tie.Need-cast-span Inv-loop μ-loop
-cast-span c = ?
+cast-span c = search needs
 
--- src/parts.rt:102:37
 cast-span-2 : tie.Need-cast-span-2 Inv-loop μ-loop
-cast-span-2 c = ?
+cast-span-2 c = search needs
 
--- src/parts.rt:102:20
 mul-span : tie.Need-mul-span Inv-loop μ-loop
-mul-span c = ?
+mul-span c =
+    let start = c .before .before .before .before in
+    let i = c .before .loop .i in
+    let f = runAt (start .args .runs .sizes) (start .args .runs .times) in
+    let size = getD (start .args .runs .sizes) i 0 in
+    let times = getD (start .args .runs .times) i 0 in
+    omega (arith, sum-joined-more f i, sum-joined-le f (i + 1) 8 (omega arith), sum-replicate times size, mul-comm times size, start .pre .1)
 
--- src/parts.rt:104:38
 cast-result : tie.Need-cast-result Inv-loop μ-loop
-cast-result c = ?
+cast-result c = search needs
 
--- src/parts.rt:104:30
 div-result : tie.Need-div-result Inv-loop μ-loop
-div-result c = ?
+div-result c =
+    let loop = c .before .before .loop in
+    let runs = c .before .before .before .before .before .args .runs in
+    run-size (runAt (runs .sizes) (runs .times)) (loop .i) _ (loop .left) (getD (runs .times) (loop .i) 0) (getD (runs .sizes) (loop .i) 0) (loop .number) refl
+    (loop .inv .0) (loop .inv .1) (c .if1 .taken)
 
--- src/parts.rt:104:21
 add-result : tie.Need-add-result Inv-loop μ-loop
-add-result c = ?
+add-result c =
+    let loop = c .before .before .loop in
+    let runs = c .before .before .before .before .before .args .runs in
+    omega (
+      arith,
+      run-small (runAt (runs .sizes) (runs .times)) (loop .i) (c .before .before .before .before .before .args .place) (loop .left) (getD (runs .times) (loop .i) 0) (getD (runs .sizes) (loop .i) 0) (loop .number) refl
+          (loop .inv .0) (loop .inv .1) (c .if1 .taken),
+    )
 
--- src/parts.rt:104:20
 cast-result-2 : tie.Need-cast-result-2 Inv-loop μ-loop
-cast-result-2 c = ?
+cast-result-2 c =
+    let loop = c .before .before .loop in
+    let runs = c .before .before .before .before .before .args .runs in
+    omega (
+      arith,
+      run-small (runAt (runs .sizes) (runs .times)) (loop .i) (c .before .before .before .before .before .args .place) (loop .left) (getD (runs .times) (loop .i) 0) (getD (runs .sizes) (loop .i) 0) (loop .number) refl
+          (loop .inv .0) (loop .inv .1) (c .if1 .taken),
+    )
 
--- src/parts.rt:104:13
 returns : tie.Need-returns Inv-loop μ-loop
-returns c = ?
+unfolding runLayer
+returns c =
+    let loop = c .before .before .loop in
+    let runs = c .before .before .before .before .before .args .runs in
+    run-found (runAt (runs .sizes) (runs .times)) (loop .i) _ (loop .left) (getD (runs .times) (loop .i) 0) (getD (runs .sizes) (loop .i) 0) (loop .number) refl
+    (loop .inv .0) (loop .inv .1) (c .if1 .taken) 8 (c .before .loop-test .taken)
 
--- src/parts.rt:107:19
 layers-in-requires : tie.Need-layers-in-requires Inv-loop μ-loop
-layers-in-requires c κs = ?
+layers-in-requires c κs = search needs
 
--- src/parts.rt:107:19
 cast-number : tie.Need-cast-number Inv-loop μ-loop
-cast-number c = ?
+cast-number c = search needs
 
--- src/parts.rt:107:9
 add-number : tie.Need-add-number Inv-loop μ-loop
-add-number c = ?
+add-number c = search needs
 
--- src/parts.rt:108:9
 add-i : tie.Need-add-i Inv-loop μ-loop
-add-i c = ?
+add-i c = omega arith
 
--- src/parts.rt:99:5
 loop-less : tie.Need-loop-less Inv-loop μ-loop
-loop-less c = ?
+loop-less c = omega arith
 
--- src/parts.rt:99:5
 loop-again : tie.Need-loop-again Inv-loop μ-loop
-loop-again c = ?
+loop-again c =
+    let loop = c .before .before .before .loop in
+    let runs = c .before .before .before .before .before .before .args .runs in
+    let f = runAt (runs .sizes) (runs .times) in
+    let size = getD (runs .sizes) (loop .i) 0 in
+    let times = getD (runs .times) (loop .i) 0 in
+    let span : sum (f (loop .i)) ≡ size * times = sum-replicate times size ∙ mul-comm times size in (
+      run-passed f (loop .i) _ (loop .left) (loop .inv .0) (omega (arith, span, c .before .if1 .left)) ∙ ap (λ (k : ℕ). loop .left - k + sum (joined f (loop .i + 1))) span,
+      count-more f (loop .i) (loop .inv .1) (c .layers-in .ensures),
+      search needs,
+      omega arith,
+    )
 
--- src/parts.rt:90:1
 returns-2 : tie.Need-returns-2 Inv-loop μ-loop
-returns-2 c = ?
+returns-2 c =
+    let loop = c .before .loop in
+    let start = c .before .before .before .before in
+    let runs = start .args .runs in
+    absurd
+    (let z : ⊥ = omega (arith, sum-joined-le (runAt (runs .sizes) (runs .times)) 8 (loop .i) (c .loop-test .left), loop .inv .0, start .pre .0) in z)
 
 pub layer-at-spec : {M : Type 1} → statement M
 layer-at-spec =

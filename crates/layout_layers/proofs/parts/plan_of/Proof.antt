@@ -1,31 +1,26 @@
+-- The parts of the plan, of an accepted layout.
+use Rattle.layout_layers.proofs.PlanLaws.{plan-parts, plan-pattern, offset-room, plan-made}
+use borrow.Author.Needs.{needs}
 use Rattle.layout_layers.proofs.parts.plan_of.Statement.{statement}
 use Rattle.layout_layers.proofs.parts.plan_of.Tie as tie
-use Rattle.layout_layers.proofs.parts.plan_of.Reads as reads
-use Rattle.layout_layers.proofs.parts.plan_of.Lts as lts
-use Rattle.genchain.proofs.rows.row.Reads as row-reads
-use Rattle.layers.proofs.parts.runs_in.Reads as runs-in-reads
-use Rattle.layout_layers.proofs.parts.offset_of.Reads as offset-of-reads
-use Rattle.pergen.proofs.euclid.solve.Reads as solve-reads
 
--- src/parts.rt:63:9
 row-requires : tie.Need-row-requires
-row-requires c κs = ?
+row-requires c κs = plan-parts _ _ _ _ (c .pre) .chain
 
--- src/parts.rt:64:9
 solve-requires : tie.Need-solve-requires
-solve-requires c κs = ?
+solve-requires c κs = plan-parts _ _ _ _ (c .before .pre) .positive
 
--- src/parts.rt:66:9
 runs-in-requires : tie.Need-runs-in-requires
-runs-in-requires c κs = ?
+runs-in-requires c κs = plan-pattern _ _ _ _ (c .before .before .before .pre) (search needs)
 
--- src/parts.rt:67:9
 offset-of-requires : tie.Need-offset-of-requires
-offset-of-requires c κs = ?
+offset-of-requires c κs =
+    offset-room _ _ _ _ (c .before .before .before .before .pre) (search needs) _ (c .before .before .before .row .ensures) _ (c .before .before .solve .ensures)
 
--- src/parts.rt:59:1
 returns : tie.Need-returns
-returns c = ?
+returns c =
+    plan-made _ _ _ _ (c .before .before .before .before .before .before .pre) (search needs) _ (c .before .before .before .before .before .row .ensures) _ (c .before .before .before .before .solve .ensures) _
+    (c .before .before .runs-in .ensures) _ (c .before .offset-of .ensures)
 
 pub plan-of-spec : {M : Type 1} → statement M
 plan-of-spec =

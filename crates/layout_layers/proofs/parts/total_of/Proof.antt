@@ -1,37 +1,50 @@
+-- The plan's layers, times the cycles.
+use Prim.Native.Nat.{ℕ, _*_}
+use mathlib.Core.Path.{sym, ap, _∙_}
+use native.Mathlib.Omega.{arith}
+use Rattle.layout_layers.proofs.PlanLaws.{count-alternates, count-listed}
 use borrow.Author.Needs.{needs}
 use Rattle.layout_layers.proofs.parts.total_of.Statement.{statement}
 use Rattle.layout_layers.proofs.parts.total_of.Tie as tie
-use Rattle.layout_layers.proofs.parts.total_of.Reads as reads
-use Rattle.layout_layers.proofs.parts.total_of.Lts as lts
-use Rattle.layers.proofs.parts.count_sizes.Reads as count-sizes-reads
 
--- src/parts.rt:172:16
 mul-result : tie.Need-mul-result
-mul-result c = ?
+mul-result c =
+    let start = c .before .before .before in
+    omega (arith, start .pre .layers-fit, ap (λ (k : ℕ). k * start .args .plan .solved .«num_cycles») (count-alternates (start .args .plan) (c .before .if1 .taken)))
 
--- src/parts.rt:172:9
 returns : tie.Need-returns
-returns c = ?
+returns c =
+    let start = c .before .before .before in
+    ap (λ (k : ℕ). k * start .args .plan .solved .«num_cycles») (count-alternates (start .args .plan) (c .before .if1 .taken))
 
--- src/parts.rt:175:6
 count-sizes-requires : tie.Need-count-sizes-requires
 count-sizes-requires c κs = search needs
 
--- src/parts.rt:175:42
 cast-result : tie.Need-cast-result
 cast-result c = search needs
 
--- src/parts.rt:175:6
 mul-result-2 : tie.Need-mul-result-2
-mul-result-2 c = ?
+mul-result-2 c =
+    let start = c .before .before .before .before .before in
+    omega (
+      arith,
+      start .pre .layers-fit,
+      ap (λ (k : ℕ). k * start .args .plan .solved .«num_cycles») (c .before .count-sizes .ensures ∙ count-listed (start .args .plan) (c .before .before .before .if1 .left)),
+    )
 
--- src/parts.rt:175:5
 cast-result-2 : tie.Need-cast-result-2
-cast-result-2 c = ?
+cast-result-2 c =
+    let start = c .before .before .before .before .before in
+    omega (
+      arith,
+      start .pre .layers-fit,
+      ap (λ (k : ℕ). k * start .args .plan .solved .«num_cycles») (c .before .count-sizes .ensures ∙ count-listed (start .args .plan) (c .before .before .before .if1 .left)),
+    )
 
--- src/parts.rt:166:1
 returns-2 : tie.Need-returns-2
-returns-2 c = ?
+returns-2 c =
+    let start = c .before .before .before .before .before in
+    ap (λ (k : ℕ). k * start .args .plan .solved .«num_cycles») (c .before .count-sizes .ensures ∙ count-listed (start .args .plan) (c .before .before .before .if1 .left))
 
 pub total-of-spec : {M : Type 1} → statement M
 total-of-spec =
