@@ -156,6 +156,14 @@ module _ (p : Plan) (sound : Sound p) where
   turn-fits turn degree layer e =
       omega (arith, ap (λ (k : ℕ). k * n) e, turn-below turn degree, sound .layers-fit)
 
+-- a degree that is carried from one scale degree to the next
+module _ (p : Plan) (turn degree : ℕ) (carried : degree ≡ p .solved .«generator_inverse» * turn % p .solved .«reduced_period») where
+  pub carried-below : Sound p → degree < p .solved .«reduced_period»
+  carried-below s = subst (λ (k : ℕ). k < p .solved .«reduced_period») (sym carried) (mod-lt _ (some-keys p s))
+
+  pub carried-layer : (layer : ℕ) → layer ≡ planLayer p turn degree → layer ≡ turnLayer p turn
+  carried-layer layer e = e ∙ ap (planLayer p turn) carried
+
 -- ---- the plan of a layout
 
 pub row-start-is : (code : ℕ) (row : ChainRow) → row ≡ rowOf (chainOf code) → row .start ≡ chainOf code .start

@@ -1,17 +1,14 @@
 -- After some turns the numbers of so many scale degrees are written, and the degree is that of the next one.
-use Prim.Native.Nat.{ℕ, _+_, _*_, _-_, _%_, _≤_, _<_}
-use mathlib.Core.Path.{_≡_, refl, sym, ap, subst, _∙_}
-use mathlib.Core.List.{List}
-use native.Mathlib.Nat.{le-antisymm, mod-lt}
+use Prim.Native.Nat.{ℕ, _*_, _-_, _%_, _≤_}
+use mathlib.Core.Path.{_≡_, sym, ap, subst, _∙_}
+use native.Mathlib.Nat.{le-antisymm}
 use native.Mathlib.Omega.{arith}
 use Rattle.answer.specs.Writing.{Room, Wrote, joined}
 use Rattle.answer.proofs.Writing.{wrote-as, wrote-length}
 use Rattle.answer.proofs.Joined.{joined-start, joined-step, joined-room}
 use Rattle.pergen.proofs.CarriedWalk.{degree-start, degree-on}
-use Rattle.layout_layers.specs.declared.parts.Plan.{Plan}
-use Rattle.layout_layers.specs.Parts.{Sound, planLayer, turnLayer, following, turnNumbers}
-use Rattle.layout_layers.proofs.PlanLaws.{some-keys, turn-fits}
-use borrow.Author.Needs.{needs}
+use Rattle.layout_layers.specs.Parts.{following, turnNumbers}
+use Rattle.layout_layers.proofs.PlanLaws.{turn-fits, carried-below, carried-layer}
 use Rattle.layout_layers.proofs.parts.put_turns.Statement.{statement}
 use Rattle.layout_layers.proofs.parts.put_turns.Tie as tie
 
@@ -22,13 +19,6 @@ Inv-loop out₀ plan turns solved cycles at₀ degree₀ turn₀ out at degree t
 abbrev μ-loop : tie.MeasureT-loop
 μ-loop out₀ plan turns solved cycles at₀ degree₀ turn₀ out at degree turn = turns - turn
 
-below : (p : Plan) → Sound p → (turn degree : ℕ) → degree ≡ p .solved .«generator_inverse» * turn % p .solved .«reduced_period» → degree < p .solved .«reduced_period»
-below p s turn degree e = subst (λ (k : ℕ). k < p .solved .«reduced_period») (sym e) (mod-lt _ (some-keys p s))
-
-layer-is : (p : Plan) (turn degree layer : ℕ) → degree ≡ p .solved .«generator_inverse» * turn % p .solved .«reduced_period»
-    → layer ≡ planLayer p turn degree → layer ≡ turnLayer p turn
-layer-is p turn degree layer e f = f ∙ ap (planLayer p turn) e
-
 loop-holds : tie.Need-loop-holds Inv-loop μ-loop
 loop-holds c =
     let plan = c .before .before .args .plan in
@@ -38,7 +28,7 @@ layer-of-requires : tie.Need-layer-of-requires Inv-loop μ-loop
 layer-of-requires c κs =
     let start = c .before .before .before .before in
     let loop = c .before .loop in
-    (start .pre .0, omega (arith, start .pre .1), below (start .args .plan) (start .pre .0) (loop .turn) (loop .degree) (loop .inv .2))
+    (start .pre .0, omega (arith, start .pre .1), carried-below (start .args .plan) (loop .turn) (loop .degree) (loop .inv .2) (start .pre .0))
 
 mul-put-following : tie.Need-mul-put-following Inv-loop μ-loop
 mul-put-following c =
@@ -51,7 +41,7 @@ put-following-requires c κs =
     let loop = c .before .before .before .loop in
     let plan = start .args .plan in
     let n = plan .solved .«num_cycles» in
-    let is = layer-is plan (loop .turn) (loop .degree) (c .before .layer-of .result) (loop .inv .2) (c .before .layer-of .ensures) in (
+    let is = carried-layer plan (loop .turn) (loop .degree) (loop .inv .2) (c .before .layer-of .result) (c .before .layer-of .ensures) in (
       subst (λ (k : ℕ). Room (loop .out) (loop .at) (following (k * n) n)) (sym is)
           (joined-room (turnNumbers plan) (loop .turn) (start .args .turns) (c .before .before .loop-test .taken) (loop .inv .0) (start .pre .2)),
       omega (arith, turn-fits plan (start .pre .0) _ _ (c .before .layer-of .result) (c .before .layer-of .ensures)),
@@ -61,7 +51,7 @@ next-degree-requires : tie.Need-next-degree-requires Inv-loop μ-loop
 next-degree-requires c κs =
     let start = c .before .before .before .before .before .before .before .before .before in
     let loop = c .before .before .before .before .before .before .loop in
-    (start .pre .0 .walkable, below (start .args .plan) (start .pre .0) (loop .turn) (loop .degree) (loop .inv .2))
+    (start .pre .0 .walkable, carried-below (start .args .plan) (loop .turn) (loop .degree) (loop .inv .2) (start .pre .0))
 
 add-turn : tie.Need-add-turn Inv-loop μ-loop
 add-turn c = omega arith
@@ -75,7 +65,7 @@ loop-again c =
     let loop = c .before .before .before .before .before .before .before .loop in
     let plan = start .args .plan in
     let n = plan .solved .«num_cycles» in
-    let is = layer-is plan (loop .turn) (loop .degree) (c .before .before .before .before .before .layer-of .result) (loop .inv .2) (c .before .before .before .before .before .layer-of .ensures) in (
+    let is = carried-layer plan (loop .turn) (loop .degree) (loop .inv .2) (c .before .before .before .before .before .layer-of .result) (c .before .before .before .before .before .layer-of .ensures) in (
       joined-step (turnNumbers plan) (loop .turn) (loop .inv .0)
           (wrote-as (ap (λ (k : ℕ). following (k * n) n) is) (c .before .before .before .put-following .ensures)),
       omega arith,
