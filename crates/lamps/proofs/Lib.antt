@@ -1,0 +1,4 @@
+pub mod StripLaws
+pub mod Theorems
+pub mod Calls
+pub mod Examples

@@ -1,0 +1,63 @@
+-- The laws of StripLaws, as the statements of specs/Theorems.
+use Prim.Native.Nat.{ℕ, zero, suc, _+_, _*_, _-_, _≤_, _<_}
+use mathlib.Core.Path.{_≡_, refl, sym, ap, subst, _∙_}
+use mathlib.Core.Bool.{Bool, true, false}
+use mathlib.Core.List.{[], _∷_}
+use native.Mathlib.Nat.{one-mul}
+use native.Mathlib.Omega.{arith}
+use lib.Dec.{eqb, ltb}
+use borrow.Author.Tests.{eqb-true, leb-true, ltb-true}
+use Rattle.answer.proofs.Joined.{length-joined-each}
+use Rattle.genchain.specs.Chains.{chainOf}
+use Rattle.mos.specs.Patterns.{pick}
+use Rattle.layout.specs.Layouts.{Layout, lettersOf, Accepted}
+use Rattle.layout_layers.specs.declared.Layer.{Layer}
+use Rattle.layout_layers.specs.declared.Layer.the-variants.{Natural, Sharp, Enharmonic, Flat}
+use Rattle.layout_layers.specs.KeyLayers.{kindOf, numberIn, countIn}
+use Rattle.lamps.specs.Lamps.{lampCode, kindAt, lampOf, stripOf, lampable, lampIn, stripIn, hasLampsIn}
+use Rattle.lamps.specs.Theorems.{LampsByCount, CodesFitBytes, OneHome, StripsAreWhole}
+use Rattle.lamps.proofs.StripLaws.{few-layers, lamps-by-count-at, lamp-home}
+
+pub lamps-by-count : LampsByCount
+lamps-by-count code P tritave l ok = lamps-by-count-at code P tritave l ok
+
+pub strips-are-whole : StripsAreWhole
+unfolding stripOf
+strips-are-whole code P l = length-joined-each (λ i. lampIn code P l i ∷ []) 1 (λ i. refl) P ∙ one-mul P
+
+code-below : (k : Layer) → lampable k ≡ true → lampCode k < 256
+unfolding lampCode
+code-below Natural e = omega arith
+code-below (Sharp i) e = omega (arith, ltb-true i 100 e)
+code-below (Enharmonic i) e = omega arith
+code-below (Flat i) e = omega (arith, ltb-true i 100 e)
+
+code-above : (k : Layer) → 0 < lampCode k
+unfolding lampCode
+code-above Natural = omega arith
+code-above (Sharp i) = omega arith
+code-above (Enharmonic i) = omega arith
+code-above (Flat i) = omega arith
+
+pick-code : (b : Bool) (c : ℕ) → c < 256 → pick b 0 c < 256
+pick-code true c h = omega arith
+pick-code false c h = h
+
+pub codes-fit-bytes : CodesFitBytes
+unfolding lampOf kindAt
+codes-fit-bytes code P tritave l ok has key =
+    pick-code (eqb key 0) _
+    (code-below (kindOf (countIn P l) (numberIn code P l key))
+    (few-layers (countIn P l) (numberIn code P l key) (leb-true (countIn P l) 202 (sym (lamps-by-count-at code P tritave l ok) ∙ has))))
+
+others-lit : (b : Bool) (key c : ℕ) → eqb key 0 ≡ b → 0 < key → 0 < c → 0 < pick b 0 c
+others-lit true key c e h k = absurd (let z : ⊥ = omega (arith, eqb-true key 0 e) in z)
+others-lit false key c e h k = k
+
+lit : (code P : ℕ) (l : Layout) (key : ℕ) → 0 < key → 0 < lampIn code P l key
+unfolding lampOf
+lit code P l key h =
+    others-lit (eqb key 0) key _ refl h (code-above (kindAt P (l .generator) (lettersOf code) (chainOf code .start) (l .pattern) key))
+
+pub one-home : OneHome
+one-home = record { zero = λ code P l. sym (lamp-home code P l 0 refl); others = lit }

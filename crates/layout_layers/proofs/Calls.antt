@@ -1,0 +1,72 @@
+-- From the plan to what the calls answer: one law for each way in which a call ends.
+use Prim.Native.Nat.{ℕ, _*_, _≤_, _<_}
+use mathlib.Core.Path.{_≡_, refl, sym, ap, _∙_}
+use mathlib.Core.List.{List}
+use native.Mathlib.Omega.{arith}
+use lib.ListN.{length}
+use Rattle.answer.specs.Outcome.{Outcome, given, refused, andThen}
+use Rattle.answer.specs.Lent.{heldIn, counted, Filled}
+use Rattle.answer.specs.Writing.{Room, Wrote, joined}
+use Rattle.answer.proofs.Lent.{held, not-held, filled-refused, filled-given}
+use Rattle.layout.specs.declared.IsomorphicLayout.{IsomorphicLayout}
+use Rattle.layout.specs.Layouts.{Layout, layoutOutcome}
+use Rattle.layout.specs.Answers.{inRoom}
+use Rattle.layout.proofs.Calls.{of-refused, of-given, parts-of, filled-as, refused-in-room}
+use Rattle.layout_layers.specs.declared.parts.Plan.{Plan}
+use Rattle.layout_layers.specs.Answers.{getLayers, getLayerCount, getLayer}
+use Rattle.layout_layers.specs.Parts.{PlanOf, planNumber, turnNumbers, turnsOf, planLayers, layersOfPlan}
+use Rattle.layout_layers.proofs.PlanLaws.{number-is, count-is, layers-are}
+
+abbrev asked : IsomorphicLayout → Outcome Layout
+asked r = layoutOutcome (r .genchain) (r .octave) (r .tritave)
+
+module _ (r : IsomorphicLayout) (n : ℕ) (e : refused n ≡ asked r) where
+  pub layers-refused : refused n ≡ getLayers r
+  unfolding getLayers
+  layers-refused = of-refused r _ n e
+
+  pub count-refused : refused n ≡ getLayerCount r
+  unfolding getLayerCount
+  count-refused = of-refused r _ n e
+
+  pub layer-refused : (key : ℕ) → refused n ≡ getLayer r key
+  unfolding getLayer
+  layer-refused key = of-refused r _ n e
+
+  pub layers-not-written : (xs : List ℕ) → Filled (inRoom (length xs) (getLayers r)) (refused n) xs xs
+  layers-not-written xs = filled-refused n xs (refused-in-room (length xs) n (getLayers r) layers-refused) refl
+
+module _ (r : IsomorphicLayout) (l : Layout) (e : given l ≡ asked r) (p : Plan) (k : PlanOf (r .genchain) (r .octave) l p) where
+  pub layers-given : given (planLayers p) ≡ getLayers r
+  unfolding getLayers
+  layers-given = ap given (layers-are (r .genchain) (r .octave) l p k (parts-of r l e .positive)) ∙ of-given r _ l e
+
+  pub count-given : (T : ℕ) → T ≡ layersOfPlan p * p .solved .«num_cycles» → given T ≡ getLayerCount r
+  unfolding getLayerCount
+  count-given T q = ap given (q ∙ count-is (r .genchain) (r .octave) l p k) ∙ of-given r _ l e
+
+  pub layer-given : (key j : ℕ) → j ≡ planNumber p key → given j ≡ getLayer r key
+  unfolding getLayer
+  layer-given key j q = ap given (q ∙ number-is (r .genchain) (r .octave) l p k key) ∙ of-given r _ l e
+
+  pub length-given : (m : ℕ) → m ≡ length (planLayers p) → given m ≡ counted (getLayers r)
+  length-given m q = ap given q ∙ ap counted layers-given
+
+  pub layers-written : {a : Outcome ℕ} {xs ys : List ℕ} → Filled (heldIn (length xs) (planLayers p)) a xs ys
+      → Filled (inRoom (length xs) (getLayers r)) a xs ys
+  layers-written {xs = xs} f = filled-as (ap (λ (o : Outcome (List ℕ)). andThen o (heldIn (length xs))) layers-given) f
+
+-- a text in a lent slice, by question 10
+module _ (text xs : List ℕ) (n : ℕ) (is : n ≡ length text) where
+  pub text-too-long : length xs < n → Filled (heldIn (length xs) text) (refused 10) xs xs
+  text-too-long h = filled-refused 10 xs (not-held (length xs) text (omega arith)) refl
+
+  pub text-room : n ≤ length xs → length text ≤ length xs
+  text-room h = omega arith
+
+  pub text-held : n ≤ length xs → {ys : List ℕ} {next : ℕ} → Wrote xs 0 text ys next → Filled (heldIn (length xs) text) (given n) xs ys
+  text-held h w = filled-given (held (length xs) text (text-room h)) (ap given is) (text-room h) w
+
+-- the scale degrees of a plan have the room that its entries have
+pub turns-room : (p : Plan) (xs : List ℕ) (turns n : ℕ) → turns ≡ turnsOf p → n ≡ length (planLayers p) → n ≤ length xs → Room xs 0 (joined (turnNumbers p) turns)
+turns-room p xs turns n e is h = omega (arith, ap (λ (k : ℕ). length (joined (turnNumbers p) k)) e)

@@ -1,0 +1,5 @@
+pub mod RunPlaces
+pub mod PlanLaws
+pub mod Calls
+pub mod Theorems
+pub mod Examples

@@ -1,0 +1,231 @@
+-- Every key's number is below T, and T at most P: the layers of one cycle are no more than its keys. Each number is met, by the key whose
+-- degree leads to the layer's first place on the chain.
+use Prim.Native.Nat.{ℕ, zero, suc, _+_, _*_, _-_, _/_, _%_, _≤_, _<_}
+use mathlib.Core.Path.{_≡_, refl, sym, ap, ap₂, subst, _∙_}
+use mathlib.Core.Bool.{Bool, true, false}
+use mathlib.Core.List.{List, [], _∷_, _++_, reverse}
+use native.Mathlib.Nat.{mod-lt, mod-eq-of-lt, add-mod-mod, add-mod-right, add-zero, zero-div, zero-mod, zero-add, mul-zero, zero-mul, one-mul, div-add-mod', div-lt-iff-lt-mul, mul-le-mul-right, le-div-iff-mul-le, le-of-dvd}
+use native.Mathlib.Omega.{arith}
+use lib.ListN.{length, getD, replicate, length-replicate, getD-replicate, List·getD-append}
+use Rattle.answer.proofs.Joined.{length-joined-each}
+use Rattle.math.proofs.Gcd.{gcd-or-one-positive, gcd-or-one-left, gcd-or-one-right}
+use Rattle.genchain.specs.Chains.{chainOf}
+use Rattle.mos.specs.declared.Mos.{Mos}
+use Rattle.mos.specs.Patterns.{pick, primaries, secondaries, primary, secondary, countOf, cyclesOf, reducedSizeOf}
+use Rattle.pergen.specs.Pergen.{cycles, reduced, degree, cycle, inverse}
+use Rattle.pergen.proofs.Inverse.{period-is, cycles-positive, reduced-positive}
+use Rattle.pergen.proofs.Keys.{cycle-below}
+use Rattle.pergen.proofs.CarriedWalk.{keyWith, key-with-below, key-with-cycle, key-with-degree}
+use Rattle.layers.specs.Layers.{holding, sharps, allSizes, dropEmpty, numbered, layerSizes, layersOf}
+use Rattle.layers.specs.Theorems.{sum}
+use Rattle.layers.proofs.Sizes.{few, sum-drop}
+use Rattle.layers.proofs.Plans.{holding-both}
+use Rattle.layers.proofs.Theorems.{layer-sizes-sum}
+use Rattle.layout.specs.Layouts.{Layout, lettersOf, Accepted}
+use Rattle.layout.proofs.Finding.{Parts, accepted}
+use Rattle.layout.proofs.PatternShape.{PatternShape, pattern-shape}
+use Rattle.layout_layers.specs.KeyLayers.{equalized, entryCount, listedLayer, alternating, alternateLayer, layerOf, layerNumber, keyLayers, layerCount, numberIn, layersIn, countIn}
+use Rattle.layout_layers.specs.Theorems.{CountsFit, NumbersAreBelow, KeyZeroIsNatural, EachNumberIsMet, EntriesAreCounted}
+use Rattle.layout_layers.proofs.RunPlaces.{numbered-below, numbered-met}
+use Rattle.layout_layers.proofs.PlanLaws.{alternating-below, alternating-same, pick-below, pick-most, block-fits}
+
+pub entries-are-counted : EntriesAreCounted
+unfolding keyLayers
+entries-are-counted code octave l =
+    length-joined-each (λ i. numberIn code octave l i ∷ []) 1 (λ i. refl) (entryCount octave (l .pattern)) ∙ one-mul _
+
+sizes-few : (m : Mos) → length (layerSizes m) ≤ reducedSizeOf m
+unfolding layerSizes
+sizes-few m =
+    let zs = allSizes (primaries m) (secondaries m) (primary m / cyclesOf m) (secondary m / cyclesOf m) in
+    omega (arith, few zs, sum-drop zs, layer-sizes-sum m)
+
+module _ (code P tritave : ℕ) (l : Layout) (ok : Accepted code P tritave l) where
+  abbrev G : ℕ
+  G = l .generator
+
+  abbrev m : Mos
+  m = l .pattern
+
+  parts : Parts code P tritave l
+  parts = accepted code P tritave l ok
+
+  shape : PatternShape code P l
+  shape = pattern-shape code P tritave l parts
+
+  fits : countIn P l ≤ P
+  unfolding layerCount
+  fits =
+      let most : pick (equalized m) 2 (length (layerSizes m)) ≤ reduced P G
+      = pick-most (equalized m) 2 (length (layerSizes m)) (reduced P G) (omega (arith, shape .at-least-five, shape .enough-keys)) (omega (arith, sizes-few m, shape .reduced-is)) in
+      omega (arith, mul-le-mul-right (cycles P G) most, period-is P G (parts .positive))
+
+  -- a place of the list
+  place-in : (i : ℕ) → (chainOf code .start + degree P G i) % reduced P G < sum (layerSizes m)
+  place-in i =
+      subst (λ (k : ℕ). (chainOf code .start + degree P G i) % reduced P G < k) (sym (layer-sizes-sum m ∙ shape .reduced-is)) (mod-lt _ (reduced-positive P G (parts .positive)))
+
+  layer-in : (i : ℕ) → layerOf P G (lettersOf code) (chainOf code .start) m i < pick (equalized m) 2 (length (layerSizes m))
+  unfolding layerOf alternateLayer listedLayer layersOf
+  layer-in i =
+      pick-below (equalized m) _ _ 2 (length (layerSizes m)) (alternating-below (lettersOf code) (secondaries m) (G * chainOf code .start / cycles P G) (i / cycles P G))
+      (subst (λ (k : ℕ). getD (numbered 0 (layerSizes m)) ((chainOf code .start + degree P G i) % reduced P G) 0 < k) (zero-add (length (layerSizes m)))
+      (numbered-below 0 (layerSizes m) ((chainOf code .start + degree P G i) % reduced P G) (place-in i)))
+
+  below : (i : ℕ) → numberIn code P l i < countIn P l
+  unfolding layerNumber layerCount
+  below i =
+      omega (
+        arith,
+        block-fits (layerOf P G (lettersOf code) (chainOf code .start) m i) (pick (equalized m) 2 (length (layerSizes m))) (cycles P G) (layer-in i),
+        cycle-below P G (parts .positive) i,
+      )
+
+  -- ---- key 0
+
+  divided : (x : ℕ) → 0 < x → (g : ℕ) → 0 < g → g ≤ x → 0 < x / g
+  divided x h g k b = le-div-iff-mul-le k .1 (subst (λ (y : ℕ). y ≤ x) (sym (one-mul g)) b)
+
+  natural-size : holding (primaries m) (secondaries m) (primary m / cyclesOf m) (secondary m / cyclesOf m) ≡ lettersOf code
+  unfolding cyclesOf
+  natural-size =
+      let g = cyclesOf m in
+      let pos = gcd-or-one-positive (primary m) (secondary m) in
+      let p = divided (primary m) (shape .primary-above) g pos (le-of-dvd (shape .primary-above) (gcd-or-one-left (primary m) (secondary m))) in
+      let s = divided (secondary m) (shape .secondary-above) g pos (le-of-dvd (shape .secondary-above) (gcd-or-one-right (primary m) (secondary m))) in
+      sym (holding-both (primaries m) (secondaries m) (primary m / g) (secondary m / g) (λ e. omega arith) (λ e. omega arith)) ∙ shape .letters
+
+  front : (size : ℕ) (rest : List ℕ) (place : ℕ) → place < size → getD (numbered 0 (dropEmpty (size ∷ rest))) place 0 ≡ 0
+  front zero rest place h = absurd (let z : ⊥ = omega arith in z)
+  front (suc size) rest place h =
+      List·getD-append (replicate (suc size) 0) (numbered 1 (dropEmpty rest)) 0 place (omega (arith, length-replicate {A = ℕ} (suc size) 0))
+      ∙ getD-replicate (suc size) place 0 0 h
+
+  -- the letters' places on the chain are in the natural layer
+  pub letters-natural : (place : ℕ) → place < lettersOf code → getD (layersOf m) place 0 ≡ 0
+  unfolding layersOf layerSizes allSizes
+  letters-natural place h =
+      let a = primaries m in
+      let b = secondaries m in
+      let x = primary m / cyclesOf m in
+      let y = secondary m / cyclesOf m in
+      front (holding a b x y)
+      (sharps a b ((x - 1) / 2) ((y - 1) / 2) ++ (holding a b ((x - 1) % 2) ((y - 1) % 2) ∷ reverse (sharps a b ((x - 1) / 2) ((y - 1) / 2))))
+      place (subst (λ (k : ℕ). place < k) (sym natural-size) h)
+
+  degree-zero : degree P G 0 ≡ 0
+  unfolding degree
+  degree-zero =
+      ap (λ (k : ℕ). inverse P G * k % reduced P G) (zero-div (cycles P G))
+      ∙ ap (λ (k : ℕ). k % reduced P G) (mul-zero (inverse P G))
+      ∙ zero-mod (reduced P G)
+
+  start-place : (chainOf code .start + degree P G 0) % reduced P G ≡ chainOf code .start
+  start-place =
+      ap (λ (k : ℕ). (chainOf code .start + k) % reduced P G) degree-zero
+      ∙ ap (λ (k : ℕ). k % reduced P G) (add-zero (chainOf code .start))
+      ∙ mod-eq-of-lt (omega (arith, shape .start-below, shape .enough-keys))
+
+  listed-zero : listedLayer P G (chainOf code .start) m 0 ≡ 0
+  unfolding listedLayer
+  listed-zero = ap (λ (k : ℕ). getD (layersOf m) k 0) start-place ∙ letters-natural (chainOf code .start) (shape .start-below)
+
+  alternate-zero : (i : ℕ) → i / cycles P G ≡ 0 → alternateLayer P G (lettersOf code) (chainOf code .start) (secondaries m) i ≡ 0
+  unfolding alternateLayer
+  alternate-zero i e =
+      let h = G * chainOf code .start / cycles P G in
+      sym
+      (alternating-same (lettersOf code) (secondaries m) h (i / cycles P G)
+      (ap (λ (k : ℕ). k * secondaries m / lettersOf code % 2) (let q : h ≡ i / cycles P G + h = omega arith in q)))
+
+  pick-zero : (b : Bool) (u v : ℕ) → u ≡ 0 → v ≡ 0 → pick b u v ≡ 0
+  pick-zero true u v e f = e
+  pick-zero false u v e f = f
+
+  zero-natural : numberIn code P l 0 ≡ 0
+  unfolding layerNumber layerOf cycle
+  zero-natural =
+      let a = pick-zero (equalized m) _ _ (alternate-zero 0 (zero-div (cycles P G))) listed-zero in
+      omega (arith, ap (λ (k : ℕ). k * cycles P G) a, zero-mul (cycles P G), zero-mod (cycles P G))
+
+  -- in an equalized scale the keys below n are in the first layer
+  pub first-keys : equalized m ≡ true → (i : ℕ) → i / cycles P G ≡ 0 → numberIn code P l i ≡ cycle P G i
+  unfolding layerNumber layerOf
+  first-keys t i e =
+      let a : layerOf P G (lettersOf code) (chainOf code .start) m i ≡ 0
+      = ap (λ (b : Bool). pick b (alternateLayer P G (lettersOf code) (chainOf code .start) (secondaries m) i) (listedLayer P G (chainOf code .start) m i)) t ∙ alternate-zero i e in
+      ap (λ (k : ℕ). k * cycles P G + cycle P G i) a ∙ ap (λ (k : ℕ). k + cycle P G i) (zero-mul (cycles P G)) ∙ zero-add (cycle P G i)
+
+  -- ---- each number
+
+  module _ (other : equalized m ≡ false) (j : ℕ) (h : j < countIn P l) where
+    abbrev n : ℕ
+    n = cycles P G
+
+    abbrev R : ℕ
+    R = reduced P G
+
+    abbrev start : ℕ
+    start = chainOf code .start
+
+    within : j / n < length (layerSizes m)
+    unfolding layerCount
+    within =
+        div-lt-iff-lt-mul (cycles-positive P G (parts .positive)) .1
+        (subst (λ (b : Bool). j < pick b 2 (length (layerSizes m)) * n) other h)
+
+    first-place : (place : ℕ) × (place < sum (layerSizes m)) × (getD (layersOf m) place 0 ≡ j / n)
+    unfolding layersOf layerSizes
+    first-place =
+        let r = numbered-met 0 (allSizes (primaries m) (secondaries m) (primary m / cyclesOf m) (secondary m / cyclesOf m)) (j / n) within in
+        (r .0, r .1, r .2 ∙ zero-add (j / n))
+
+    abbrev place : ℕ
+    place = first-place .0
+
+    abbrev d : ℕ
+    d = (place + (R - start)) % R
+
+    d-below : d < R
+    d-below = mod-lt _ (reduced-positive P G (parts .positive))
+
+    c-below : j % n < n
+    c-below = mod-lt j (cycles-positive P G (parts .positive))
+
+    leads : (start + d) % R ≡ place
+    leads =
+        let b : place < R = omega (arith, first-place .1, layer-sizes-sum m, shape .reduced-is) in
+        add-mod-mod start (place + (R - start)) R
+        ∙ ap (λ (k : ℕ). k % R) (let q : start + (place + (R - start)) ≡ place + R = omega (arith, shape .start-below, shape .enough-keys) in q)
+        ∙ add-mod-right place R
+        ∙ mod-eq-of-lt b
+
+    key-number : numberIn code P l (keyWith P G (parts .positive) d (j % n) d-below c-below) ≡ j
+    unfolding layerNumber layerOf listedLayer
+    key-number =
+        let i = keyWith P G (parts .positive) d (j % n) d-below c-below in
+        let a : layerOf P G (lettersOf code) start m i ≡ j / n
+        = ap (λ (b : Bool). pick b (alternateLayer P G (lettersOf code) start (secondaries m) i) (listedLayer P G start m i)) other
+        ∙ ap (λ (k : ℕ). getD (layersOf m) ((start + k) % R) 0) (key-with-degree P G (parts .positive) d (j % n) d-below c-below)
+        ∙ ap (λ (k : ℕ). getD (layersOf m) k 0) leads
+        ∙ first-place .2 in
+        ap₂ (λ (x y : ℕ). x * n + y) a (key-with-cycle P G (parts .positive) d (j % n) d-below c-below) ∙ div-add-mod' j n
+
+    met : (key : ℕ) × (key < P) × (numberIn code P l key ≡ j)
+    met = (
+      keyWith P G (parts .positive) d (j % n) d-below c-below,
+      key-with-below P G (parts .positive) d (j % n) d-below c-below,
+      key-number,
+    )
+
+pub counts-fit : CountsFit
+counts-fit code P tritave l ok = fits code P tritave l ok
+
+pub numbers-are-below : NumbersAreBelow
+numbers-are-below code P tritave l ok key = below code P tritave l ok key
+
+pub key-zero-is-natural : KeyZeroIsNatural
+key-zero-is-natural code P tritave l ok = zero-natural code P tritave l ok
+
+pub each-number-is-met : EachNumberIsMet
+each-number-is-met code P tritave l ok other j h = met code P tritave l ok other j h

@@ -1,0 +1,42 @@
+-- Questions 1 to 4, then the key's number.
+use mathlib.Core.Path.{sym, ap, _∙_}
+use Rattle.layout.specs.Parts.{foundOutcome}
+use Rattle.layout_layers.proofs.Calls.{layer-refused, layer-given}
+use borrow.Author.Needs.{needs}
+use Rattle.layout_layers.proofs.get_layer.Statement.{statement}
+use Rattle.layout_layers.proofs.get_layer.Tie as tie
+
+search-requires : tie.Need-search-requires
+search-requires c κs = search needs
+
+enum-known-q : tie.Need-enum-known-q
+enum-known-q c = search needs
+
+enum-known-found : tie.Need-enum-known-found
+enum-known-found c = search needs
+
+plan-of-requires : tie.Need-plan-of-requires
+plan-of-requires c κs = sym (sym (ap foundOutcome (c .before .found .given .1)) ∙ c .before .before .before .search .ensures)
+
+number-of-requires : tie.Need-number-of-requires
+number-of-requires c κs = c .plan-of .ensures .sound
+
+returns : tie.Need-returns
+returns c = layer-refused _ _ (sym (ap foundOutcome (c .before .q .given .1)) ∙ c .before .before .before .search .ensures) _
+
+returns-2 : tie.Need-returns-2
+returns-2 c =
+    let e = sym (ap foundOutcome (c .before .before .before .found .given .1)) ∙ c .before .before .before .before .before .search .ensures in
+    layer-given _ _ e _ (c .before .plan-of .ensures) _ _ (c .number-of .ensures)
+
+pub get-layer-spec : {M : Type 1} → statement M
+get-layer-spec =
+    tie.close
+    (tie.spec
+    search-requires
+    enum-known-q
+    enum-known-found
+    plan-of-requires
+    number-of-requires
+    returns
+    returns-2)
