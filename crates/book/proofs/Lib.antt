@@ -1,0 +1,6 @@
+pub mod Numbers
+pub mod Pairs
+pub mod Cover
+pub mod Lookup
+pub mod Written
+pub mod Examples

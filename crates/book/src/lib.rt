@@ -1,0 +1,127 @@
+// Looking a key's name up in a book (document 01, "Lamps and book").
+//
+// Holds the reading of a book: how many keys it has, where a key's name stands, and the name as a part of the
+// caller's bytes. No public function has a `requires`: each is answered for any bytes whatever, damaged ones too,
+// with questions 11, 12 and 13, and no part outside the book's text is ever handed out. In `writer`, its numbers' store.
+// specs/: the format and its questions (Books); that the names of an accepted book are its text, and that a written
+// book is read back (Theorems). Nothing is assumed.
+pub mod writer;
+
+use answer::Refusal;
+ghost use mathlib.Core.Path.{_≡_};
+ghost use Prim.Native.Nat.{_+_, _<_, _≤_};
+ghost use lib.ListN.{length};
+ghost use Rattle.book.specs.Books.{value32, PairsHeld, textCovered, keysOutcome, findOutcome, nameIn};
+ghost use Rattle.book.specs.Answers.{keysAnswered, findAnswered};
+
+// Where a name stands: its first byte, counted from the book's start, and how many bytes it has.
+pub struct Place {
+    pub offset: u32,
+    pub length: u32,
+}
+
+// How many keys a book has, or a refusal.
+pub enum KeysAnswer {
+    Given(u32),
+    Refused(Refusal),
+}
+
+// Where a key's name stands, or a refusal.
+pub enum FindAnswer {
+    Found(Place),
+    Refused(Refusal),
+}
+
+fn wide(byte: u8) -> u32
+    ensures { λ r. ⌜ (r ≡ byte) × (r < 256) ⌝ }
+{
+    byte as u32
+}
+
+// Four bytes, least first, as a number.
+fn number_at(book: &[u8], at: usize) -> u32
+    requires { ⌜ at + 4 ≤ length (now book) ⌝ }
+    ensures { λ r. ⌜ r ≡ value32 (now (book .entry)) at ⌝ }
+{
+    let a = wide(book[at]);
+    let b = wide(book[at + 1]);
+    let c = wide(book[at + 2]);
+    let d = wide(book[at + 3]);
+    a + 256 * b + 65536 * c + 16777216 * d
+}
+
+// Question 12. A usize has 64 bits, so the sum of an offset and a length does not wrap.
+fn covers(book: &[u8], count: u32) -> bool
+    requires { ⌜ PairsHeld (now book) count ⌝ }
+    ensures { λ r. ⌜ r ≡ textCovered (now (book .entry)) ⌝ }
+{
+    let mut due = 4 + 8 * (count as usize);
+    let mut key: u32 = 0;
+    while key < count {
+        let pair = 4 + 8 * (key as usize);
+        let offset = number_at(book, pair) as usize;
+        let length = number_at(book, pair + 4) as usize;
+        if offset != due {
+            return false;
+        }
+        if length < 1 {
+            return false;
+        }
+        due = offset + length;
+        key += 1;
+    }
+    due == book.len()
+}
+
+// How many keys the book has: 11, 12.
+pub fn count(book: &[u8]) -> KeysAnswer
+    ensures { λ r. ⌜ keysAnswered r ≡ keysOutcome (now (book .entry)) ⌝ }
+{
+    if book.len() < 4 {
+        return KeysAnswer::Refused(Refusal::BookPairs);
+    }
+    let keys = number_at(book, 0);
+    if keys < 1 {
+        return KeysAnswer::Refused(Refusal::BookPairs);
+    }
+    if book.len() < 4 + 8 * (keys as usize) {
+        return KeysAnswer::Refused(Refusal::BookPairs);
+    }
+    if covers(book, keys) {
+        return KeysAnswer::Given(keys);
+    }
+    KeysAnswer::Refused(Refusal::BookCover)
+}
+
+// Where the key's name stands in the book: 11, 12, 13.
+pub fn find(book: &[u8], key: u32) -> FindAnswer
+    ensures { λ r. ⌜ findAnswered r ≡ findOutcome (now (book .entry)) key ⌝ }
+{
+    match count(book) {
+        KeysAnswer::Given(keys) => {
+            if keys <= key {
+                return FindAnswer::Refused(Refusal::BookKey);
+            }
+            let pair = 4 + 8 * (key as usize);
+            let offset = number_at(book, pair);
+            let length = number_at(book, pair + 4);
+            FindAnswer::Found(Place { offset, length })
+        }
+        KeysAnswer::Refused(question) => FindAnswer::Refused(question),
+    }
+}
+
+// The key's name, as a part of the caller's book: 11, 12, 13.
+// A refusal hands back the empty part, which is never a name, since lengths are at least 1; `find` tells its number.
+pub fn name(book: &[u8], key: u32) -> &[u8]
+    ensures { λ r. ⌜ now r ≡ nameIn (now (book .entry)) key ⌝ }
+{
+    match find(book, key) {
+        FindAnswer::Found(place) => {
+            let start = place.offset as usize;
+            let end = start + place.length as usize;
+            &book[start..end]
+        }
+        FindAnswer::Refused(_) => &book[0..0],
+    }
+}
