@@ -1,9 +1,9 @@
 -- Laws of joined texts: one turn of a loop that writes them, their lengths, and where each text stands.
 use Prim.Native.Nat.{ℕ, zero, suc, _+_, _-_, _*_, _<_, _≤_}
-use native.Mathlib.Nat.{add-zero, add-suc, le-refl, add-sub-of-le, mul-suc, mul-zero}
+use native.Mathlib.Nat.{add-zero, add-suc, le-refl, add-sub-of-le, mul-suc, mul-zero, zero-mul, suc-mul}
 use native.Mathlib.Numerals.{add-one}
 use native.Mathlib.Omega.{arith}
-use mathlib.Core.Path.{_≡_, refl, sym, ap, _∙_}
+use mathlib.Core.Path.{_≡_, refl, sym, ap, ap₂, _∙_}
 use mathlib.Core.List.{List, [], _∷_, _++_, append-nil, append-assoc}
 use lib.ListN.{length, length-append, take, drop}
 use lib.Seq.{drop-at, take-append-seam}
@@ -30,6 +30,37 @@ length-joined-add f k (suc d) =
 -- fewer are no longer
 pub length-joined-le : (f : ℕ → List ℕ) (k n : ℕ) → k ≤ n → length (joined f k) ≤ length (joined f n)
 length-joined-le f k n h = rw (← (add-sub-of-le h)) (length-joined-add f k (n - k))
+
+-- the same texts
+pub joined-same : (f g : ℕ → List ℕ) (n : ℕ) → ((k : ℕ) → k < n → f k ≡ g k) → joined f n ≡ joined g n
+unfolding joined
+joined-same f g zero h = refl
+joined-same f g (suc n) h =
+    ap₂ (λ (u v : List ℕ). u ++ v) (joined-same f g n (λ k l. h k (omega arith))) (h n (omega arith))
+
+-- as many again
+pub joined-add : (f : ℕ → List ℕ) (a b : ℕ) → joined f (a + b) ≡ joined f a ++ joined (λ c. f (a + c)) b
+unfolding joined
+joined-add f a zero = ap (joined f) (add-zero a) ∙ sym (append-nil (joined f a))
+joined-add f a (suc b) =
+    ap (joined f) (add-suc a b)
+    ∙ ap (λ (l : List ℕ). l ++ f (a + b)) (joined-add f a b)
+    ∙ append-assoc (joined f a) (joined (λ c. f (a + c)) b) (f (a + b))
+
+-- in blocks of n
+pub joined-blocks : (f : ℕ → List ℕ) (n count : ℕ) → joined (λ q. joined (λ c. f (q * n + c)) n) count ≡ joined f (count * n)
+unfolding joined
+joined-blocks f n zero = ap (joined f) (sym (zero-mul n))
+joined-blocks f n (suc count) =
+    ap (λ (l : List ℕ). l ++ joined (λ c. f (count * n + c)) n) (joined-blocks f n count)
+    ∙ sym (ap (joined f) (suc-mul count n) ∙ joined-add f (count * n) n)
+
+-- the first of them, and those behind it
+pub joined-first : (f : ℕ → List ℕ) (n : ℕ) → joined f (suc n) ≡ f 0 ++ joined (λ k. f (suc k)) n
+unfolding joined
+joined-first f zero = sym (append-nil (f 0))
+joined-first f (suc n) =
+    ap (λ (l : List ℕ). l ++ f (suc n)) (joined-first f n) ∙ append-assoc (f 0) (joined (λ k. f (suc k)) n) (f (suc n))
 
 -- texts of one length
 pub length-joined-each : (f : ℕ → List ℕ) (w : ℕ) → ((k : ℕ) → length (f k) ≡ w) → (n : ℕ) → length (joined f n) ≡ w * n

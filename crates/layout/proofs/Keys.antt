@@ -38,22 +38,22 @@ first-at n (x ∷ ms) m e = by (eqb (countOf x) n) refl e (first-at n ms m)
     by false t q ih = let r = ih q in (suc (r .0), r .1, r .2)
 
 -- a pattern of the walk with more than two steps is a child, so both its steps are above 0
-steps-above : (P G k : ℕ) (m : Mos) → getElem? (children (genesis P G)) k ≡ some m → 2 < countOf m → (0 < primary m) × (0 < secondary m)
+pub steps-above : (P G k : ℕ) (m : Mos) → getElem? (children (genesis P G)) k ≡ some m → 2 < countOf m → (0 < primary m) × (0 < secondary m)
 steps-above P G k m e h =
     ⊎-elim (λ (s : countOf m ≤ 2). absurd (let z : ⊥ = omega arith in z)) (λ (s : (0 < primary m) × (0 < secondary m)). s)
     (walk-keeps (λ x. (countOf x ≤ 2) ⊎ ((0 < primary x) × (0 < secondary x))) (λ x c f h. inr (child-steps (child-at f))) k (genesis P G) m e
     (inl (le-refl 2)))
 
-walk-size : (P G k : ℕ) (m : Mos) → 0 < P → getElem? (children (genesis P G)) k ≡ some m → sizeOf m ≡ P
+pub walk-size : (P G k : ℕ) (m : Mos) → 0 < P → getElem? (children (genesis P G)) k ≡ some m → sizeOf m ≡ P
 walk-size P G k m h e =
     walk-keeps (λ x. sizeOf x ≡ P) (λ x c f s. child-keeps-size (child-at f) ∙ s) k (genesis P G) m e (genesis-size P G h)
 
-walk-divisor : (P G k : ℕ) (m : Mos) → getElem? (children (genesis P G)) k ≡ some m → gcd (primary m) (secondary m) ≡ gcd (G % P) (P - G % P)
+pub walk-divisor : (P G k : ℕ) (m : Mos) → getElem? (children (genesis P G)) k ≡ some m → gcd (primary m) (secondary m) ≡ gcd (G % P) (P - G % P)
 walk-divisor P G k m e =
     walk-keeps (λ x. gcd (primary x) (secondary x) ≡ gcd (G % P) (P - G % P)) (λ x c f s. child-keeps .divisor x c f ∙ s) k (genesis P G) m e refl
 
 -- the genesis' steps have the greatest common divisor of period and generator
-genesis-divisor : (P G : ℕ) → 0 < P → gcd (G % P) (P - G % P) ≡ gcd P G
+pub genesis-divisor : (P G : ℕ) → 0 < P → gcd (G % P) (P - G % P) ≡ gcd P G
 genesis-divisor P G h =
     let below = mod-lt G h in
     let x = gcd-is (G % P) (P - G % P) in

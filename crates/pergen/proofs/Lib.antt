@@ -5,4 +5,5 @@ pub mod Indices
 pub mod DegreePlaces
 pub mod Differences
 pub mod Calls
+pub mod CarriedWalk
 pub mod Examples

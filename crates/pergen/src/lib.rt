@@ -8,6 +8,7 @@
 pub mod coordinates;
 pub mod euclid;
 pub mod places;
+pub mod stepping;
 
 use answer::NumberAnswer;
 use answer::Refusal;
