@@ -1,0 +1,5 @@
+pub mod Spelled
+pub mod Spellers
+pub mod Due
+pub mod BookCalls
+pub mod Theorems

@@ -1,0 +1,62 @@
+-- The theorems on the books of all layouts: the speller's bounds, carried over to the layout's names.
+use Prim.Native.Nat.{ℕ, zero, suc, _+_, _*_, _≤_, _<_}
+use native.Mathlib.Omega.{arith}
+use native.Mathlib.Numerals.{add-one}
+use mathlib.Core.Path.{_≡_, refl, sym, ap, _∙_, subst}
+use mathlib.Core.List.{List}
+use lib.ListN.{length}
+use Rattle.answer.specs.Writing.{joined}
+use Rattle.answer.proofs.Joined.{joined-none, length-joined-more, length-joined-le}
+use Rattle.book.specs.Books.{bookText}
+use Rattle.book.specs.Theorems.{Writable}
+use Rattle.book.proofs.Written.{length-book, books-read-back}
+use Rattle.genchain.specs.Chains.{chainOf, rowOf}
+use Rattle.layout.specs.Layouts.{Layout, Accepted}
+use Rattle.layout.specs.Names.{nameIn}
+use Rattle.layout.proofs.Finding.{accepted}
+use Rattle.pergen.specs.Parts.{solvedOf}
+use Rattle.layout_book.specs.LayoutBooks.{bookIn}
+use Rattle.layout_book.specs.Parts.{nameOf}
+use Rattle.layout_book.specs.Theorems.{OffsetsFit, WrittenBookIsRead}
+use Rattle.layout_book.proofs.Spelled.{name-short, name-some}
+use Rattle.layout_book.proofs.Spellers.{speller-of}
+
+short-text : (f : ℕ → List ℕ) → ((k : ℕ) → length (f k) ≤ 39325) → (n : ℕ) → length (joined f n) ≤ 39325 * n
+short-text f h zero = omega (arith, ap length (joined-none f))
+short-text f h (suc n) =
+    rw (← (add-one n)) (omega (arith, length-joined-more f n, h n, short-text f h n))
+
+module _ (code octave tritave : ℕ) (l : Layout) (e : Accepted code octave tritave l) (small : octave ≤ 65535) where
+  abbrev name : ℕ → List ℕ
+  name = nameIn code octave l
+
+  writable : Writable name octave
+  writable =
+      let w = speller-of code octave tritave l e (rowOf (chainOf code)) (solvedOf octave (l .generator)) refl refl small in
+      let short : (k : ℕ) → length (name k) ≤ 39325 = λ k. subst (λ (t : List ℕ). length t ≤ 39325) (w .names k) (name-short _ (w .sound) k) in
+      record {
+        some = accepted code octave tritave l e .positive;
+        not-empty = λ k h. subst (λ (t : List ℕ). 1 ≤ length t) (w .names k) (name-some _ (w .sound) k);
+        short = omega (arith, short-text name short octave);
+      }
+
+  book-length-is : length (bookIn code octave l) ≡ 4 + 8 * octave + length (joined name octave)
+  unfolding bookIn
+  book-length-is = length-book name octave
+
+pub offsets-fit : OffsetsFit
+offsets-fit code octave tritave l e small =
+    record {
+      whole = omega (arith, book-length-is code octave tritave l e small, writable code octave tritave l e small .short);
+      ends = λ k h. omega (
+        arith,
+        book-length-is code octave tritave l e small,
+        length-joined-more (nameIn code octave l) k,
+        length-joined-le (nameIn code octave l) (k + 1) octave (omega arith),
+      );
+    }
+
+pub written-book-is-read : WrittenBookIsRead
+unfolding bookIn
+written-book-is-read code octave tritave l e small =
+    books-read-back (nameIn code octave l) octave (writable code octave tritave l e small)

@@ -1,0 +1,3 @@
+pub mod LayoutBooks
+pub mod Parts
+pub mod Theorems

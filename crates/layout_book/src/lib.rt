@@ -1,0 +1,56 @@
+// Writing a layout's book of names (document 01, "Lamps and book"; added by us).
+//
+// Holds how long the book of an octave's key names is, and its writing into a lent slice; the crate `book` reads it.
+// specs/: LayoutBooks defines the book and what each call answers, Theorems says that every offset and length fits 32 bits
+// and that a written book is read back, name for name.
+// `parts` carries degree and cycle from key to key. Every public function here answers every input. Nothing is assumed.
+pub mod parts;
+
+use answer::CountAnswer;
+use answer::Refusal;
+use genchain::rows;
+use layout::IsomorphicLayout;
+use layout::parts::FoundAnswer;
+ghost use mathlib.Core.Path.{_≡_};
+ghost use lib.ListN.{length};
+ghost use Rattle.answer.specs.Lent.{counted, Filled};
+ghost use Rattle.answer.specs.Refusals.{countOutcome};
+ghost use Rattle.layout.specs.Answers.{inRoom};
+ghost use Rattle.layout_book.specs.LayoutBooks.{getBook};
+
+// How many bytes the book of a layout's key names has (1, 2, 3, 4).
+pub fn book_len(layout: IsomorphicLayout) -> CountAnswer
+    ensures { λ r. ⌜ countOutcome r ≡ counted (getBook layout) ⌝ }
+{
+    let code = layout.genchain;
+    if 6 <= code {
+        return CountAnswer::Refused(Refusal::Chain);
+    }
+    let row = rows::row(code);
+    match layout::parts::find(layout, row.num_letters) {
+        FoundAnswer::Refused(q) => CountAnswer::Refused(q),
+        FoundAnswer::Given(found) => CountAnswer::Given(parts::book_length(
+            parts::speller_of(row, layout, found),
+            layout.octave,
+        )),
+    }
+}
+
+// The book of the names of an octave's keys, which `book` looks a key up in (1, 2, 3, 4, 10).
+pub fn write_book(layout: IsomorphicLayout, out: &mut [u8]) -> CountAnswer
+    ensures { λ r. ⌜ Filled (inRoom (length (now (out .entry))) (getBook layout)) (countOutcome r) (now (out .entry)) (now (out .exit)) ⌝ }
+{
+    let code = layout.genchain;
+    if 6 <= code {
+        return CountAnswer::Refused(Refusal::Chain);
+    }
+    let row = rows::row(code);
+    match layout::parts::find(layout, row.num_letters) {
+        FoundAnswer::Refused(q) => CountAnswer::Refused(q),
+        FoundAnswer::Given(found) => parts::write_names(
+            parts::speller_of(row, layout, found),
+            layout.octave,
+            out,
+        ),
+    }
+}
