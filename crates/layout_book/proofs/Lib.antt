@@ -3,3 +3,4 @@ pub mod Spellers
 pub mod Due
 pub mod BookCalls
 pub mod Theorems
+pub mod Examples
