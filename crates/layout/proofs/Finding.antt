@@ -8,7 +8,8 @@ use native.Mathlib.Nat.{mod-le, pos-of-ne-zero}
 use native.Mathlib.Omega.{arith}
 use lib.Dec.{ltb, leb}
 use borrow.Author.Tests.{ltb-true, leb-true}
-use Rattle.answer.specs.Outcome.{Outcome, given, refused, ask, andThen}
+use Rattle.answer.specs.Outcome.{Outcome, given, refused, andThen}
+use Rattle.answer.proofs.Asked.{given-same, asked-yes, asked-rest}
 use Rattle.genchain.specs.declared.rows.ChainRow.{ChainRow}
 use Rattle.genchain.specs.Chains.{chainOf, rowOf, TableRow}
 use Rattle.genchain.proofs.TableRows.{row-good, row-count, row-start}
@@ -20,13 +21,6 @@ use Rattle.layout.specs.Layouts.{Layout, lettersOf, withPattern, layoutO
 
 -- ---- what a given generator tells
 
-given-is : {A : Type 0} {x y : A} → _≡_ {A = Outcome A} (given x) (given y) → x ≡ y
-given-is e = cc
-
-ask-given : {A : Type 0} (n : ℕ) (b : Bool) (rest : Outcome A) (x : A) → ask n b rest ≡ given x → (b ≡ true) × (rest ≡ given x)
-ask-given n true rest x e = (refl, e)
-ask-given n false rest x e = absurd (let z : _≡_ {A = ℕ} 0 1 = cc in omega arith)
-
 pub record Generated (code octave : ℕ) : Type 0 where
   pub chain : code < 6
   pub positive : 0 < octave
@@ -34,9 +28,10 @@ pub record Generated (code octave : ℕ) : Type 0 where
 pub generated : (code octave tritave G : ℕ) → generatorOutcome code octave tritave ≡ given G → Generated code octave
 unfolding generatorOutcome
 generated code octave tritave G e =
-    let one = ask-given 1 (ltb code 6) _ G e in
-    let two = ask-given 2 (leb 1 octave) _ G (one .1) in
-    record { chain = ltb-true code 6 (one .0); positive = leb-true 1 octave (two .0) }
+    record {
+      chain = ltb-true code 6 (asked-yes 1 (ltb code 6) _ e);
+      positive = leb-true 1 octave (asked-yes 2 (leb 1 octave) _ (asked-rest 1 (ltb code 6) _ e));
+    }
 
 -- ---- what the search answers
 
@@ -72,7 +67,7 @@ accepted code octave tritave l e = by (generatorOutcome code octave tritave) ref
     of : (G : ℕ) (o : Option Mos) → generatorOutcome code octave tritave ≡ given G → walked G ≡ o → withPattern G o ≡ given l → Parts code octave tritave l
     of G none g w q = absurd (let z : _≡_ {A = ℕ} 0 1 = cc in omega arith)
     of G (some m) g w q =
-        let is : _≡_ {A = Layout} (record { generator = G; pattern = m }) l = given-is q in
+        let is : _≡_ {A = Layout} (record { generator = G; pattern = m }) l = given-same q in
         let r = generated code octave tritave G g in
         record {
           chain = r .chain;

@@ -6,6 +6,7 @@ use mathlib.Core.List.{List, List·Memᴰ}
 use native.Mathlib.Omega.{arith}
 use lib.IntN.{ℤ}
 use Rattle.answer.specs.Outcome.{Outcome, given, andThen}
+use Rattle.answer.proofs.Asked.{given-same}
 use Rattle.genchain.specs.Chains.{chainOf}
 use Rattle.genchain.specs.Theorems.{GoodChain}
 use Rattle.genchain.proofs.GoodChains.{chains-are-good}
@@ -110,9 +111,6 @@ names-sound-their-key code P tritave l e i x m =
 
 -- ---- names tell keys apart
 
-given-is : {x y : List ℕ} → _≡_ {A = Outcome (List ℕ)} (given x) (given y) → x ≡ y
-given-is e = cc
-
 -- one place and as many stars: one key
 same-sound : (code P : ℕ) (l : Layout) (x y : Spelling) → SameSpelling x y → keyOf code P l x ≡ keyOf code P l y
 unfolding keyOf soundedKey
@@ -138,7 +136,7 @@ names-tell-keys-apart code P tritave l e i j = (there, back)
 
     there : noteName code P tritave i ≡ noteName code P tritave j → i % P ≡ j % P
     there q =
-        let names = given-is (sym (name-given code P tritave l a i e) ∙ q ∙ name-given code P tritave l a j e) in
+        let names = given-same (sym (name-given code P tritave l a i e) ∙ q ∙ name-given code P tritave l a j e) in
         let same = equal-names-have-one-first-spelling code (a .chain) (sharpFirst l) (accidentalsIn code P l i) (accidentalsIn code P l j)
         (lettered code P tritave l a i) (lettered code P tritave l a j) names in
         sym (first-sound code P tritave l a i .sounds-it)
