@@ -1,20 +1,23 @@
 -- Every key's number is below T, and T at most P: the layers of one cycle are no more than its keys. Each number is met, by the key whose
 -- degree leads to the layer's first place on the chain.
-use Prim.Native.Nat.{ℕ, zero, suc, _+_, _*_, _-_, _/_, _%_, _≤_, _<_}
+use Prim.Native.Nat.{ℕ, zero, suc, _+_, _*_, _-_, _/_, _%_, _≤_, _<_, _∣_}
 use mathlib.Core.Path.{_≡_, refl, sym, ap, ap₂, subst, _∙_}
 use mathlib.Core.Bool.{Bool, true, false}
 use mathlib.Core.List.{List, [], _∷_, _++_, reverse}
-use native.Mathlib.Nat.{mod-lt, mod-eq-of-lt, add-mod-mod, add-mod-right, add-zero, zero-div, zero-mod, zero-add, mul-zero, zero-mul, one-mul, div-add-mod', div-lt-iff-lt-mul, mul-le-mul-right, le-div-iff-mul-le, le-of-dvd}
+use native.Mathlib.Nat.{mod-lt, mod-eq-of-lt, add-mod-mod, add-mod-right, add-zero, zero-div, zero-mod, zero-add, mul-zero, zero-mul, one-mul, div-add-mod', div-lt-iff-lt-mul, mul-le-mul-right, le-div-iff-mul-le, le-of-dvd, dvd-refl, dvd-antisymm, add-mul, mul-assoc, mul-comm, mul-div-cancel, add-mul-div-right, add-mul-mod-self-right, add-mul-mod-self-left}
 use native.Mathlib.Omega.{arith}
 use lib.ListN.{length, getD, replicate, length-replicate, getD-replicate, List·getD-append}
 use Rattle.answer.proofs.Joined.{length-joined-each}
-use Rattle.math.proofs.Gcd.{gcd-or-one-positive, gcd-or-one-left, gcd-or-one-right}
+use lib.Dec.{eqb}
+use borrow.Author.Tests.{eqb-true}
+use Rattle.math.specs.Gcd.{gcdOrOne}
+use Rattle.math.proofs.Gcd.{gcd-is, gcd-positive, gcd-or-one, gcd-or-one-positive, gcd-or-one-left, gcd-or-one-right}
 use Rattle.genchain.specs.Chains.{chainOf}
 use Rattle.mos.specs.declared.Mos.{Mos}
-use Rattle.mos.specs.Patterns.{pick, primaries, secondaries, primary, secondary, countOf, cyclesOf, reducedSizeOf}
+use Rattle.mos.specs.Patterns.{pick, primaries, secondaries, primary, secondary, countOf, sizeOf, cyclesOf, reducedSizeOf}
 use Rattle.pergen.specs.Pergen.{cycles, reduced, degree, cycle, inverse}
 use Rattle.pergen.proofs.Inverse.{period-is, cycles-positive, reduced-positive}
-use Rattle.pergen.proofs.Keys.{cycle-below}
+use Rattle.pergen.proofs.Keys.{cycle-below, degree-and-cycle-tell-keys-apart}
 use Rattle.pergen.proofs.CarriedWalk.{keyWith, key-with-below, key-with-cycle, key-with-degree}
 use Rattle.layers.specs.Layers.{holding, sharps, allSizes, dropEmpty, numbered, layerSizes, layersOf}
 use Rattle.layers.specs.Theorems.{sum}
@@ -25,7 +28,7 @@ use Rattle.layout.specs.Layouts.{Layout, lettersOf, Accepted}
 use Rattle.layout.proofs.Finding.{Parts, accepted}
 use Rattle.layout.proofs.PatternShape.{PatternShape, pattern-shape}
 use Rattle.layout_layers.specs.KeyLayers.{equalized, entryCount, listedLayer, alternating, alternateLayer, layerOf, layerNumber, keyLayers, layerCount, numberIn, layersIn, countIn}
-use Rattle.layout_layers.specs.Theorems.{CountsFit, NumbersAreBelow, KeyZeroIsNatural, EachNumberIsMet, EntriesAreCounted}
+use Rattle.layout_layers.specs.Theorems.{CountsFit, NumbersAreBelow, KeyZeroIsNatural, EachNumberIsMet, EntriesAreCounted, NumbersRepeat}
 use Rattle.layout_layers.proofs.RunPlaces.{numbered-below, numbered-met}
 use Rattle.layout_layers.proofs.PlanLaws.{alternating-below, alternating-same, pick-below, pick-most, block-fits}
 
@@ -39,6 +42,18 @@ unfolding layerSizes
 sizes-few m =
     let zs = allSizes (primaries m) (secondaries m) (primary m / cyclesOf m) (secondary m / cyclesOf m) in
     omega (arith, few zs, sum-drop zs, layer-sizes-sum m)
+
+-- two octaves on, the parity is the same
+alternating-again : (N s h q : ℕ) → 0 < N → alternating N s h (q + 2 * N) ≡ alternating N s h q
+unfolding alternating
+alternating-again N s h q some =
+    let on : (q + 2 * N + h) * s ≡ (q + h) * s + 2 * s * N
+    = ap (λ (k : ℕ). k * s) (let e : q + 2 * N + h ≡ q + h + 2 * N = omega arith in e)
+    ∙ add-mul (q + h) (2 * N) s
+    ∙ ap (λ (k : ℕ). (q + h) * s + k) (mul-assoc 2 N s ∙ ap (λ (k : ℕ). 2 * k) (mul-comm N s) ∙ sym (mul-assoc 2 s N)) in
+    ap (λ (k : ℕ). pick (eqb (h * s / N % 2) (k % 2)) 0 1)
+    (ap (λ (k : ℕ). k / N) on ∙ add-mul-div-right ((q + h) * s) (2 * s) some)
+    ∙ ap (λ (k : ℕ). pick (eqb (h * s / N % 2) k) 0 1) (add-mul-mod-self-left ((q + h) * s / N) 2 s)
 
 module _ (code P tritave : ℕ) (l : Layout) (ok : Accepted code P tritave l) where
   abbrev G : ℕ
@@ -156,6 +171,55 @@ module _ (code P tritave : ℕ) (l : Layout) (ok : Accepted code P tritave l) wh
       = ap (λ (b : Bool). pick b (alternateLayer P G (lettersOf code) (chainOf code .start) (secondaries m) i) (listedLayer P G (chainOf code .start) m i)) t ∙ alternate-zero i e in
       ap (λ (k : ℕ). k * cycles P G + cycle P G i) a ∙ ap (λ (k : ℕ). k + cycle P G i) (zero-mul (cycles P G)) ∙ zero-add (cycle P G i)
 
+  -- ---- the entries repeat
+
+  -- equal steps are as large as the number of cycles, so there are as many keys in a cycle as letters
+  equal-steps : equalized m ≡ true → reduced P G ≡ lettersOf code
+  unfolding reducedSizeOf cyclesOf sizeOf
+  equal-steps t =
+      let p = primary m in
+      let same : p ≡ secondary m = eqb-true p (secondary m) t in
+      let g = gcd-is p (secondary m) in
+      let whole : gcdOrOne p (secondary m) ≡ p
+      = gcd-or-one p (secondary m) (gcd-positive p (secondary m) (shape .primary-above))
+      ∙ dvd-antisymm (g .left) (g .greatest p (dvd-refl p) (subst (λ (k : ℕ). p ∣ k) same (dvd-refl p))) in
+      sym (shape .reduced-is)
+      ∙ ap₂ (λ (x y : ℕ). x / y) (ap (λ (k : ℕ). primaries m * p + secondaries m * k) (sym same) ∙ sym (add-mul (primaries m) (secondaries m) p)) whole
+      ∙ mul-div-cancel (countOf m) (shape .primary-above)
+      ∙ shape .letters
+
+  same-key : (i k : ℕ) → (i + k * P) % P ≡ i % P
+  same-key i k = add-mul-mod-self-right i k P
+
+  turns-on : (i : ℕ) → (i + 2 * P) / cycles P G ≡ i / cycles P G + 2 * reduced P G
+  turns-on i =
+      ap (λ (k : ℕ). (i + k) / cycles P G) (ap (λ (k : ℕ). 2 * k) (period-is P G (parts .positive)) ∙ sym (mul-assoc 2 (reduced P G) (cycles P G)))
+      ∙ add-mul-div-right i (2 * reduced P G) (cycles-positive P G (parts .positive))
+
+  alternate-again : equalized m ≡ true → (i : ℕ)
+      → alternateLayer P G (lettersOf code) (chainOf code .start) (secondaries m) (i + 2 * P) ≡ alternateLayer P G (lettersOf code) (chainOf code .start) (secondaries m) i
+  unfolding alternateLayer
+  alternate-again t i =
+      ap (alternating (lettersOf code) (secondaries m) (G * chainOf code .start / cycles P G)) (turns-on i ∙ ap (λ (k : ℕ). i / cycles P G + 2 * k) (equal-steps t))
+      ∙ alternating-again (lettersOf code) (secondaries m) (G * chainOf code .start / cycles P G) (i / cycles P G) (omega (arith, shape .at-least-five))
+
+  again-by : (b : Bool) → equalized m ≡ b → (i : ℕ) → numberIn code P l (i + pick b (2 * P) P) ≡ numberIn code P l i
+  unfolding layerNumber layerOf listedLayer
+  again-by true t i =
+      let keys = degree-and-cycle-tell-keys-apart P G (parts .positive) (i + 2 * P) i .0 (same-key i 2) in
+      ap₂ (λ (x y : ℕ). x * cycles P G + y)
+      (ap (λ (b : Bool). pick b (alternateLayer P G (lettersOf code) (chainOf code .start) (secondaries m) (i + 2 * P)) (listedLayer P G (chainOf code .start) m (i + 2 * P))) t
+      ∙ alternate-again t i
+      ∙ ap (λ (b : Bool). pick b (alternateLayer P G (lettersOf code) (chainOf code .start) (secondaries m) i) (listedLayer P G (chainOf code .start) m i)) (sym t))
+      (keys .1)
+  again-by false t i =
+      let keys = degree-and-cycle-tell-keys-apart P G (parts .positive) (i + P) i .0 (add-mod-right i P) in
+      ap₂ (λ (x y : ℕ). x * cycles P G + y)
+      (ap (λ (b : Bool). pick b (alternateLayer P G (lettersOf code) (chainOf code .start) (secondaries m) (i + P)) (listedLayer P G (chainOf code .start) m (i + P))) t
+      ∙ ap (λ (d : ℕ). getD (layersOf m) ((chainOf code .start + d) % reduced P G) 0) (keys .0)
+      ∙ ap (λ (b : Bool). pick b (alternateLayer P G (lettersOf code) (chainOf code .start) (secondaries m) i) (listedLayer P G (chainOf code .start) m i)) (sym t))
+      (keys .1)
+
   -- ---- each number
 
   module _ (other : equalized m ≡ false) (j : ℕ) (h : j < countIn P l) where
@@ -229,3 +293,6 @@ key-zero-is-natural code P tritave l ok = zero-natural code P tritave l ok
 
 pub each-number-is-met : EachNumberIsMet
 each-number-is-met code P tritave l ok other j h = met code P tritave l ok other j h
+
+pub numbers-repeat : NumbersRepeat
+numbers-repeat code P tritave l ok key = again-by code P tritave l ok (equalized (l .pattern)) refl key

@@ -29,3 +29,9 @@ EachNumberIsMet =
 -- Theorem: there are as many entries as `entryCount` says.
 abbrev pub EntriesAreCounted : Type 0
 EntriesAreCounted = (code octave : ℕ) (l : Layout) → length (layersIn code octave l) ≡ entryCount octave (l .pattern)
+
+-- Theorem: the entries repeat, after P keys, or after 2 × P where the scale is equalized.
+abbrev pub NumbersRepeat : Type 0
+NumbersRepeat =
+    (code octave tritave : ℕ) (l : Layout) → Accepted code octave tritave l → (key : ℕ)
+    → numberIn code octave l (key + entryCount octave (l .pattern)) ≡ numberIn code octave l key
