@@ -12,7 +12,7 @@ use Rattle.layout_book.proofs.parts.put_book.Tie as tie
 put-u32-requires : tie.Need-put-u32-requires
 put-u32-requires c κs =
     let s = c .before .before in
-    omega (arith, s .pre .1, length-book (nameOf (s .args .speller)) (s .args .keys), length-le32 (s .args .keys))
+    simp length-le32 (omega (arith, s .pre .1, length-book (nameOf (s .args .speller)) (s .args .keys)))
 
 put-pairs-requires : tie.Need-put-pairs-requires
 put-pairs-requires c κs =
@@ -20,7 +20,7 @@ put-pairs-requires c κs =
     let s = u .before .before .before in
     let name = nameOf (s .args .speller) in
     let k = s .args .keys in
-    (s .pre .0, omega (arith, s .pre .1, length-book name k, length-le32 k, length-pairs name k k, wrote-length (u .put-u32 .ensures), u .put-u32 .ensures .end))
+    (s .pre .0, omega (arith, s .pre .1, length-book name k, length-pairs name k k, wrote-length (u .put-u32 .ensures), simp length-le32 at (u .put-u32 .ensures .end)))
 
 put-names-requires : tie.Need-put-names-requires
 put-names-requires c κs =
@@ -34,10 +34,9 @@ put-names-requires c κs =
         arith,
         s .pre .1,
         length-book name k,
-        length-le32 k,
         length-pairs name k k,
         wrote-length (u .put-u32 .ensures),
-        u .put-u32 .ensures .end,
+        simp length-le32 at (u .put-u32 .ensures .end),
         wrote-length (p .put-pairs .ensures),
         p .put-pairs .ensures .end,
       ),

@@ -12,7 +12,9 @@ put-u32-requires : tie.Need-put-u32-requires
 put-u32-requires c κs = omega (arith, length-numbers (c .before .before .args .offset) (c .before .before .args .bytes), length-le32 (c .before .before .args .offset))
 
 put-u32-requires-2 : tie.Need-put-u32-requires-2
-put-u32-requires-2 c κs = omega (arith, length-numbers (c .before .before .before .before .before .before .args .offset) (c .before .before .before .before .before .before .args .bytes), length-le32 (c .before .before .before .before .before .before .args .offset), length-le32 (c .before .before .before .before .before .before .args .bytes))
+put-u32-requires-2 c κs =
+    let s = c .before .before .before .before .before .before in
+    simp length-le32 (omega (arith, length-numbers (s .args .offset) (s .args .bytes), length-le32 (s .args .offset)))
 
 same-length : tie.Need-same-length
 same-length c = search needs
