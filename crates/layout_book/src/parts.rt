@@ -71,7 +71,7 @@ fn cycle_at(num_cycles: u16, cycle: u16) -> Cycle
 }
 
 // The plan of the name of the key where the walk stands.
-fn plan_at(speller: Speller, step: Step) -> NamePlan
+pub fn plan_at(speller: Speller, step: Step) -> NamePlan
     requires { ⌜ Sound speller × OnWalk speller step ⌝ }
     ensures { λ r. ⌜ Planned (lettersIn (speller .row)) (speller .«sharp_first») (spelledAt speller step) r ⌝ }
 {

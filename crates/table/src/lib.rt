@@ -1,0 +1,82 @@
+// The key table: a line for each key of an octave, with its number, name and lamp code (document 01, "Lamps and book").
+//
+// Holds the table of a layout, and the whole output for a line of input, which a program above only reads and writes.
+// `parts` holds what tables are written by. Every entry point answers every input; a refusal changes no byte that was lent.
+// specs/: Tables defines, Examples states what is printed for some lines. Nothing is assumed.
+pub mod parts;
+
+use answer::CountAnswer;
+use answer::Refusal;
+use genchain::rows;
+use layout::IsomorphicLayout;
+use layout::parts::FoundAnswer;
+use line::LineAnswer;
+ghost use mathlib.Core.Path.{_≡_};
+ghost use lib.ListN.{length};
+ghost use Rattle.answer.specs.Lent.{heldIn, counted, Filled};
+ghost use Rattle.answer.specs.Refusals.{countOutcome};
+ghost use Rattle.layout.specs.Answers.{inRoom};
+ghost use Rattle.table.specs.Tables.{getTable, output};
+
+// How many bytes a layout's table has (1, 2, 3, 4, 9).
+pub fn table_len(layout: IsomorphicLayout) -> CountAnswer
+    ensures { λ r. ⌜ countOutcome r ≡ counted (getTable layout) ⌝ }
+{
+    let code = layout.genchain;
+    if 6 <= code {
+        return CountAnswer::Refused(Refusal::Chain);
+    }
+    let row = rows::row(code);
+    match layout::parts::find(layout, row.num_letters) {
+        FoundAnswer::Refused(q) => CountAnswer::Refused(q),
+        FoundAnswer::Given(found) => {
+            let printer = parts::printer_of(row, layout, found);
+            if 202 < printer.total {
+                return CountAnswer::Refused(Refusal::LampLayer);
+            }
+            CountAnswer::Given(parts::table_length(printer, layout.octave))
+        }
+    }
+}
+
+// A layout's table: a line for each key of the octave (1, 2, 3, 4, 9, 10).
+pub fn write_table(layout: IsomorphicLayout, out: &mut [u8]) -> CountAnswer
+    ensures { λ r. ⌜ Filled (inRoom (length (now (out .entry))) (getTable layout)) (countOutcome r) (now (out .entry)) (now (out .exit)) ⌝ }
+{
+    let code = layout.genchain;
+    if 6 <= code {
+        return CountAnswer::Refused(Refusal::Chain);
+    }
+    let row = rows::row(code);
+    match layout::parts::find(layout, row.num_letters) {
+        FoundAnswer::Refused(q) => CountAnswer::Refused(q),
+        FoundAnswer::Given(found) => {
+            let printer = parts::printer_of(row, layout, found);
+            if 202 < printer.total {
+                return CountAnswer::Refused(Refusal::LampLayer);
+            }
+            parts::write_lines(printer, layout.octave, out)
+        }
+    }
+}
+
+// What the key table program prints for a line: the table of the layout that it asks for, or a refusal's number (14, 1, 2, 3, 4, 9)
+// on a line of its own. Only a slice that does not hold the whole output is refused (10).
+pub fn respond(line: &[u8], out: &mut [u8]) -> CountAnswer
+    ensures { λ r. ⌜ Filled (heldIn (length (now (out .entry))) (output (now (line .entry)))) (countOutcome r) (now (out .entry)) (now (out .exit)) ⌝ }
+{
+    match line::parse(line) {
+        LineAnswer::Refused(q) => parts::write_refusal(q.number() as u16, out),
+        LineAnswer::Given(asked) => {
+            let layout = IsomorphicLayout {
+                genchain: asked.genchain,
+                octave: asked.octave,
+                tritave: asked.tritave,
+            };
+            match table_len(layout) {
+                CountAnswer::Refused(q) => parts::write_refusal(q.number() as u16, out),
+                CountAnswer::Given(_) => write_table(layout, out),
+            }
+        }
+    }
+}
