@@ -3,3 +3,4 @@ pub mod Answers
 pub mod Parts
 pub mod Theorems
 pub mod Examples
+pub mod BenchExamples

@@ -1,79 +1,62 @@
--- Document 01's bench examples that are to be proved, as far as they speak of patterns, refusals, names, scale names, layer sizes
--- and free formats: one list of data, and one theorem that each holds.
+-- Worked examples beside document 01's marked ones, and one theorem that the definitions give them. (Those are in `lamps`, with the strips.)
 use Prim.Native.Nat.{ℕ}
-use mathlib.Core.List.{List, [], _∷_}
+use mathlib.Core.List.{List, [], _∷_, map}
 use mathlib.Core.Path.{_≡_}
-use Rattle.answer.specs.Outcome.{Outcome, given, refused, andThen}
-use Rattle.layers.specs.Layers.{layerSizes}
+use Rattle.answer.specs.Outcome.{Outcome, given, refused}
 use Rattle.mos.specs.declared.Mos.{Mos}
 use Rattle.mos.specs.Patterns.{mos}
-use Rattle.pergen.specs.declared.Accidentals.{Accidentals}
-use Rattle.pergen.specs.Answers as Pergen
-use Rattle.pergen.specs.Examples.{pergen, format}
-use Rattle.layout.specs.Answers.{getMos, getScaleName}
-use Rattle.layout.specs.Names.{noteName}
+use Rattle.layout.specs.Answers.{getMos, getScaleName, getNoteName}
 use Rattle.layout.specs.declared.IsomorphicLayout.{IsomorphicLayout}
-
-pub data Example : Type 0 where
-  -- the pattern of a layout, or its refusal: chain code, octave, tritave
-  pattern : (code octave tritave : ℕ) → Outcome Mos → Example
-  -- its layer sizes
-  sizes : (code octave tritave : ℕ) → List ℕ → Example
-  -- its scale name
-  scale : (code octave tritave : ℕ) → List ℕ → Example
-  -- the name of one of its keys
-  name : (code octave tritave key : ℕ) → List ℕ → Example
-  -- sharp and flat index of a key in a free format: period, generator, symbols, origin, key
-  indices : (P G N origin key : ℕ) → ℕ × ℕ → Example
-
-abbrev pub examples : List Example
-examples =
-    -- "code 1, 12, 19: counts 5 and 2, steps 2 and 1, diatonic."
-    pattern 1 12 19 (given (mos 5 2 2 1))
-    ∷ scale 1 12 19 (100 ∷ 105 ∷ 97 ∷ 116 ∷ 111 ∷ 110 ∷ 105 ∷ 99 ∷ [])
-    -- "code 1, 31, 49: steps 5 and 3; layer sizes 7 7 5 5 7."
-    ∷ pattern 1 31 49 (given (mos 5 2 5 3))
-    ∷ sizes 1 31 49 (7 ∷ 7 ∷ 5 ∷ 5 ∷ 7 ∷ [])
-    -- "code 1, 19, 30: layer sizes 7 5 2 5."
-    ∷ sizes 1 19 30 (7 ∷ 5 ∷ 2 ∷ 5 ∷ [])
-    -- "code 0, 12, 19: 4.", "code 3, 12, 19: 3.", "octave 0: 2."
-    ∷ pattern 0 12 19 (refused 4)
-    ∷ pattern 3 12 19 (refused 3)
-    ∷ pattern 1 0 19 (refused 2)
-    -- "code 1, 24, 38: keys 1, 2, 3 are D*, (D#/Eb), (D#/Eb)*."
-    ∷ name 1 24 38 1 (68 ∷ 42 ∷ [])
-    ∷ name 1 24 38 2 (40 ∷ 68 ∷ 35 ∷ 47 ∷ 69 ∷ 98 ∷ 41 ∷ [])
-    ∷ name 1 24 38 3 (40 ∷ 68 ∷ 35 ∷ 47 ∷ 69 ∷ 98 ∷ 41 ∷ 42 ∷ [])
-    -- "code 5, 19, 30: counts 4 and 3, steps 4 and 1."
-    ∷ pattern 5 19 30 (given (mos 4 3 4 1))
-    -- "period 5, generator 3, 7 symbols, origin 3: key 1 has indices 5 and 0; key 2 has 2 and 2."
-    ∷ indices 5 3 7 3 1 (5, 0)
-    ∷ indices 5 3 7 3 2 (2, 2)
-    -- "code 1, 7, 11: equalized"
-    ∷ scale 1 7 11 (101 ∷ 113 ∷ 117 ∷ 97 ∷ 108 ∷ 105 ∷ 122 ∷ 101 ∷ 100 ∷ [])
-    -- and beside document 01's: a chain code of 6, flats first where the primary step is the shorter, and β in two bytes
-    ∷ pattern 6 0 0 (refused 1)
-    ∷ name 1 16 25 1 (68 ∷ 43 ∷ 47 ∷ 69 ∷ 45 ∷ [])
-    ∷ name 0 16 25 12 (206 ∷ 178 ∷ [])
-    ∷ []
 
 abbrev pub layout : ℕ → ℕ → ℕ → IsomorphicLayout
 layout code octave tritave = record { genchain = code; octave = octave; tritave = tritave }
 
--- What an example says.
-abbrev pub Holds : Example → Type 0
-Holds (pattern code octave tritave m) = getMos (layout code octave tritave) ≡ m
-Holds (sizes code octave tritave s) = andThen (getMos (layout code octave tritave)) (λ (m : Mos). given (layerSizes m)) ≡ given s
-Holds (scale code octave tritave text) = getScaleName (layout code octave tritave) ≡ given text
-Holds (name code octave tritave key text) = noteName code octave tritave key ≡ given text
-Holds (indices P G N origin key both) =
-    andThen (Pergen.getAccidentals (pergen P G) (format N origin) key)
-    (λ (a : Accidentals). given (a .«sharp_index», a .«flat_index»)) ≡ given both
+pub record ScaleExample : Type 0 where
+  pub layout : IsomorphicLayout
+  pub pattern : Outcome Mos
+  pub scale : Outcome (List ℕ)
 
-abbrev pub All : List Example → Type 0
-All [] = Unit
-All (e ∷ es) = Holds e × All es
+-- "Code 3, 15, 24: pine. Code 0, 16, 25: armotonic."; antidiatonic, where the primary step is the shorter; a refusal by each question.
+abbrev pub scaleExamples : List ScaleExample
+scaleExamples =
+    record {
+      layout = layout 3 15 24;
+      pattern = given (mos 7 1 2 1);
+      scale = given (112 ∷ 105 ∷ 110 ∷ 101 ∷ []);
+    }
+    ∷ record {
+      layout = layout 0 16 25;
+      pattern = given (mos 7 2 2 1);
+      scale = given (97 ∷ 114 ∷ 109 ∷ 111 ∷ 116 ∷ 111 ∷ 110 ∷ 105 ∷ 99 ∷ []);
+    }
+    ∷ record {
+      layout = layout 1 16 25;
+      pattern = given (mos 5 2 2 3);
+      scale = given (97 ∷ 110 ∷ 116 ∷ 105 ∷ 100 ∷ 105 ∷ 97 ∷ 116 ∷ 111 ∷ 110 ∷ 105 ∷ 99 ∷ []);
+    }
+    ∷ record { layout = layout 6 0 0; pattern = refused 1; scale = refused 1 }
+    ∷ record { layout = layout 5 0 1; pattern = refused 2; scale = refused 2 }
+    ∷ record { layout = layout 1 12 11; pattern = refused 3; scale = refused 3 }
+    ∷ record { layout = layout 2 4 6; pattern = refused 4; scale = refused 4 }
+    ∷ []
 
--- Theorem: every example holds.
-abbrev pub ExamplesHold : Type 0
-ExamplesHold = All examples
+pub record NameExample : Type 0 where
+  pub layout : IsomorphicLayout
+  pub key : ℕ
+  pub name : Outcome (List ℕ)
+
+-- D+/E-, flats first where the primary step is the shorter; β in two bytes; parentheses and stars, in the next octave too.
+abbrev pub nameExamples : List NameExample
+nameExamples =
+    record { layout = layout 1 16 25; key = 1; name = given (68 ∷ 43 ∷ 47 ∷ 69 ∷ 45 ∷ []) }
+    ∷ record { layout = layout 0 16 25; key = 12; name = given (206 ∷ 178 ∷ []) }
+    ∷ record { layout = layout 1 24 38; key = 8; name = given (40 ∷ 70 ∷ 35 ∷ 47 ∷ 71 ∷ 98 ∷ 41 ∷ []) }
+    ∷ record { layout = layout 1 24 38; key = 33; name = given (40 ∷ 70 ∷ 35 ∷ 47 ∷ 71 ∷ 98 ∷ 41 ∷ 42 ∷ []) }
+    ∷ record { layout = layout 2 4 6; key = 0; name = refused 4 }
+    ∷ []
+
+-- Theorem.
+pub record ExamplesHold : Type 0 where
+  pub patterns : map (λ (e : ScaleExample). getMos (e .layout)) scaleExamples ≡ map (λ (e : ScaleExample). e .pattern) scaleExamples
+  pub scales : map (λ (e : ScaleExample). getScaleName (e .layout)) scaleExamples ≡ map (λ (e : ScaleExample). e .scale) scaleExamples
+  pub names : map (λ (e : NameExample). getNoteName (e .layout) (e .key)) nameExamples ≡ map (λ (e : NameExample). e .name) nameExamples

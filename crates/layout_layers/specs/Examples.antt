@@ -4,13 +4,11 @@ use mathlib.Core.List.{List, [], _∷_, map}
 use Prim.Native.Nat.{ℕ}
 use Rattle.answer.specs.Outcome.{Outcome, given, refused, andThen}
 use Rattle.layout.specs.declared.IsomorphicLayout.{IsomorphicLayout}
+use Rattle.layout.specs.Examples.{layout}
 use Rattle.layout_layers.specs.declared.Layer.{Layer}
 use Rattle.layout_layers.specs.declared.Layer.the-variants.{Natural, Sharp, Enharmonic, Flat}
 use Rattle.layout_layers.specs.KeyLayers.{kindOf}
 use Rattle.layout_layers.specs.Answers.{getLayers, getLayerCount, getLayer}
-
-abbrev pub layout : ℕ → ℕ → ℕ → IsomorphicLayout
-layout code octave tritave = record { genchain = code; octave = octave; tritave = tritave }
 
 -- ---- numbers: how many, and those of the keys
 
