@@ -3,7 +3,7 @@ use Prim.Native.Nat.{ℕ, zero, suc, _+_, _*_, _-_, _≤_, _<_}
 use mathlib.Core.Path.{_≡_, refl, sym, ap, subst, _∙_}
 use mathlib.Core.Bool.{Bool, true, false}
 use mathlib.Core.List.{[], _∷_}
-use native.Mathlib.Nat.{one-mul}
+use native.Mathlib.Nat.{one-mul, mul-le-mul}
 use native.Mathlib.Omega.{arith}
 use lib.Dec.{eqb, ltb}
 use borrow.Author.Tests.{eqb-true, leb-true, ltb-true}
@@ -11,15 +11,28 @@ use Rattle.answer.proofs.Joined.{length-joined-each}
 use Rattle.genchain.specs.Chains.{chainOf}
 use Rattle.mos.specs.Patterns.{pick}
 use Rattle.layout.specs.Layouts.{Layout, lettersOf, Accepted}
+use Rattle.layout.proofs.Finding.{accepted}
+use Rattle.layout.proofs.PatternShape.{pattern-shape}
 use Rattle.layout_layers.specs.declared.Layer.{Layer}
 use Rattle.layout_layers.specs.declared.Layer.the-variants.{Natural, Sharp, Enharmonic, Flat}
 use Rattle.layout_layers.specs.KeyLayers.{kindOf, numberIn, countIn}
+use Rattle.layout_layers.proofs.Counts.{keys-by-count}
 use Rattle.lamps.specs.Lamps.{lampCode, kindAt, lampOf, stripOf, lampable, lampIn, stripIn, hasLampsIn}
-use Rattle.lamps.specs.Theorems.{LampsByCount, CodesFitBytes, OneHome, StripsAreWhole}
+use Rattle.lamps.specs.Theorems.{LampsByCount, LampsBoundTheOctave, CodesFitBytes, OneHome, StripsAreWhole}
 use Rattle.lamps.proofs.StripLaws.{few-layers, lamps-by-count-at, lamp-home}
 
 pub lamps-by-count : LampsByCount
 lamps-by-count code P tritave l ok = lamps-by-count-at code P tritave l ok
+
+-- with lamps, T is at most 202
+pub few-numbers : (code P tritave : ℕ) (l : Layout) → Accepted code P tritave l → hasLampsIn code P l ≡ true → countIn P l ≤ 202
+few-numbers code P tritave l ok has = leb-true (countIn P l) 202 (sym (lamps-by-count-at code P tritave l ok) ∙ has)
+
+pub lamps-bound-the-octave : LampsBoundTheOctave
+lamps-bound-the-octave code P tritave l ok has =
+    let nine : lettersOf code ≤ 9 = pattern-shape code P tritave l (accepted code P tritave l ok) .at-most-nine in
+    let most : lettersOf code * countIn P l ≤ 9 * 202 = mul-le-mul {n₂ = 9} {m₂ = 202} nine (few-numbers code P tritave l ok has) in
+    omega (arith, most, keys-by-count code P tritave l ok)
 
 pub strips-are-whole : StripsAreWhole
 unfolding stripOf
@@ -48,7 +61,7 @@ unfolding lampOf kindAt
 codes-fit-bytes code P tritave l ok has key =
     pick-code (eqb key 0) _
     (code-below (kindOf (countIn P l) (numberIn code P l key))
-    (few-layers (countIn P l) (numberIn code P l key) (leb-true (countIn P l) 202 (sym (lamps-by-count-at code P tritave l ok) ∙ has))))
+    (few-layers (countIn P l) (numberIn code P l key) (few-numbers code P tritave l ok has)))
 
 others-lit : (b : Bool) (key c : ℕ) → eqb key 0 ≡ b → 0 < key → 0 < c → 0 < pick b 0 c
 others-lit true key c e h k = absurd (let z : ⊥ = omega (arith, eqb-true key 0 e) in z)

@@ -1,5 +1,5 @@
 -- What holds of every strip. Proofs: proofs/Theorems.antt.
-use Prim.Native.Nat.{ℕ, _<_}
+use Prim.Native.Nat.{ℕ, _≤_, _<_}
 use mathlib.Core.Path.{_≡_}
 use mathlib.Core.Bool.{true}
 use lib.Dec.{leb}
@@ -12,6 +12,11 @@ use Rattle.lamps.specs.Lamps.{lampIn, stripIn, hasLampsIn}
 abbrev pub LampsByCount : Type 0
 LampsByCount =
     (code octave tritave : ℕ) (l : Layout) → Accepted code octave tritave l → hasLampsIn code octave l ≡ leb (countIn octave l) 202
+
+-- Theorem: where question 9 has the answer yes, the octave has at most 9 × 202 = 1,818 keys.
+abbrev pub LampsBoundTheOctave : Type 0
+LampsBoundTheOctave =
+    (code octave tritave : ℕ) (l : Layout) → Accepted code octave tritave l → hasLampsIn code octave l ≡ true → octave ≤ 1818
 
 -- Theorem: where question 9 has the answer yes, every code fits a byte.
 abbrev pub CodesFitBytes : Type 0

@@ -1,6 +1,6 @@
 -- The eight runs are the layers of the definition: a full layer's size matters only where there is one, and runs are their own reverse.
 use Prim.Native.Nat.{ℕ, zero, suc, _+_, _*_, _-_, _/_, _%_, _≤_, min}
-use mathlib.Core.Path.{_≡_, refl, ap, ap₂, sym, _∙_}
+use mathlib.Core.Path.{_≡_, refl, ap, ap₂, sym, subst, _∙_}
 use mathlib.Core.Bool.{Bool, true, false}
 use mathlib.Core.List.{List, [], _∷_, _++_, append-assoc, reverse, reverse-cons, reverse-append}
 use native.Mathlib.Nat.{add-zero, zero-add, mul-suc, mul-add, mul-sub, mul-comm, zero-mul, mul-le-mul-left, min-eq-left, min-eq-right, sub-eq-zero-of-le, le-of-lt}
@@ -14,7 +14,7 @@ use Rattle.mos.specs.Patterns.{pick}
 use Rattle.layers.specs.Layers.{holding, sharps, allSizes}
 use Rattle.layers.specs.Theorems.{sum}
 use Rattle.layers.specs.Parts.{runAt}
-use Rattle.layers.proofs.Sizes.{sum-append, sum-replicate, sum-reverse, replicate-more}
+use Rattle.layers.proofs.Sizes.{sum-append, sum-replicate, sum-reverse, replicate-more, Within, within-one-more, within-append, within-run}
 
 -- ---- the counts that a layer holds, by what the code tests
 
@@ -162,3 +162,40 @@ all-sum a b x y =
       sum-append (sharps a b ((x - 1) / 2) ((y - 1) / 2))
           (holding a b ((x - 1) % 2) ((y - 1) % 2) ∷ reverse (sharps a b ((x - 1) / 2) ((y - 1) / 2))),
     )
+
+-- ---- no layer holds more than both counts
+
+holding-most : (a b x y : ℕ) → holding a b x y ≤ a + b
+unfolding holding
+holding-most a b x y = by (eqb x 0) (eqb y 0)
+  where
+    by : (s t : Bool) → pick s 0 a + pick t 0 b ≤ a + b
+    by true true = omega arith
+    by true false = omega arith
+    by false true = omega arith
+    by false false = omega arith
+
+three-runs : (N i j k x y z : ℕ) → x ≤ N → y ≤ N → z ≤ N → Within N (replicate i x ++ (replicate j y ++ replicate k z))
+three-runs N i j k x y z f g h =
+    within-append N (replicate i x) (replicate j y ++ replicate k z) (within-run N i x f)
+    (within-append N (replicate j y) (replicate k z) (within-run N j y g) (within-run N k z h))
+
+sharps-within : (a b h k : ℕ) → Within (a + b) (sharps a b h k)
+unfolding sharps
+sharps-within a b h k =
+    three-runs (a + b) (min h k) (h - k) (k - h) (a + b) a b (omega arith) (omega arith) (omega arith)
+
+reversed-within : (a b h k : ℕ) → Within (a + b) (reverse (sharps a b h k))
+reversed-within a b h k =
+    subst (Within (a + b)) (sym (sharps-reversed a b h k))
+    (three-runs (a + b) (k - h) (h - k) (min h k) b a (a + b) (omega arith) (omega arith) (omega arith))
+
+pub all-within : (a b x y : ℕ) → Within (a + b) (allSizes a b x y)
+unfolding allSizes
+all-within a b x y =
+    let h = (x - 1) / 2 in
+    let k = (y - 1) / 2 in
+    let odd = holding a b ((x - 1) % 2) ((y - 1) % 2) in
+    within-one-more (a + b) (holding a b x y) (sharps a b h k ++ (odd ∷ reverse (sharps a b h k))) (holding-most a b x y)
+    (within-append (a + b) (sharps a b h k) (odd ∷ reverse (sharps a b h k)) (sharps-within a b h k)
+    (within-one-more (a + b) odd (reverse (sharps a b h k)) (holding-most a b ((x - 1) % 2) ((y - 1) % 2)) (reversed-within a b h k)))

@@ -2,7 +2,7 @@
 use Prim.Native.Nat.{ℕ, zero, suc, _+_, _*_, _-_, _≤_}
 use mathlib.Core.Path.{_≡_, refl, ap, ap₂, sym, _∙_}
 use mathlib.Core.List.{List, [], _∷_, _++_, append-assoc, reverse, reverse-cons}
-use native.Mathlib.Nat.{add-zero, zero-add, suc-mul, zero-mul, add-sub-of-le}
+use native.Mathlib.Nat.{add-zero, zero-add, suc-mul, zero-mul, add-sub-of-le, mul-suc, mul-add}
 use native.Mathlib.Omega.{arith}
 use lib.ListN.{length, replicate, length-append, length-replicate, replicate-append-replicate}
 use Rattle.answer.specs.Writing.{joined}
@@ -80,6 +80,32 @@ pub few : (zs : List ℕ) → length (dropEmpty zs) ≤ sum zs
 few [] = omega arith
 few (zero ∷ zs) = omega (arith, few zs)
 few (suc z ∷ zs) = omega (arith, few zs)
+
+-- ---- layers of at most N entries: the sum is at most N for each
+
+abbrev pub Within : ℕ → List ℕ → Type 0
+Within N zs = sum zs ≤ N * length (dropEmpty zs)
+
+pub within-none : (N : ℕ) → Within N []
+within-none N = omega arith
+
+pub within-one-more : (N z : ℕ) (zs : List ℕ) → z ≤ N → Within N zs → Within N (z ∷ zs)
+within-one-more N zero zs h w = omega arith
+within-one-more N (suc z) zs h w = omega (arith, mul-suc N (length (dropEmpty zs)))
+
+pub within-append : (N : ℕ) (xs ys : List ℕ) → Within N xs → Within N ys → Within N (xs ++ ys)
+within-append N xs ys v w =
+    omega (
+      arith,
+      sum-append xs ys,
+      ap (λ (l : List ℕ). N * length l) (drop-append xs ys),
+      ap (λ (n : ℕ). N * n) (length-append (dropEmpty xs) (dropEmpty ys)),
+      mul-add N (length (dropEmpty xs)) (length (dropEmpty ys)),
+    )
+
+pub within-run : (N n z : ℕ) → z ≤ N → Within N (replicate n z)
+within-run N zero z h = within-none N
+within-run N (suc n) z h = within-one-more N z (replicate n z) h (within-run N n z h)
 
 -- ---- numbered
 

@@ -10,9 +10,9 @@ use Rattle.mos.specs.declared.Mos.{Mos}
 use Rattle.mos.specs.Patterns.{primaries, secondaries, primary, secondary, sizeOf, isPattern, cyclesOf, reducedSizeOf}
 use Rattle.mos.proofs.Sizes.{pattern-fits}
 use Rattle.layers.specs.Layers.{allSizes, layerSizes, layersOf}
-use Rattle.layers.specs.Theorems.{sum, LayerSizesSum, LayersFillTheReducedSize}
+use Rattle.layers.specs.Theorems.{sum, LayerSizesSum, LayersFillTheReducedSize, EnoughLayers}
 use Rattle.layers.proofs.Sizes.{sum-drop, length-numbered}
-use Rattle.layers.proofs.Plans.{all-sum}
+use Rattle.layers.proofs.Plans.{all-sum, all-within}
 
 divided-sum : (a b p s g : ℕ) → 0 < g → g ∣ p → g ∣ s → (a * p + b * s) / g ≡ a * (p / g) + b * (s / g)
 divided-sum a b p s g h dp ds =
@@ -43,6 +43,13 @@ layer-sizes-sum m =
 pub layers-fill-the-reduced-size : LayersFillTheReducedSize
 unfolding layersOf
 layers-fill-the-reduced-size m = length-numbered 0 (layerSizes m) ∙ layer-sizes-sum m
+
+pub enough-layers : EnoughLayers
+unfolding layerSizes
+enough-layers m =
+    let x = primary m / cyclesOf m in
+    let y = secondary m / cyclesOf m in
+    omega (arith, reduced-is m, all-sum (primaries m) (secondaries m) x y, all-within (primaries m) (secondaries m) x y)
 
 -- the divided steps, with the divisor that the code has, stay a pattern
 pub divided-fits : (m : Mos) (g : ℕ) → g ≡ gcdOrOne (primary m) (secondary m) → isPattern m ≡ true

@@ -1,12 +1,12 @@
 -- The theorems on the books of all layouts: the speller's bounds, carried over to the layout's names.
 use Prim.Native.Nat.{ℕ, zero, suc, _+_, _*_, _≤_, _<_}
 use native.Mathlib.Omega.{arith}
-use native.Mathlib.Numerals.{add-one}
+use native.Mathlib.Nat.{mul-suc}
 use mathlib.Core.Path.{_≡_, refl, sym, ap, _∙_, subst}
 use mathlib.Core.List.{List}
-use lib.ListN.{length}
+use lib.ListN.{length, length-append}
 use Rattle.answer.specs.Writing.{joined}
-use Rattle.answer.proofs.Joined.{joined-none, length-joined-more, length-joined-le}
+use Rattle.answer.proofs.Joined.{length-joined-more, length-joined-le}
 use Rattle.book.specs.Books.{bookText}
 use Rattle.book.specs.Theorems.{Writable}
 use Rattle.book.proofs.Written.{length-book, books-read-back}
@@ -21,10 +21,12 @@ use Rattle.layout_book.specs.Theorems.{OffsetsFit, WrittenBookIsRead}
 use Rattle.layout_book.proofs.Spelled.{name-short, name-some}
 use Rattle.layout_book.proofs.Spellers.{speller-of}
 
-short-text : (f : ℕ → List ℕ) → ((k : ℕ) → length (f k) ≤ 39325) → (n : ℕ) → length (joined f n) ≤ 39325 * n
-short-text f h zero = omega (arith, ap length (joined-none f))
-short-text f h (suc n) =
-    rw (← (add-one n)) (omega (arith, length-joined-more f n, h n, short-text f h n))
+-- texts of at most w bytes each
+pub short-texts : (w : ℕ) (f : ℕ → List ℕ) (n : ℕ) → ((k : ℕ) → k < n → length (f k) ≤ w) → length (joined f n) ≤ w * n
+unfolding joined
+short-texts w f zero h = omega arith
+short-texts w f (suc n) h =
+    omega (arith, length-append (joined f n) (f n), h n (omega arith), short-texts w f n (λ k l. h k (omega arith)), mul-suc w n)
 
 module _ (code octave tritave : ℕ) (l : Layout) (e : Accepted code octave tritave l) (small : octave ≤ 65535) where
   abbrev name : ℕ → List ℕ
@@ -37,7 +39,7 @@ module _ (code octave tritave : ℕ) (l : Layout) (e : Accepted code octave trit
       record {
         some = accepted code octave tritave l e .positive;
         not-empty = λ k h. subst (λ (t : List ℕ). 1 ≤ length t) (w .names k) (name-some _ (w .sound) k);
-        short = omega (arith, short-text name short octave);
+        short = omega (arith, short-texts 39325 name octave (λ k h. short k));
       }
 
   book-length-is : length (bookIn code octave l) ≡ 4 + 8 * octave + length (joined name octave)

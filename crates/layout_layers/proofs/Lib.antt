@@ -2,4 +2,5 @@ pub mod RunPlaces
 pub mod PlanLaws
 pub mod Calls
 pub mod Theorems
+pub mod Counts
 pub mod Examples

@@ -174,7 +174,7 @@ module _ (code P tritave : ℕ) (l : Layout) (ok : Accepted code P tritave l) wh
   -- ---- the entries repeat
 
   -- equal steps are as large as the number of cycles, so there are as many keys in a cycle as letters
-  equal-steps : equalized m ≡ true → reduced P G ≡ lettersOf code
+  pub equal-steps : equalized m ≡ true → reduced P G ≡ lettersOf code
   unfolding reducedSizeOf cyclesOf sizeOf
   equal-steps t =
       let p = primary m in

@@ -3,13 +3,26 @@ use Prim.Native.Nat.{ℕ, _+_, _*_, _/_, _%_, _≤_, _<_}
 use mathlib.Core.Path.{_≡_}
 use mathlib.Core.Bool.{false}
 use lib.ListN.{length}
-use Rattle.pergen.specs.Pergen.{cycles}
-use Rattle.layout.specs.Layouts.{Layout, Accepted}
+use Rattle.pergen.specs.Spelling.{starsOf}
+use Rattle.pergen.specs.declared.Accidentals.{Accidentals}
+use Rattle.layout.specs.Layouts.{Layout, lettersOf, Accepted, accidentalsIn}
 use Rattle.layout_layers.specs.KeyLayers.{equalized, entryCount, numberIn, layersIn, countIn}
 
 -- Theorem: T is at most the octave's number of keys.
 abbrev pub CountsFit : Type 0
 CountsFit = (code octave tritave : ℕ) (l : Layout) → Accepted code octave tritave l → countIn octave l ≤ octave
+
+-- Theorem: .. and the octave has at most N × T keys.
+abbrev pub KeysByCount : Type 0
+KeysByCount =
+    (code octave tritave : ℕ) (l : Layout) → Accepted code octave tritave l → octave ≤ lettersOf code * countIn octave l
+
+-- Theorem: the signs of a key's two spellings and its stars are together at most T.
+abbrev pub SignsByCount : Type 0
+SignsByCount =
+    (code octave tritave : ℕ) (l : Layout) → Accepted code octave tritave l → (key : ℕ)
+    → (accidentalsIn code octave l key) .«sharp_count» + (accidentalsIn code octave l key) .«flat_count» + starsOf ((accidentalsIn code octave l key) .cycle)
+    ≤ countIn octave l
 
 -- Theorem: "Of T numbers": every key's number is below T.
 abbrev pub NumbersAreBelow : Type 0

@@ -5,7 +5,7 @@ use mathlib.Core.Bool.{Bool, true, false}
 use lib.Dec.{leb, ltb}
 use lib.IntN.{ℤ, pos, negℤ, _+ℤ_, _-ℤ_, _*ℤ_}
 use borrow.Author.Tests.{le-leb, leb-true, leb-false, ltb-false}
-use native.Mathlib.Nat.{mod-lt, mod-eq-of-lt, mod-mod, mod-add-div, add-comm, mul-zero, mod-eq-sub-mod, add-zero, mod-one}
+use native.Mathlib.Nat.{mod-lt, mod-eq-of-lt, mod-mod, mod-add-div, add-comm, mul-zero, mul-add, mod-eq-sub-mod, mod-le, add-zero, mod-one}
 use native.Mathlib.Decide.{decLt}
 use native.Mathlib.Omega.{arith}
 use Rattle.math.specs.Division.{remainder, Apart}
@@ -20,10 +20,10 @@ use Rattle.pergen.specs.declared.Signs.the-variants.{Sharps, Flats}
 use Rattle.pergen.specs.declared.Spelling.{Spelling}
 use Rattle.pergen.specs.Pergen.{cycles, reduced, degree, cycle, cycleOf, pickCycle}
 use Rattle.pergen.specs.Spelling.{sharpCoordinate, flatCoordinate, byCoordinates, pickNumber, lowSharpIndex, lowFlatIndex, byIndices, pickAccidentals, accidentalsOf, keyAccidentals, place, sounds, soundedKey, starsOf, sharpSpelling, flatSpelling}
-use Rattle.pergen.specs.Theorems.{PlacesOfTheDegree, SoundsOfTheKey, IndicesOfSymbols, AccidentalsSoundTheirKey, OneLetter, LetterWithoutSigns}
+use Rattle.pergen.specs.Theorems.{PlacesOfTheDegree, SoundsOfTheKey, IndicesOfSymbols, AccidentalsSoundTheirKey, OneLetter, LetterWithoutSigns, FewSigns}
 use Rattle.pergen.proofs.Inverse.{cycles-positive, reduced-positive}
 use Rattle.pergen.proofs.Keys.{cycle-below, degree-below, degree-sounds-key}
-use Rattle.pergen.proofs.Indices.{flat-rep, LowIndex, low-sharp, low-flat, accidentals-high}
+use Rattle.pergen.proofs.Indices.{flat-rep, LowIndex, low-sharp, low-flat, accidentals-high, sharp-small, flat-small}
 
 -- ---- a spelling's place as a difference of naturals
 
@@ -223,6 +223,23 @@ module _ (R N o e : ℕ) (c : Cycle) (ho : o < N) (he : e < R) (h : N ≤ R) whe
       ∙ one-index x y (no-signs x zx) (no-signs y zy) (sum-is x y ex ey)
       ∙ ap (λ (z : ℕ). N - 1 - z) (sym (mod-eq-of-lt (no-signs y zy)))
 
+  -- x and y below R, with x + y + 1 ≡ N modulo R: x + y + 1 is below R, or R and the remainder of N
+  sum-most : (x y : ℕ) → x < R → y < R → (x + y + 1) % R ≡ N % R → x + y < R + N
+  sum-most x y hx hy q = by (decLt (x + y + 1) R)
+    where
+      by : Dec (x + y + 1 < R) → x + y < R + N
+      by (yes l) = omega arith
+      by (no l) =
+          let above : R ≤ x + y + 1 = omega arith in
+          let wrapped : (x + y + 1 - R) % R ≡ x + y + 1 - R = mod-eq-of-lt (let t : x + y + 1 - R < R = omega arith in t) in
+          omega (arith, q, mod-eq-sub-mod above, wrapped, mod-le N R)
+
+  signs-most : (x y : ℕ) → x ≡ sharpCoordinate R (o + e) → y ≡ flatCoordinate R N (o + e) → N * (x / N + y / N) < R + N
+  signs-most x y ex ey =
+      let some : zero < R = omega arith in
+      let most = sum-most x y (sharp-small R (o + e) x ex some) (flat-small R N (o + e) y ey some) (sum-is x y ex ey) in
+      omega (arith, most, mul-add N (x / N) (y / N), mod-add-div x N, mod-add-div y N)
+
 abbrev OneIndex : Accidentals → Type 0
 OneIndex a = a .«sharp_count» ≡ 0 → a .«flat_count» ≡ 0 → a .«sharp_index» ≡ a .«flat_index»
 
@@ -231,3 +248,10 @@ unfolding keyAccidentals byCoordinates
 letter-without-signs P G N o i hP ho h =
     subst OneIndex (accidentals-high (reduced P G) N o (degree P G i) (cycleOf P G i) h _ _ refl refl)
     (one-letter (reduced P G) N o (degree P G i) (cycleOf P G i) ho (degree-below P G hP i) h _ _ refl refl)
+
+pub few-signs : FewSigns
+unfolding keyAccidentals byCoordinates
+few-signs P G N o i hP ho h =
+    subst (λ (a : Accidentals). N * (a .«sharp_count» + a .«flat_count») < reduced P G + N)
+    (accidentals-high (reduced P G) N o (degree P G i) (cycleOf P G i) h _ _ refl refl)
+    (signs-most (reduced P G) N o (degree P G i) (cycleOf P G i) ho (degree-below P G hP i) h _ _ refl refl)

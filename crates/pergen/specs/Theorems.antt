@@ -1,6 +1,6 @@
 -- The theorems on pergens and spellings, for any period above 0 and any generator. P is the period, G the generator,
 -- `cycles P G` is n, `reduced P G` is R. Proofs: proofs/.
-use Prim.Native.Nat.{ℕ, _%_, _≤_, _<_}
+use Prim.Native.Nat.{ℕ, _+_, _*_, _%_, _≤_, _<_}
 use mathlib.Core.Path.{_≡_}
 use mathlib.Core.Logic.{_↔_}
 use lib.IntN.{ℤ, pos}
@@ -63,3 +63,9 @@ AccidentalsSoundTheirKey =
 -- Where R is at least N.
 abbrev pub LetterWithoutSigns : Type 0
 LetterWithoutSigns = (P G N origin i : ℕ) → 0 < P → origin < N → N ≤ reduced P G → OneLetter P G N origin i
+
+-- There a key's two spellings together have at most (R + N − 1) div N signs.
+abbrev pub FewSigns : Type 0
+FewSigns =
+    (P G N origin i : ℕ) → 0 < P → origin < N → N ≤ reduced P G
+    → N * ((keyAccidentals P G N origin i) .«sharp_count» + (keyAccidentals P G N origin i) .«flat_count») < reduced P G + N

@@ -1,3 +1,4 @@
 pub mod Tables
 pub mod Parts
+pub mod Theorems
 pub mod Examples

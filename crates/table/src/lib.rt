@@ -2,7 +2,7 @@
 //
 // Holds the table of a layout, and the whole output for a line of input, which a program above only reads and writes.
 // `parts` holds what tables are written by. Every entry point answers every input; a refusal changes no byte that was lent.
-// specs/: Tables defines, Examples states what is printed for some lines. Nothing is assumed.
+// specs/: Tables defines, Theorems states how much room holds every output, Examples what is printed for some lines. Nothing is assumed.
 pub mod parts;
 
 use answer::CountAnswer;
@@ -61,7 +61,7 @@ pub fn write_table(layout: IsomorphicLayout, out: &mut [u8]) -> CountAnswer
 }
 
 // What the key table program prints for a line: the table of the layout that it asks for, or a refusal's number (14, 1, 2, 3, 4, 9)
-// on a line of its own. Only a slice that does not hold the whole output is refused (10).
+// on a line of its own. Only a slice that does not hold the whole output is refused (10); 403,596 bytes hold any (`TablesFit`).
 pub fn respond(line: &[u8], out: &mut [u8]) -> CountAnswer
     ensures { λ r. ⌜ Filled (heldIn (length (now (out .entry))) (output (now (line .entry)))) (countOutcome r) (now (out .entry)) (now (out .exit)) ⌝ }
 {
