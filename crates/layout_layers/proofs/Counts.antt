@@ -1,4 +1,5 @@
--- What T bounds: a layer holds at most a key for each letter, so N × T keys; and a cycle with more layers than signs leaves fewer stars.
+-- What T, layers × n, bounds. A layer holds at most a key for each letter, so there are at most N × T keys. A key has at most as many
+-- signs as its cycle has layers, and fewer stars than n, so at most T of both.
 use Prim.Native.Nat.{ℕ, zero, suc, _+_, _*_, _≤_, _<_}
 use mathlib.Core.Path.{_≡_, refl, ap}
 use mathlib.Core.Bool.{Bool, true, false}
