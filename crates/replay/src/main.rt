@@ -1,0 +1,80 @@
+// Replays questions: reads a list of them from standard input, a line each, asks the library, and prints its answers.
+//
+// A line is a name and numbers with one space before each; the modules list the names. An answer is one line, but for a key
+// table, which is several: values with one space between, or `refused` and the number of the question with the answer no.
+// A line that is no question is answered with `?`.
+// The files `stdin` and `stdout` beside src/ hold a list of questions and the answers that were given by others: by the Rust
+// original, and where it has none, by a reading of document 01. docs/DIFFERENCES.md says how they were made.
+mod layouts;
+mod numbers;
+mod patterns;
+mod pergens;
+mod print;
+mod tables;
+mod words;
+
+use libc::STDIN_FILENO;
+ghost use Rattle.io.specs.Counts.{Counts};
+
+fn answer_line(line: &[u8]) {
+    let end = words::word_end(line);
+    let name = &line[..end];
+    if layouts::answer(name, line, end) {
+        return;
+    }
+    if patterns::answer(name, line, end) {
+        return;
+    }
+    if pergens::answer(name, line, end) {
+        return;
+    }
+    if numbers::answer(name, line, end) {
+        return;
+    }
+    if tables::answer(name, line, end) {
+        return;
+    }
+    print::text(b"?\n");
+}
+
+// The bytes of the next line, its line feed with them, and how many there are.
+fn read_line(line: &mut [u8]) -> usize
+    ensures { λ r. ⌜ Counts r (now (line .exit)) ⌝ }
+{
+    let mut len: usize = 0;
+    while len < line.len() {
+        let mut byte = [0u8; 1];
+        if io::read_full(STDIN_FILENO, &mut byte) == 0 {
+            return len;
+        }
+        line[len] = byte[0];
+        len += 1;
+        if byte[0] == b'\n' {
+            return len;
+        }
+    }
+    len
+}
+
+// Reads a line and answers it; false at the end of the input. A line has at most 64 bytes.
+fn answer_next() -> bool {
+    let mut line = [0u8; 64];
+    let bytes = read_line(&mut line);
+    if bytes == 0 {
+        return false;
+    }
+    answer_line(&line[..bytes]);
+    true
+}
+
+// Answers a list of up to 65,536 lines.
+fn main() {
+    let mut lines: u32 = 0;
+    while lines < 65536 {
+        if answer_next() {
+            lines += 1;
+        } else {
+            return;
+        }
+    }
+}
