@@ -218,7 +218,7 @@ mod tests {
 
     #[test]
     fn an_octave_that_cannot_be_doubled() {
-        assert_eq!(layout(3, 32_767, 65_534 - 3 * 4_681), None);
+        assert_eq!(layout(3, 32_767, 65_534 - 3 * 4_096), None);
         assert_eq!(layout(3, 32_768, 65_535), Some(3));
     }
 
