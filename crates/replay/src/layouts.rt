@@ -1,126 +1,78 @@
 // Questions on layouts. LAYOUT is a chain code and the step counts of octave and tritave.
 //
 //     chain CODE               the chain's name
-//     layout LAYOUT            octave, generator, cycles, reduced period, inverse, pattern, scale name
+//     layout LAYOUT            scale name, octave, generator, cycles, reduced period, inverse, pattern
 //     spelling LAYOUT KEY      as `accidentals`
 //     name LAYOUT KEY          a key's name
 //     names LAYOUT             the names of an octave's keys
 //     key_layers LAYOUT        the keys' layers: n, s0, e0, f0 for natural, sharp 0, enharmonic 0, flat 0
 //     lamps LAYOUT             the lamp strip
+use crate::names;
+use crate::patterns;
 use crate::pergens;
 use crate::print;
-use crate::words;
 use answer::CountAnswer;
 use answer::NumberAnswer;
 use layout::IsomorphicLayout;
 use layout::LayoutAnswer;
 use layout_layers::Layer;
-use mos::MosAnswer;
-use pergen::PerGenAnswer;
 
-// Whether the line asks one of these; if so, it is answered.
-pub fn answer(name: &[u8], line: &[u8], at: usize) -> bool {
-    if words::same(name, b"chain") {
-        return chain(line, at);
+pub fn answer(kind: usize, n: [u16; 6]) {
+    if kind == names::CHAIN {
+        put_chain(n[0]);
+        return;
     }
-    let asked = words::numbers_after(line, at, 3);
-    if asked.whole {
-        let n = asked.values;
-        return answer_layout(name, layout_of(n));
-    }
-    let with_key = words::numbers_after(line, at, 4);
-    if !with_key.whole {
-        return false;
-    }
-    let n = with_key.values;
-    answer_key(name, layout_of(n), n[3])
-}
-
-fn layout_of(n: [u16; 6]) -> IsomorphicLayout {
-    IsomorphicLayout {
+    let layout = IsomorphicLayout {
         genchain: n[0],
         octave: n[1],
         tritave: n[2],
+    };
+    if kind == names::SPELLING {
+        pergens::put_spelled(layout.get_accidentals(n[3]));
+        return;
     }
-}
-
-fn chain(line: &[u8], at: usize) -> bool {
-    let asked = words::numbers_after(line, at, 1);
-    if !asked.whole {
-        return false;
-    }
-    let n = asked.values;
-    let mut out: [u8; 64] = [0; 64];
-    let answer = genchain::name(n[0], &mut out);
-    print::written(&out, answer);
-    print::end_line();
-    true
-}
-
-fn answer_layout(name: &[u8], asked: IsomorphicLayout) -> bool {
-    if words::same(name, b"layout") {
-        put_new(asked);
-        return true;
-    }
-    if words::same(name, b"names") {
-        put_names(asked);
-        return true;
-    }
-    if words::same(name, b"key_layers") {
-        put_layers(asked);
-        return true;
-    }
-    if words::same(name, b"lamps") {
-        put_lamps(asked);
-        return true;
-    }
-    false
-}
-
-fn answer_key(name: &[u8], asked: IsomorphicLayout, key: u16) -> bool {
-    if words::same(name, b"spelling") {
-        pergens::put_spelled(asked.get_accidentals(key));
-        return true;
-    }
-    if words::same(name, b"name") {
-        put_name(asked, key);
+    if kind == names::NAME {
+        put_name(layout, n[3]);
         print::end_line();
-        return true;
+        return;
     }
-    false
+    answer_layout(kind, layout);
 }
 
-fn put_new(asked: IsomorphicLayout) {
-    match layout::create_layout(asked.genchain, asked.octave, asked.tritave) {
+fn answer_layout(kind: usize, layout: IsomorphicLayout) {
+    if kind == names::KEY_LAYERS {
+        put_layers(layout);
+        return;
+    }
+    if kind == names::LAMPS {
+        put_lamps(layout);
+        return;
+    }
+    match layout::create_layout(layout.genchain, layout.octave, layout.tritave) {
         LayoutAnswer::Refused(q) => print::refused(q),
-        LayoutAnswer::Given(layout) => put_layout(layout),
-    }
-}
-
-fn put_layout(layout: IsomorphicLayout) {
-    put_pergen(layout.pergen());
-    print::space();
-    put_pattern(layout.mos());
-    print::space();
-    put_scale(layout);
-    print::end_line();
-}
-
-fn put_pergen(answer: PerGenAnswer) {
-    match answer {
-        PerGenAnswer::Refused(q) => print::refusal(q),
-        PerGenAnswer::Given(pergen) => {
-            print::number(pergen.period as u64);
-            pergens::put_pergen(pergen);
+        LayoutAnswer::Given(made) => {
+            if kind == names::NAMES {
+                put_names(made);
+                return;
+            }
+            put_layout(made);
         }
     }
 }
 
-fn put_pattern(answer: MosAnswer) {
-    match answer {
-        MosAnswer::Refused(q) => print::refusal(q),
-        MosAnswer::Given(m) => print::pattern(m),
-    }
+fn put_chain(code: u16) {
+    let mut out: [u8; 64] = [0; 64];
+    let answer = genchain::name(code, &mut out);
+    print::written(&out, answer);
+    print::end_line();
+}
+
+fn put_layout(layout: IsomorphicLayout) {
+    put_scale(layout);
+    print::space();
+    pergens::put_pergen(layout.pergen());
+    print::space();
+    patterns::put_made(layout.mos());
 }
 
 fn put_scale(layout: IsomorphicLayout) {
@@ -136,14 +88,7 @@ fn put_name(layout: IsomorphicLayout, key: u16) {
     print::written(&out, answer);
 }
 
-fn put_names(asked: IsomorphicLayout) {
-    match layout::create_layout(asked.genchain, asked.octave, asked.tritave) {
-        LayoutAnswer::Refused(q) => print::refused(q),
-        LayoutAnswer::Given(layout) => put_all_names(layout),
-    }
-}
-
-fn put_all_names(layout: IsomorphicLayout) {
+fn put_names(layout: IsomorphicLayout) {
     let octave = layout.octave;
     let mut key: u16 = 0;
     while key < octave {

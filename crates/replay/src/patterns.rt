@@ -2,18 +2,18 @@
 //
 //     new_genesis PERIOD GENERATOR     the pattern that a walk begins with
 //     new_collapsed LARGE SMALL        the pattern of two counts with steps 1 and 0
-//     pattern PATTERN                  size, steps, sharpness, cycles, reduced size
+//     pattern PATTERN                  sharpness, steps, size, cycles, reduced size
 //     child, parent, genesis, dual, mirror, coprime PATTERN
 //                                      another pattern, or `none`
 //     children, parents PATTERN        the walk, four numbers a pattern
 //     layer_sizes, layers PATTERN      the layers of the chain
 //     get_key PATTERN PRIMARY SECONDARY
 //                                      the key at a place of the board
+use crate::names;
 use crate::print;
 use crate::words;
 use crate::words::Short;
 use answer::CountAnswer;
-use answer::Refusal;
 use mos::KeyAnswer;
 use mos::Mos;
 use mos::MosAnswer;
@@ -21,24 +21,25 @@ use mos::SharpnessAnswer;
 use mos::TotalAnswer;
 use mos::WalkAnswer;
 
-// Whether the line asks one of these; if so, it is answered.
-pub fn answer(name: &[u8], line: &[u8], at: usize) -> bool {
-    if words::same(name, b"get_key") {
-        return get_key(line, at);
+pub fn answer(kind: usize, n: [u16; 6]) {
+    if kind == names::NEW_GENESIS {
+        put_made(Mos::new_genesis(n[0], n[1]));
+        return;
     }
-    if answer_made(name, line, at) {
-        return true;
+    if kind == names::NEW_COLLAPSED {
+        put_pattern(Mos::new_collapsed(n[0], n[1]));
+        return;
     }
-    let asked = words::numbers_after(line, at, 4);
-    if !asked.whole {
-        return false;
+    if kind == names::PATTERN {
+        put_new(Mos::new(n[0], n[1], n[2], n[3]));
+        return;
     }
-    let n = asked.values;
     let m = pattern_of(n);
-    if answer_pattern(name, m) {
-        return true;
+    if kind < names::CHILDREN {
+        answer_pattern(kind, m);
+        return;
     }
-    answer_list(name, m)
+    answer_list(kind, m);
 }
 
 fn pattern_of(n: [u16; 6]) -> Mos {
@@ -50,61 +51,40 @@ fn pattern_of(n: [u16; 6]) -> Mos {
     }
 }
 
-fn answer_made(name: &[u8], line: &[u8], at: usize) -> bool {
-    let asked = words::numbers_after(line, at, 2);
-    if !asked.whole {
-        return false;
-    }
-    let n = asked.values;
-    if words::same(name, b"new_genesis") {
-        put_made(Mos::new_genesis(n[0], n[1]));
-        return true;
-    }
-    if words::same(name, b"new_collapsed") {
-        put_pattern(Mos::new_collapsed(n[0], n[1]));
-        return true;
-    }
-    false
-}
-
-fn answer_pattern(name: &[u8], m: Mos) -> bool {
-    if words::same(name, b"pattern") {
-        put_new(m);
-        return true;
-    }
-    if words::same(name, b"child") {
+fn answer_pattern(kind: usize, m: Mos) {
+    if kind == names::CHILD {
         put_walked(m.child());
-        return true;
+        return;
     }
-    if words::same(name, b"parent") {
+    if kind == names::PARENT {
         put_walked(m.parent());
-        return true;
+        return;
     }
-    if words::same(name, b"genesis") {
+    if kind == names::GENESIS {
         put_made(m.genesis());
-        return true;
+        return;
     }
-    if words::same(name, b"coprime") {
-        put_made(m.coprime());
-        return true;
-    }
-    if words::same(name, b"dual") {
+    if kind == names::DUAL {
         put_made(m.dual());
-        return true;
+        return;
     }
-    if words::same(name, b"mirror") {
+    if kind == names::MIRROR {
         put_made(m.mirror());
-        return true;
+        return;
     }
-    false
+    put_made(m.coprime());
 }
 
 fn put_pattern(m: Mos) {
-    print::pattern(m);
+    print::number(m.num_primary_steps as u64);
+    print::next_number(m.num_secondary_steps as u64);
+    print::next_number(m.primary_step as u64);
+    print::next_number(m.secondary_step as u64);
     print::end_line();
 }
 
-fn put_made(answer: MosAnswer) {
+// The rest of a line: a pattern, or a refusal.
+pub fn put_made(answer: MosAnswer) {
     match answer {
         MosAnswer::Given(m) => put_pattern(m),
         MosAnswer::Refused(q) => print::refused(q),
@@ -119,82 +99,59 @@ fn put_walked(answer: WalkAnswer) {
     }
 }
 
-// The numbers of a pattern that is made of the four.
-fn put_new(asked: Mos) {
-    match Mos::new(
-        asked.num_primary_steps,
-        asked.num_secondary_steps,
-        asked.primary_step,
-        asked.secondary_step,
-    ) {
+fn put_new(answer: MosAnswer) {
+    match answer {
         MosAnswer::Refused(q) => print::refused(q),
         MosAnswer::Given(m) => put_numbers(m),
     }
 }
 
 fn put_numbers(m: Mos) {
-    print::text(b"size");
-    print::next_answer(m.size());
-    put_steps(m.num_steps());
     put_sharpness(m.sharpness());
+    put_steps(m.num_steps());
+    print::next_answer(m.size());
     print::next_answer(m.num_cycles());
     print::next_answer(m.reduced_size());
     print::end_line();
 }
 
-fn put_steps(answer: TotalAnswer) {
-    match answer {
-        TotalAnswer::Given(n) => print::next_number(n as u64),
-        TotalAnswer::Refused(q) => put_next_refusal(q),
-    }
-}
-
 fn put_sharpness(answer: SharpnessAnswer) {
     match answer {
-        SharpnessAnswer::Given(n) => {
-            print::space();
-            print::signed32(n);
-        }
-        SharpnessAnswer::Refused(q) => put_next_refusal(q),
+        SharpnessAnswer::Given(n) => print::signed32(n),
+        SharpnessAnswer::Refused(q) => print::refusal(q),
     }
 }
 
-fn put_next_refusal(q: Refusal) {
+fn put_steps(answer: TotalAnswer) {
     print::space();
-    print::refusal(q);
+    match answer {
+        TotalAnswer::Given(n) => print::number(n as u64),
+        TotalAnswer::Refused(q) => print::refusal(q),
+    }
 }
 
-fn answer_list(name: &[u8], m: Mos) -> bool {
+fn answer_list(kind: usize, m: Mos) {
     let mut out = print::list_room();
-    if words::same(name, b"children") {
-        let count = m.children(&mut out);
-        put_list(&out, count);
-        return true;
-    }
-    if words::same(name, b"parents") {
-        let count = m.parents(&mut out);
-        put_list(&out, count);
-        return true;
-    }
-    if words::same(name, b"layer_sizes") {
-        let count = layers::layer_sizes(m, &mut out);
-        put_list(&out, count);
-        return true;
-    }
-    if words::same(name, b"layers") {
-        let count = layers::get_layers(m, &mut out);
-        put_list(&out, count);
-        return true;
-    }
-    false
-}
-
-fn put_list(numbers: &[u16], answer: CountAnswer) {
-    print::list(numbers, answer);
+    let count = write_list(kind, m, &mut out);
+    print::list(&out, count);
     print::end_line();
 }
 
-fn get_key(line: &[u8], at: usize) -> bool {
+fn write_list(kind: usize, m: Mos, out: &mut [u16]) -> CountAnswer {
+    if kind == names::CHILDREN {
+        return m.children(out);
+    }
+    if kind == names::PARENTS {
+        return m.parents(out);
+    }
+    if kind == names::LAYER_SIZES {
+        return layers::layer_sizes(m, out);
+    }
+    layers::get_layers(m, out)
+}
+
+// Whether the line asks for a key; if so, it is answered.
+pub fn get_key(line: &[u8], at: usize) -> bool {
     let asked = words::numbers_after(line, at, 4);
     if asked.read != 4 {
         return false;

@@ -1,12 +1,12 @@
 // Questions on a free period and generator.
 //
-//     pergen PERIOD GENERATOR                             cycles, reduced period, inverse
+//     pergen PERIOD GENERATOR                             the two, cycles, reduced period, inverse
 //     generation PERIOD GENERATOR KEY                     degree and cycle
 //     accidentals PERIOD GENERATOR SYMBOLS ORIGIN KEY     sharp index and count, flat index and count, cycle
 //
 // An absent cycle is `-`.
+use crate::names;
 use crate::print;
-use crate::words;
 use pergen::Accidentals;
 use pergen::AccidentalsAnswer;
 use pergen::AccidentalsFormat;
@@ -16,92 +16,63 @@ use pergen::GenerationAnswer;
 use pergen::PerGen;
 use pergen::PerGenAnswer;
 
-// Whether the line asks one of these; if so, it is answered.
-pub fn answer(name: &[u8], line: &[u8], at: usize) -> bool {
-    if words::same(name, b"pergen") {
-        return pergen(line, at);
+pub fn answer(kind: usize, n: [u16; 6]) {
+    if kind == names::PERGEN {
+        put_pergen(PerGen::new(n[0], n[1]));
+        print::end_line();
+        return;
     }
-    if words::same(name, b"generation") {
-        return generation(line, at);
+    let pergen = PerGen {
+        period: n[0],
+        generator: n[1],
+    };
+    if kind == names::GENERATION {
+        put_generated(pergen.get_generation(n[2]));
+        return;
     }
-    if words::same(name, b"accidentals") {
-        return accidentals(line, at);
-    }
-    false
+    let format = AccidentalsFormat {
+        num_symbols: n[2],
+        genchain_origin: n[3],
+    };
+    put_spelled(pergen.get_accidentals(format, n[4]));
 }
 
-fn pergen(line: &[u8], at: usize) -> bool {
-    let asked = words::numbers_after(line, at, 2);
-    if !asked.whole {
-        return false;
+// Period, generator, cycles, reduced period and inverse, or a refusal, within a line.
+pub fn put_pergen(answer: PerGenAnswer) {
+    match answer {
+        PerGenAnswer::Refused(q) => print::refusal(q),
+        PerGenAnswer::Given(pergen) => put_numbers(pergen),
     }
-    let n = asked.values;
-    match PerGen::new(n[0], n[1]) {
-        PerGenAnswer::Refused(q) => print::refused(q),
-        PerGenAnswer::Given(pergen) => {
-            print::number(pergen.period as u64);
-            put_pergen(pergen);
-            print::end_line();
-        }
-    }
-    true
 }
 
-// Generator, cycles, reduced period and inverse, behind another word of the line.
-pub fn put_pergen(pergen: PerGen) {
+fn put_numbers(pergen: PerGen) {
+    print::number(pergen.period as u64);
     print::next_number(pergen.generator as u64);
     print::next_answer(pergen.num_cycles());
     print::next_answer(pergen.reduced_period());
     print::next_answer(pergen.generator_inverse());
 }
 
-fn generation(line: &[u8], at: usize) -> bool {
-    let asked = words::numbers_after(line, at, 3);
-    if !asked.whole {
-        return false;
-    }
-    let n = asked.values;
-    let pergen = PerGen {
-        period: n[0],
-        generator: n[1],
-    };
-    match pergen.get_generation(n[2]) {
+fn put_generated(answer: GenerationAnswer) {
+    match answer {
         GenerationAnswer::Refused(q) => print::refused(q),
         GenerationAnswer::Given(generation) => put_generation(generation),
     }
-    true
 }
 
 fn put_generation(generation: Generation) {
     print::number(generation.degree as u64);
     let cycle = generation.cycle;
     put_cycle(cycle);
-    print::end_line();
 }
 
+// The last word of a line.
 fn put_cycle(cycle: Cycle) {
+    print::space();
     match cycle {
-        Cycle::Absent => print::text(b" -"),
-        Cycle::Number(number) => print::next_number(number as u64),
+        Cycle::Absent => print::text(b"-\n"),
+        Cycle::Number(number) => print::line(number),
     }
-}
-
-fn accidentals(line: &[u8], at: usize) -> bool {
-    let asked = words::numbers_after(line, at, 5);
-    if !asked.whole {
-        return false;
-    }
-    let n = asked.values;
-    let pergen = PerGen {
-        period: n[0],
-        generator: n[1],
-    };
-    let format = AccidentalsFormat {
-        num_symbols: n[2],
-        genchain_origin: n[3],
-    };
-    put_spelled(pergen.get_accidentals(format, n[4]));
-    true
 }
 
 // A key's two spellings, or a refusal, alone on the line.
@@ -119,5 +90,4 @@ fn put_accidentals(accidentals: Accidentals) {
     print::next_number(accidentals.flat_count as u64);
     let cycle = accidentals.cycle;
     put_cycle(cycle);
-    print::end_line();
 }

@@ -3,7 +3,6 @@ use answer::CountAnswer;
 use answer::NumberAnswer;
 use answer::Refusal;
 use libc::STDOUT_FILENO;
-use mos::Mos;
 ghost use mathlib.Core.Path.{_≡_};
 ghost use lib.ListN.{length};
 
@@ -27,6 +26,12 @@ pub fn short(n: u16) {
     number(n as u64);
 }
 
+// The last number of a line.
+pub fn line(n: u16) {
+    short(n);
+    end_line();
+}
+
 // A number behind another word of the line.
 pub fn next_number(n: u64) {
     space();
@@ -46,14 +51,6 @@ pub fn signed(n: i64) {
 
 pub fn signed32(n: i32) {
     signed(n as i64);
-}
-
-// The four numbers of a pattern.
-pub fn pattern(m: Mos) {
-    number(m.num_primary_steps as u64);
-    next_number(m.num_secondary_steps as u64);
-    next_number(m.primary_step as u64);
-    next_number(m.secondary_step as u64);
 }
 
 // A refusal within a line.
@@ -77,7 +74,7 @@ pub fn next_answer(answer: NumberAnswer) {
     }
 }
 
-// As many bytes of a slice as were written to its front, or the refusal to write them.
+// As many bytes of a slice as were written to its front, or the refusal to write them. The slice holds what was written.
 pub fn written(bytes: &[u8], answer: CountAnswer) {
     match answer {
         CountAnswer::Given(count) => {
@@ -104,6 +101,7 @@ pub fn list(numbers: &[u16], answer: CountAnswer) {
     }
 }
 
+// The first `count` numbers, which the slice holds.
 fn front(numbers: &[u16], count: usize) {
     if count == 0 {
         text(b"-");

@@ -2,22 +2,18 @@
 //
 //     table LINE     all that the program prints for the line
 use crate::print;
-use crate::words;
 
 // Whether the line asks this; if so, it is answered.
-pub fn answer(name: &[u8], line: &[u8], at: usize) -> bool {
-    if words::same(name, b"table") {
-        if line.len() <= at {
-            return false;
-        }
-        if line[at] != b' ' {
-            return false;
-        }
-        let from = at + 1;
-        put_table(&line[from..]);
-        return true;
+pub fn answer(line: &[u8], at: usize) -> bool {
+    if line.len() <= at {
+        return false;
     }
-    false
+    if line[at] != b' ' {
+        return false;
+    }
+    let from = at + 1;
+    put_table(&line[from..]);
+    true
 }
 
 fn put_table(line: &[u8]) {

@@ -74,21 +74,7 @@ pub fn word_end(line: &[u8]) -> usize
     at
 }
 
-// Whether two texts are the same.
-pub fn same(a: &[u8], b: &[u8]) -> bool {
-    if a.len() != b.len() {
-        return false;
-    }
-    let mut i: usize = 0;
-    while i < a.len() {
-        if a[i] != b[i] {
-            return false;
-        }
-        i += 1;
-    }
-    true
-}
-
+// The digits from a place on, at most eleven.
 fn digits_at(line: &[u8], from: usize) -> Digits {
     let mut value: u64 = 0;
     let mut at = from;

@@ -67,12 +67,12 @@ fn text(question: &Question) -> Text {
         }
         Question::Odd(x) => given(numbers::odd_factors(*x)).map(|odd| odd.to_string()),
         Question::Divide16(numer, denom) => {
-            accepted(document::period_refusal((*denom).into()))?;
-            given(numbers::divided(*numer, *denom)).map(divided_text)
+            let refusal = document::period_refusal((*denom).into());
+            settled(refusal, numbers::divided(*numer, *denom)).map(divided_text)
         }
         Question::Divide32(numer, denom) => {
-            accepted(document::period_refusal(*denom))?;
-            given(numbers::divided(*numer, *denom)).map(divided_text)
+            let refusal = document::period_refusal(*denom);
+            settled(refusal, numbers::divided(*numer, *denom)).map(divided_text)
         }
         Question::Pergen(pergen) => pergen_text(&created(*pergen)?),
         Question::Generation(pergen, key) => given(spelling::generation(&created(*pergen)?, *key))
@@ -96,8 +96,9 @@ fn text(question: &Question) -> Text {
             given(spelling::accidentals(&created(*pergen)?, &format, *key)).map(spelling_text)
         }
         Question::NewGenesis(pergen) => {
-            accepted(document::period_refusal(pergen.period.into()))?;
-            given(patterns::create_genesis(pergen.period, pergen.generator)).map(mos_text)
+            let refusal = document::period_refusal(pergen.period.into());
+            let genesis = patterns::create_genesis(pergen.period, pergen.generator);
+            settled(refusal, genesis).map(mos_text)
         }
         Question::NewCollapsed(large, small) => {
             given(patterns::create_collapsed(*large, *small)).map(mos_text)
@@ -138,9 +139,20 @@ fn given<T>(answer: Answer<T>) -> Result<T, Absent> {
     }
 }
 
+/// A question that the original panics at wherever the document refuses it.
+fn settled<T>(refusal: Option<Refusal>, answer: Answer<T>) -> Result<T, Absent> {
+    match (refusal, answer) {
+        (None, answer) => given(answer),
+        (Some(number), Err(_)) => Err(number.into()),
+        (Some(number), Ok(_)) => {
+            unreachable!("document 01 refuses with {number}; the original has an answer")
+        }
+    }
+}
+
 fn created(asked: FreePergen) -> Result<PerGen, Absent> {
-    accepted(document::period_refusal(asked.period.into()))?;
-    given(spelling::create(asked.period, asked.generator))
+    let refusal = document::period_refusal(asked.period.into());
+    settled(refusal, spelling::create(asked.period, asked.generator))
 }
 
 fn created_pattern(pattern: Pattern) -> Result<Mos, Absent> {
@@ -183,10 +195,10 @@ fn of_pattern(asked: OfPattern, pattern: Pattern) -> Text {
     match asked {
         OfPattern::Numbers => given(patterns::derived(mos)).map(|derived| {
             format!(
-                "size {} {} {} {} {}",
-                derived.size,
-                derived.num_steps,
+                "{} {} {} {} {}",
                 derived.sharpness,
+                derived.num_steps,
+                derived.size,
                 derived.num_cycles,
                 derived.reduced_size
             )
@@ -197,11 +209,7 @@ fn of_pattern(asked: OfPattern, pattern: Pattern) -> Text {
         OfPattern::Dual => given(patterns::dual(mos)).map(mos_text),
         OfPattern::Mirror => given(patterns::mirror(mos)).map(mos_text),
         OfPattern::Coprime => {
-            accepted(document::coprime_refusal(pattern))?;
-            match patterns::coprime(mos) {
-                Ok(mos) => Ok(mos_text(mos)),
-                Err(panicked) => unreachable!("document 01 has an answer; the original {panicked}"),
-            }
+            settled(document::coprime_refusal(pattern), patterns::coprime(mos)).map(mos_text)
         }
         OfPattern::Children => given(patterns::children(mos)).map(walk_text),
         OfPattern::Parents => given(patterns::parents(mos)).map(walk_text),
@@ -218,7 +226,7 @@ fn of_layout(asked: OfLayout, layout: &IsomorphicLayout) -> Text {
             let pergen = pergen_text(layout.pergen())?;
             let pattern = mos_text(layout.mos());
             let scale = given(layouts::scale_name(layout))?;
-            Ok(format!("{pergen} {pattern} {scale}"))
+            Ok(format!("{scale} {pergen} {pattern}"))
         }
         OfLayout::Names => {
             let names: Result<Vec<String>, Absent> = (0..layout.pergen().period())

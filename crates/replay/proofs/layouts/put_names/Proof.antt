@@ -1,8 +1,8 @@
 -- The names before `key` are printed.
 use Prim.Native.Nat.{_≤_, _-_}
 use borrow.Author.Needs.{needs}
-use Rattle.replay.proofs.layouts.put_all_names.Statement.{statement}
-use Rattle.replay.proofs.layouts.put_all_names.Tie as tie
+use Rattle.replay.proofs.layouts.put_names.Statement.{statement}
+use Rattle.replay.proofs.layouts.put_names.Tie as tie
 
 abbrev Inv-loop : tie.InvT-loop
 Inv-loop layout octave key₀ key = key ≤ octave
@@ -34,8 +34,8 @@ end-line-requires c κs = search needs
 returns : tie.Need-returns Inv-loop μ-loop
 returns c = search needs
 
-pub put-all-names-spec : {M : Type 1} → statement M
-put-all-names-spec =
+pub put-names-spec : {M : Type 1} → statement M
+put-names-spec =
     tie.close
     (tie.spec
     Inv-loop
