@@ -1,0 +1,173 @@
+// Questions on layouts. LAYOUT is a chain code and the step counts of octave and tritave.
+//
+//     chain CODE               the chain's name
+//     layout LAYOUT            scale name, octave, generator, cycles, reduced period, inverse, pattern
+//     spelling LAYOUT KEY      as `accidentals`
+//     name LAYOUT KEY          a key's name
+//     names LAYOUT             the names of an octave's keys
+//     key_layers LAYOUT        the keys' layers: n, s0, e0, f0 for natural, sharp 0, enharmonic 0, flat 0
+//     lamps LAYOUT             the lamp strip
+use crate::names;
+use crate::patterns;
+use crate::pergens;
+use crate::print;
+use answer::CountAnswer;
+use answer::NumberAnswer;
+use layout::IsomorphicLayout;
+use layout::LayoutAnswer;
+use layout_layers::Layer;
+
+pub fn answer(kind: usize, n: [u16; 6]) {
+    if kind == names::CHAIN {
+        put_chain(n[0]);
+        return;
+    }
+    let layout = IsomorphicLayout {
+        genchain: n[0],
+        octave: n[1],
+        tritave: n[2],
+    };
+    if kind == names::SPELLING {
+        pergens::put_spelled(layout.get_accidentals(n[3]));
+        return;
+    }
+    if kind == names::NAME {
+        put_name(layout, n[3]);
+        print::end_line();
+        return;
+    }
+    answer_layout(kind, layout);
+}
+
+fn answer_layout(kind: usize, layout: IsomorphicLayout) {
+    if kind == names::KEY_LAYERS {
+        put_layers(layout);
+        return;
+    }
+    if kind == names::LAMPS {
+        put_lamps(layout);
+        return;
+    }
+    match layout::create_layout(layout.genchain, layout.octave, layout.tritave) {
+        LayoutAnswer::Refused(q) => print::refused(q),
+        LayoutAnswer::Given(made) => {
+            if kind == names::NAMES {
+                put_names(made);
+                return;
+            }
+            put_layout(made);
+        }
+    }
+}
+
+fn put_chain(code: u16) {
+    let mut out: [u8; 64] = [0; 64];
+    let answer = genchain::name(code, &mut out);
+    print::written(&out, answer);
+    print::end_line();
+}
+
+fn put_layout(layout: IsomorphicLayout) {
+    put_scale(layout);
+    print::space();
+    pergens::put_pergen(layout.pergen());
+    print::space();
+    patterns::put_made(layout.mos());
+}
+
+fn put_scale(layout: IsomorphicLayout) {
+    let mut out: [u8; 64] = [0; 64];
+    let answer = layout.get_scale_name(&mut out);
+    print::written(&out, answer);
+}
+
+// A name has at most 13,109 bytes.
+fn put_name(layout: IsomorphicLayout, key: u16) {
+    let mut out = io::large_buffer();
+    let answer = layout.get_note_name(key, &mut out);
+    print::written(&out, answer);
+}
+
+fn put_names(layout: IsomorphicLayout) {
+    let octave = layout.octave;
+    let mut key: u16 = 0;
+    while key < octave {
+        if 0 < key {
+            print::space();
+        }
+        put_name(layout, key);
+        key += 1;
+    }
+    print::end_line();
+}
+
+fn put_lamps(layout: IsomorphicLayout) {
+    let mut out = io::large_buffer();
+    match lamps::lamp_strip(layout, &mut out) {
+        CountAnswer::Refused(q) => print::refused(q),
+        CountAnswer::Given(count) => put_codes(&out, count),
+    }
+}
+
+fn put_codes(codes: &[u8], count: usize) {
+    let mut i: usize = 0;
+    while i < count {
+        if codes.len() <= i {
+            return;
+        }
+        if 0 < i {
+            print::space();
+        }
+        put_code(codes[i]);
+        i += 1;
+    }
+    print::end_line();
+}
+
+fn put_code(code: u8) {
+    print::number(code as u64);
+}
+
+fn put_layers(layout: IsomorphicLayout) {
+    let mut out = print::list_room();
+    match layout_layers::get_layers(layout, &mut out) {
+        CountAnswer::Refused(q) => print::refused(q),
+        CountAnswer::Given(count) => put_kinds(layout_layers::layer_count(layout), &out, count),
+    }
+}
+
+fn put_kinds(total: NumberAnswer, numbers: &[u16], count: usize) {
+    match total {
+        NumberAnswer::Refused(q) => print::refused(q),
+        NumberAnswer::Given(layers) => put_all_kinds(layers, numbers, count),
+    }
+}
+
+fn put_all_kinds(total: u16, numbers: &[u16], count: usize) {
+    let mut i: usize = 0;
+    while i < count {
+        if numbers.len() <= i {
+            return;
+        }
+        if 0 < i {
+            print::space();
+        }
+        put_kind(layout_layers::kind(total, numbers[i]));
+        i += 1;
+    }
+    print::end_line();
+}
+
+fn put_kind(layer: Layer) {
+    match layer {
+        Layer::Natural => print::text(b"n"),
+        Layer::Sharp(level) => put_level(b"s", level),
+        Layer::Enharmonic(level) => put_level(b"e", level),
+        Layer::Flat(level) => put_level(b"f", level),
+    }
+}
+
+fn put_level(kind: &[u8], level: u16) {
+    print::text(kind);
+    print::number(level as u64);
+}

@@ -1,0 +1,86 @@
+// Questions on whole numbers.
+//
+//     gcd X Y          the greatest common divisor
+//     simplify X Y     the fraction in lowest terms
+//     odd X            the number without factors of two
+//     divide16 N D     quotient and remainder, D of 16 bits
+//     divide32 N D     quotient and remainder, D of 32 bits
+use crate::names;
+use crate::print;
+use crate::words;
+use crate::words::Long;
+use crate::words::Natural;
+use crate::words::Wide;
+use math::DividedU16Answer;
+use math::DividedU32Answer;
+use math::Fraction;
+
+pub fn answer(kind: usize, n: [u16; 6]) {
+    if kind == names::SIMPLIFY {
+        put_fraction(math::simplify_u16(n[0], n[1]));
+        return;
+    }
+    if kind == names::ODD {
+        print::line(math::odd_factors_u16(n[0]));
+        return;
+    }
+    print::line(math::gcd_u16(n[0], n[1]));
+}
+
+fn put_fraction(fraction: Fraction) {
+    print::number(fraction.numer as u64);
+    print::space();
+    print::line(fraction.denom);
+}
+
+// Whether the line asks for a division; if so, it is answered.
+pub fn divide16(line: &[u8], at: usize) -> bool {
+    let Long::Read(numer, next) = words::long_after(line, at) else {
+        return false;
+    };
+    let Natural::Read(denom, end) = words::natural_after(line, next) else {
+        return false;
+    };
+    if words::is_at(line, end, b'\n') {
+        put_divided16(math::i32_dr_u16(numer, denom));
+        return true;
+    }
+    false
+}
+
+fn put_divided16(answer: DividedU16Answer) {
+    match answer {
+        DividedU16Answer::Refused(q) => print::refused(q),
+        DividedU16Answer::Given(divided) => {
+            put_divided(divided.quotient, divided.remainder as u32);
+        }
+    }
+}
+
+// Whether the line asks for a division; if so, it is answered.
+pub fn divide32(line: &[u8], at: usize) -> bool {
+    let Long::Read(numer, next) = words::long_after(line, at) else {
+        return false;
+    };
+    let Wide::Read(denom, end) = words::wide_after(line, next) else {
+        return false;
+    };
+    if words::is_at(line, end, b'\n') {
+        put_divided32(math::i32_dr_u32(numer, denom));
+        return true;
+    }
+    false
+}
+
+fn put_divided32(answer: DividedU32Answer) {
+    match answer {
+        DividedU32Answer::Refused(q) => print::refused(q),
+        DividedU32Answer::Given(divided) => put_divided(divided.quotient, divided.remainder),
+    }
+}
+
+fn put_divided(quotient: i32, remainder: u32) {
+    print::signed32(quotient);
+    print::next_number(remainder as u64);
+    print::end_line();
+}

@@ -1,0 +1,93 @@
+// Questions on a free period and generator.
+//
+//     pergen PERIOD GENERATOR                             the two, cycles, reduced period, inverse
+//     generation PERIOD GENERATOR KEY                     degree and cycle
+//     accidentals PERIOD GENERATOR SYMBOLS ORIGIN KEY     sharp index and count, flat index and count, cycle
+//
+// An absent cycle is `-`.
+use crate::names;
+use crate::print;
+use pergen::Accidentals;
+use pergen::AccidentalsAnswer;
+use pergen::AccidentalsFormat;
+use pergen::Cycle;
+use pergen::Generation;
+use pergen::GenerationAnswer;
+use pergen::PerGen;
+use pergen::PerGenAnswer;
+
+pub fn answer(kind: usize, n: [u16; 6]) {
+    if kind == names::PERGEN {
+        put_pergen(PerGen::new(n[0], n[1]));
+        print::end_line();
+        return;
+    }
+    let pergen = PerGen {
+        period: n[0],
+        generator: n[1],
+    };
+    if kind == names::GENERATION {
+        put_generated(pergen.get_generation(n[2]));
+        return;
+    }
+    let format = AccidentalsFormat {
+        num_symbols: n[2],
+        genchain_origin: n[3],
+    };
+    put_spelled(pergen.get_accidentals(format, n[4]));
+}
+
+// Period, generator, cycles, reduced period and inverse, or a refusal, within a line.
+pub fn put_pergen(answer: PerGenAnswer) {
+    match answer {
+        PerGenAnswer::Refused(q) => print::refusal(q),
+        PerGenAnswer::Given(pergen) => put_numbers(pergen),
+    }
+}
+
+fn put_numbers(pergen: PerGen) {
+    print::number(pergen.period as u64);
+    print::next_number(pergen.generator as u64);
+    print::next_answer(pergen.num_cycles());
+    print::next_answer(pergen.reduced_period());
+    print::next_answer(pergen.generator_inverse());
+}
+
+fn put_generated(answer: GenerationAnswer) {
+    match answer {
+        GenerationAnswer::Refused(q) => print::refused(q),
+        GenerationAnswer::Given(generation) => put_generation(generation),
+    }
+}
+
+fn put_generation(generation: Generation) {
+    print::number(generation.degree as u64);
+    let cycle = generation.cycle;
+    put_cycle(cycle);
+}
+
+// The last word of a line.
+fn put_cycle(cycle: Cycle) {
+    print::space();
+    match cycle {
+        Cycle::Absent => print::text(b"-\n"),
+        Cycle::Number(number) => print::line(number),
+    }
+}
+
+// A key's two spellings, or a refusal, alone on the line.
+pub fn put_spelled(answer: AccidentalsAnswer) {
+    match answer {
+        AccidentalsAnswer::Refused(q) => print::refused(q),
+        AccidentalsAnswer::Given(accidentals) => put_accidentals(accidentals),
+    }
+}
+
+fn put_accidentals(accidentals: Accidentals) {
+    print::number(accidentals.sharp_index as u64);
+    print::next_number(accidentals.sharp_count as u64);
+    print::next_number(accidentals.flat_index as u64);
+    print::next_number(accidentals.flat_count as u64);
+    let cycle = accidentals.cycle;
+    put_cycle(cycle);
+}

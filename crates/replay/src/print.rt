@@ -1,0 +1,121 @@
+// Answers in text: numbers with one space between, `none`, or `refused` and a number; a line each.
+use answer::CountAnswer;
+use answer::NumberAnswer;
+use answer::Refusal;
+use libc::STDOUT_FILENO;
+ghost use mathlib.Core.Path.{_≡_};
+ghost use lib.ListN.{length};
+
+pub fn text(bytes: &[u8]) {
+    io::write_all(STDOUT_FILENO, bytes);
+}
+
+pub fn space() {
+    text(b" ");
+}
+
+pub fn end_line() {
+    text(b"\n");
+}
+
+pub fn number(n: u64) {
+    io::print_decimal(STDOUT_FILENO, n);
+}
+
+pub fn short(n: u16) {
+    number(n as u64);
+}
+
+// The last number of a line.
+pub fn line(n: u16) {
+    short(n);
+    end_line();
+}
+
+// A number behind another word of the line.
+pub fn next_number(n: u64) {
+    space();
+    number(n);
+}
+
+// A number that may be below 0: a minus, and then the number 1 above its mirror image.
+pub fn signed(n: i64) {
+    if n < 0 {
+        text(b"-");
+        let mirror = (-1 - n) as u64;
+        number(mirror + 1);
+        return;
+    }
+    number(n as u64);
+}
+
+pub fn signed32(n: i32) {
+    signed(n as i64);
+}
+
+// A refusal within a line.
+pub fn refusal(q: Refusal) {
+    text(b"refused ");
+    number(q.number() as u64);
+}
+
+// A refusal alone on its line.
+pub fn refused(q: Refusal) {
+    refusal(q);
+    end_line();
+}
+
+// An answer behind another word of the line.
+pub fn next_answer(answer: NumberAnswer) {
+    space();
+    match answer {
+        NumberAnswer::Given(n) => number(n as u64),
+        NumberAnswer::Refused(q) => refusal(q),
+    }
+}
+
+// As many bytes of a slice as were written to its front, or the refusal to write them. The slice holds what was written.
+pub fn written(bytes: &[u8], answer: CountAnswer) {
+    match answer {
+        CountAnswer::Given(count) => {
+            if count <= bytes.len() {
+                text(&bytes[..count]);
+            }
+        }
+        CountAnswer::Refused(q) => refusal(q),
+    }
+}
+
+// Room for a list of 4,096 numbers; a longer one is refused with 10. The `ensures` is what lending the array needs.
+pub fn list_room() -> [u16; 4096]
+    ensures { λ r. ⌜ 4096 ≡ length r ⌝ }
+{
+    [0; 4096]
+}
+
+// As many numbers of a slice as were written to its front, `-` where that is none, or the refusal to write them.
+pub fn list(numbers: &[u16], answer: CountAnswer) {
+    match answer {
+        CountAnswer::Given(count) => front(numbers, count),
+        CountAnswer::Refused(q) => refusal(q),
+    }
+}
+
+// The first `count` numbers, which the slice holds.
+fn front(numbers: &[u16], count: usize) {
+    if count == 0 {
+        text(b"-");
+        return;
+    }
+    let mut i: usize = 0;
+    while i < count {
+        if numbers.len() <= i {
+            return;
+        }
+        if 0 < i {
+            space();
+        }
+        short(numbers[i]);
+        i += 1;
+    }
+}

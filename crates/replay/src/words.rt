@@ -1,0 +1,249 @@
+// The words of a line: a name, then numbers with one space before each, then a line feed.
+ghost use Prim.Native.Nat.{_≤_};
+ghost use lib.ListN.{length};
+
+// A number of 16 bits and the place behind it, or no such number.
+pub enum Natural {
+    Read(u16, usize),
+    Nothing,
+}
+
+// A number of 32 bits and the place behind it, or no such number.
+pub enum Wide {
+    Read(u32, usize),
+    Nothing,
+}
+
+// A number of 16 signed bits and the place behind it, or no such number.
+pub enum Short {
+    Read(i16, usize),
+    Nothing,
+}
+
+// A number of 32 signed bits and the place behind it, or no such number.
+pub enum Long {
+    Read(i32, usize),
+    Nothing,
+}
+
+// Digits read as a number, and the place behind them; or no digit, or too many.
+enum Digits {
+    Read(u64, usize),
+    Nothing,
+}
+
+// A number with a sign, and the place behind it: `Negative(n, _)` is -1 - n.
+enum Signed {
+    Positive(u64, usize),
+    Negative(u64, usize),
+    Nothing,
+}
+
+// The numbers behind a question's name: how many were read, into the first places of `values`; the place behind them; and
+// whether the line holds as many as were wanted and no more.
+pub struct Numbers {
+    pub values: [u16; 6],
+    pub read: usize,
+    pub end: usize,
+    pub whole: bool,
+}
+
+// Whether there is a byte at a place, and it is the one asked for.
+pub fn is_at(line: &[u8], at: usize, byte: u8) -> bool {
+    if line.len() <= at {
+        return false;
+    }
+    line[at] == byte
+}
+
+// Where the first word ends: at a space, at the line feed, or at the end.
+pub fn word_end(line: &[u8]) -> usize
+    ensures { λ r. ⌜ r ≤ length (now (line .entry)) ⌝ }
+{
+    let mut at: usize = 0;
+    while at < line.len() {
+        let byte = line[at];
+        if byte == b' ' {
+            return at;
+        }
+        if byte == b'\n' {
+            return at;
+        }
+        at += 1;
+    }
+    at
+}
+
+// The digits from a place on, at most eleven.
+fn digits_at(line: &[u8], from: usize) -> Digits {
+    let mut value: u64 = 0;
+    let mut at = from;
+    while at < line.len() {
+        let byte = line[at];
+        if byte < b'0' {
+            return digits_read(value, from, at);
+        }
+        if b'9' < byte {
+            return digits_read(value, from, at);
+        }
+        if 4294967295 < value {
+            return Digits::Nothing;
+        }
+        value = 10 * value + (byte - b'0') as u64;
+        at += 1;
+    }
+    digits_read(value, from, at)
+}
+
+// At least one digit was read.
+fn digits_read(value: u64, from: usize, at: usize) -> Digits {
+    if at <= from {
+        return Digits::Nothing;
+    }
+    Digits::Read(value, at)
+}
+
+// The number of 16 bits behind a space at a place.
+pub fn natural_after(line: &[u8], at: usize) -> Natural {
+    if line.len() <= at {
+        return Natural::Nothing;
+    }
+    if line[at] != b' ' {
+        return Natural::Nothing;
+    }
+    match digits_at(line, at + 1) {
+        Digits::Nothing => Natural::Nothing,
+        Digits::Read(value, next) => {
+            if 65535 < value {
+                return Natural::Nothing;
+            }
+            Natural::Read(value as u16, next)
+        }
+    }
+}
+
+// The number of 32 bits behind a space at a place.
+pub fn wide_after(line: &[u8], at: usize) -> Wide {
+    if line.len() <= at {
+        return Wide::Nothing;
+    }
+    if line[at] != b' ' {
+        return Wide::Nothing;
+    }
+    match digits_at(line, at + 1) {
+        Digits::Nothing => Wide::Nothing,
+        Digits::Read(value, next) => {
+            if 4294967295 < value {
+                return Wide::Nothing;
+            }
+            Wide::Read(value as u32, next)
+        }
+    }
+}
+
+// The number behind a space at a place, with a minus before it where it is below 0.
+fn signed_after(line: &[u8], at: usize) -> Signed {
+    if line.len() <= at {
+        return Signed::Nothing;
+    }
+    if line[at] != b' ' {
+        return Signed::Nothing;
+    }
+    let first = at + 1;
+    if line.len() <= first {
+        return Signed::Nothing;
+    }
+    if line[first] == b'-' {
+        return below_zero(digits_at(line, first + 1));
+    }
+    match digits_at(line, first) {
+        Digits::Nothing => Signed::Nothing,
+        Digits::Read(value, next) => Signed::Positive(value, next),
+    }
+}
+
+// The number with a minus before it; there is no -0.
+fn below_zero(digits: Digits) -> Signed {
+    match digits {
+        Digits::Nothing => Signed::Nothing,
+        Digits::Read(value, next) => {
+            if value == 0 {
+                return Signed::Nothing;
+            }
+            Signed::Negative(value - 1, next)
+        }
+    }
+}
+
+// The number of 16 signed bits behind a space at a place.
+pub fn short_after(line: &[u8], at: usize) -> Short {
+    match signed_after(line, at) {
+        Signed::Nothing => Short::Nothing,
+        Signed::Positive(value, next) => {
+            if 32767 < value {
+                return Short::Nothing;
+            }
+            Short::Read(value as i16, next)
+        }
+        Signed::Negative(value, next) => {
+            if 32767 < value {
+                return Short::Nothing;
+            }
+            let mirror = value as i16;
+            Short::Read(-1 - mirror, next)
+        }
+    }
+}
+
+// The number of 32 signed bits behind a space at a place.
+pub fn long_after(line: &[u8], at: usize) -> Long {
+    match signed_after(line, at) {
+        Signed::Nothing => Long::Nothing,
+        Signed::Positive(value, next) => {
+            if 2147483647 < value {
+                return Long::Nothing;
+            }
+            Long::Read(value as i32, next)
+        }
+        Signed::Negative(value, next) => {
+            if 2147483647 < value {
+                return Long::Nothing;
+            }
+            let mirror = value as i32;
+            Long::Read(-1 - mirror, next)
+        }
+    }
+}
+
+// The numbers of a line behind its name, `count` of them and at most 6.
+pub fn numbers_after(line: &[u8], from: usize, count: usize) -> Numbers {
+    let mut values: [u16; 6] = [0; 6];
+    let mut at = from;
+    let mut i: usize = 0;
+    while i < 6 {
+        if count <= i {
+            break;
+        }
+        match natural_after(line, at) {
+            Natural::Nothing => {
+                return Numbers {
+                    values,
+                    read: i,
+                    end: at,
+                    whole: false,
+                };
+            }
+            Natural::Read(value, next) => {
+                values[i] = value;
+                at = next;
+                i += 1;
+            }
+        }
+    }
+    Numbers {
+        values,
+        read: i,
+        end: at,
+        whole: is_at(line, at, b'\n'),
+    }
+}

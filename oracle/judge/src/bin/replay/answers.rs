@@ -1,0 +1,391 @@
+//! The answer to each question, as the program `replay` has to print it: what the
+//! original says, or the refusal that document 01 gives. Where the two
+//! contradict each other, the list is not made.
+
+use std::fmt::Display;
+use std::fmt::Write;
+
+use judge::asking::Answer;
+use judge::layouts;
+use judge::numbers;
+use judge::patterns;
+use judge::patterns::Pattern;
+use judge::spelling;
+use judge::spelling::Accidentals;
+use tune::layout::IsomorphicLayout;
+use tune::layout::Layer;
+use tune::pergen::AccidentalsFormat;
+use tune::pergen::Mos;
+use tune::pergen::PerGen;
+
+use crate::document;
+use crate::document::Refusal;
+use crate::questions::FreePergen;
+use crate::questions::Layout;
+use crate::questions::OfLayout;
+use crate::questions::OfPattern;
+use crate::questions::Question;
+use crate::questions::pattern_text;
+
+/// Why there is no answer.
+enum Absent {
+    /// Document 01 refuses it.
+    Refused(Refusal),
+    /// The original overflows where document 01 has an answer, so nobody is
+    /// there to say which: docs/DIFFERENCES.md lists the classes.
+    Overflow,
+}
+
+impl From<Refusal> for Absent {
+    fn from(number: Refusal) -> Self {
+        Self::Refused(number)
+    }
+}
+
+type Text = Result<String, Absent>;
+
+/// The answer's lines, or `None` where the original overflows.
+pub fn answer(question: &Question) -> Option<String> {
+    match text(question) {
+        Ok(mut text) => {
+            // A table ends its own lines.
+            if !matches!(question, Question::Table(_)) {
+                text.push('\n');
+            }
+            Some(text)
+        }
+        Err(Absent::Refused(number)) => Some(format!("refused {number}\n")),
+        Err(Absent::Overflow) => None,
+    }
+}
+
+fn text(question: &Question) -> Text {
+    match question {
+        Question::Gcd(x, y) => given(numbers::gcd(*x, *y)).map(|gcd| gcd.to_string()),
+        Question::Simplify(x, y) => {
+            given(numbers::simplified(*x, *y)).map(|(numer, denom)| format!("{numer} {denom}"))
+        }
+        Question::Odd(x) => given(numbers::odd_factors(*x)).map(|odd| odd.to_string()),
+        Question::Divide16(numer, denom) => {
+            let refusal = document::period_refusal((*denom).into());
+            settled(refusal, numbers::divided(*numer, *denom)).map(divided_text)
+        }
+        Question::Divide32(numer, denom) => {
+            let refusal = document::period_refusal(*denom);
+            settled(refusal, numbers::divided(*numer, *denom)).map(divided_text)
+        }
+        Question::Pergen(pergen) => pergen_text(&created(*pergen)?),
+        Question::Generation(pergen, key) => given(spelling::generation(&created(*pergen)?, *key))
+            .map(|generation| format!("{} {}", generation.degree, or_dash(generation.cycle))),
+        Question::Accidentals {
+            pergen,
+            num_symbols,
+            genchain_origin,
+            key,
+        } => {
+            let (num_symbols, genchain_origin) = (*num_symbols, *genchain_origin);
+            accepted(document::format_refusal(
+                pergen.period,
+                num_symbols,
+                genchain_origin,
+            ))?;
+            let format = AccidentalsFormat {
+                num_symbols,
+                genchain_origin,
+            };
+            given(spelling::accidentals(&created(*pergen)?, &format, *key)).map(spelling_text)
+        }
+        Question::NewGenesis(pergen) => {
+            let refusal = document::period_refusal(pergen.period.into());
+            let genesis = patterns::create_genesis(pergen.period, pergen.generator);
+            settled(refusal, genesis).map(mos_text)
+        }
+        Question::NewCollapsed(large, small) => {
+            given(patterns::create_collapsed(*large, *small)).map(mos_text)
+        }
+        Question::OfPattern(asked, pattern) => of_pattern(*asked, *pattern),
+        Question::GetKey(pattern, primary, secondary) => {
+            let mos = created_pattern(*pattern)?;
+            given(patterns::key(mos, *primary, *secondary)).map(|key| key.to_string())
+        }
+        Question::Chain(code) => match layouts::chain(*code) {
+            Some(chain) => Ok(chain.to_string()),
+            None => Err(Absent::Refused(1)),
+        },
+        Question::OfLayout(asked, layout) => of_layout(*asked, &created_layout(*layout)?),
+        Question::Spelling(layout, key) => {
+            given(layouts::accidentals(&created_layout(*layout)?, *key)).map(spelling_text)
+        }
+        Question::Name(layout, key) => given(layouts::note_name(&created_layout(*layout)?, *key)),
+        Question::Table(line) => table_text(line),
+        Question::Unreadable(_) => Ok("?".to_owned()),
+    }
+}
+
+/// The document refuses nothing.
+fn accepted(refusal: Option<Refusal>) -> Result<(), Absent> {
+    match refusal {
+        Some(number) => Err(number.into()),
+        None => Ok(()),
+    }
+}
+
+/// What the original answers to a question that the document does not refuse.
+fn given<T>(answer: Answer<T>) -> Result<T, Absent> {
+    match answer {
+        Ok(value) => Ok(value),
+        Err(panicked) if panicked.message.contains("overflow") => Err(Absent::Overflow),
+        Err(panicked) => unreachable!("document 01 has an answer; the original {panicked}"),
+    }
+}
+
+/// A question that the original panics at wherever the document refuses it.
+fn settled<T>(refusal: Option<Refusal>, answer: Answer<T>) -> Result<T, Absent> {
+    match (refusal, answer) {
+        (None, answer) => given(answer),
+        (Some(number), Err(_)) => Err(number.into()),
+        (Some(number), Ok(_)) => {
+            unreachable!("document 01 refuses with {number}; the original has an answer")
+        }
+    }
+}
+
+fn created(asked: FreePergen) -> Result<PerGen, Absent> {
+    let refusal = document::period_refusal(asked.period.into());
+    settled(refusal, spelling::create(asked.period, asked.generator))
+}
+
+fn created_pattern(pattern: Pattern) -> Result<Mos, Absent> {
+    match (
+        document::pattern_refusal(pattern),
+        patterns::create(pattern),
+    ) {
+        (None, Ok(Some(mos))) => Ok(mos),
+        (Some(number), Ok(None)) => Err(number.into()),
+        (refusal, answer) => {
+            unreachable!("document 01 refuses with {refusal:?}; the original: {answer:?}")
+        }
+    }
+}
+
+/// The original knows the chains by name, so it cannot be asked for a code above 5.
+fn created_layout(layout: Layout) -> Result<IsomorphicLayout, Absent> {
+    let refusal = document::layout_refusal(layout);
+    let Some(chain) = layouts::chain(layout.code) else {
+        accepted(refusal)?;
+        unreachable!("document 01 has no chain of code {}", layout.code);
+    };
+    match (
+        refusal,
+        layouts::create(chain, layout.octave, layout.tritave),
+    ) {
+        (None, Ok(Some(layout))) => Ok(layout),
+        (Some(number), Ok(None)) => Err(number.into()),
+        // The original divides by an octave of 0.
+        (Some(2), Err(_)) => Err(Absent::Refused(2)),
+        (refusal, answer) => unreachable!(
+            "{layout}: document 01 refuses with {refusal:?}; the original has a layout: {:?}",
+            answer.map(|layout| layout.is_some())
+        ),
+    }
+}
+
+fn of_pattern(asked: OfPattern, pattern: Pattern) -> Text {
+    let mos = created_pattern(pattern)?;
+    match asked {
+        OfPattern::Numbers => given(patterns::derived(mos)).map(|derived| {
+            format!(
+                "{} {} {} {} {}",
+                derived.sharpness,
+                derived.num_steps,
+                derived.size,
+                derived.num_cycles,
+                derived.reduced_size
+            )
+        }),
+        OfPattern::Child => given(patterns::child(mos)).map(mos_or_none),
+        OfPattern::Parent => given(patterns::parent(mos)).map(mos_or_none),
+        OfPattern::Genesis => given(patterns::genesis(mos)).map(mos_text),
+        OfPattern::Dual => given(patterns::dual(mos)).map(mos_text),
+        OfPattern::Mirror => given(patterns::mirror(mos)).map(mos_text),
+        OfPattern::Coprime => {
+            settled(document::coprime_refusal(pattern), patterns::coprime(mos)).map(mos_text)
+        }
+        OfPattern::Children => given(patterns::children(mos)).map(walk_text),
+        OfPattern::Parents => given(patterns::parents(mos)).map(walk_text),
+        OfPattern::LayerSizes => {
+            given(patterns::layers(mos)).map(|layers| words(patterns::layer_sizes(&layers)))
+        }
+        OfPattern::Layers => given(patterns::layers(mos)).map(words),
+    }
+}
+
+fn of_layout(asked: OfLayout, layout: &IsomorphicLayout) -> Text {
+    match asked {
+        OfLayout::Numbers => {
+            let pergen = pergen_text(layout.pergen())?;
+            let pattern = mos_text(layout.mos());
+            let scale = given(layouts::scale_name(layout))?;
+            Ok(format!("{scale} {pergen} {pattern}"))
+        }
+        OfLayout::Names => {
+            let names: Result<Vec<String>, Absent> = (0..layout.pergen().period())
+                .map(|key| given(layouts::note_name(layout, key)))
+                .collect();
+            Ok(words(names?))
+        }
+        OfLayout::KeyLayers => {
+            given(layouts::layers(layout)).map(|layers| words(layers.into_iter().map(layer_text)))
+        }
+        OfLayout::Lamps => lamps(layout).map(words),
+    }
+}
+
+/// The codes of the octave's keys, by the layers that the original gives them.
+fn lamps(layout: &IsomorphicLayout) -> Result<Vec<u8>, Absent> {
+    let layers = given(layouts::layers(layout))?;
+    let octave = usize::from(layout.pergen().period());
+    Ok(document::lamps(&layers[..octave])?)
+}
+
+/// All that the key table program prints for a line.
+fn table_text(line: &str) -> Text {
+    let layout = created_layout(document::parsed_line(line)?)?;
+    let mut text = String::new();
+    for (key, lamp) in (0..).zip(lamps(&layout)?) {
+        let name = given(layouts::note_name(&layout, key))?;
+        writeln!(text, "{key} {name} {lamp}").expect("a string takes any text");
+    }
+    Ok(text)
+}
+
+fn divided_text<D: Display>((quotient, remainder): (i32, D)) -> String {
+    format!("{quotient} {remainder}")
+}
+
+fn pergen_text(pergen: &PerGen) -> Text {
+    let derived = given(spelling::derived(pergen))?;
+    Ok(format!(
+        "{} {} {} {} {}",
+        pergen.period(),
+        pergen.generator(),
+        derived.num_cycles,
+        derived.reduced_period,
+        derived.inverse
+    ))
+}
+
+fn spelling_text(spelt: Accidentals) -> String {
+    format!(
+        "{} {} {} {} {}",
+        spelt.sharp_index,
+        spelt.sharp_count,
+        spelt.flat_index,
+        spelt.flat_count,
+        or_dash(spelt.cycle)
+    )
+}
+
+fn layer_text(layer: Layer) -> String {
+    match layer {
+        Layer::Natural => "n".to_owned(),
+        Layer::Sharp(level) => format!("s{level}"),
+        Layer::Enharmonic(level) => format!("e{level}"),
+        Layer::Flat(level) => format!("f{level}"),
+    }
+}
+
+fn mos_text(mos: Mos) -> String {
+    pattern_text(mos.into())
+}
+
+fn mos_or_none(mos: Option<Mos>) -> String {
+    mos.map(mos_text).unwrap_or_else(|| "none".to_owned())
+}
+
+fn walk_text(walk: Vec<Mos>) -> String {
+    words(walk.into_iter().map(mos_text))
+}
+
+fn words<T: Display>(values: impl IntoIterator<Item = T>) -> String {
+    let words: Vec<String> = values.into_iter().map(|value| value.to_string()).collect();
+    if words.is_empty() {
+        "-".to_owned()
+    } else {
+        words.join(" ")
+    }
+}
+
+fn or_dash(value: Option<u16>) -> String {
+    value
+        .map(|value| value.to_string())
+        .unwrap_or_else(|| "-".to_owned())
+}
+
+#[cfg(test)]
+mod tests {
+    use super::*;
+
+    fn table(line: &str) -> Option<String> {
+        answer(&Question::Table(line.to_owned()))
+    }
+
+    #[test]
+    fn the_printed_table() {
+        assert_eq!(
+            table("1 12 19").as_deref(),
+            Some(
+                "\
+0 D 0
+1 D#/Eb 255
+2 E 1
+3 F 1
+4 F#/Gb 255
+5 G 1
+6 G#/Ab 255
+7 A 1
+8 A#/Bb 255
+9 B 1
+10 C 1
+11 C#/Db 255
+"
+            )
+        );
+    }
+
+    #[test]
+    fn refused_tables() {
+        for (line, number) in [
+            ("6 12 19", 1),
+            ("1 0 19", 2),
+            ("3 12 19", 3),
+            ("0 12 19", 4),
+            ("1 2400 3800", 9),
+            ("1 12", 14),
+        ] {
+            assert_eq!(table(line), Some(format!("refused {number}\n")), "{line}");
+        }
+    }
+
+    #[test]
+    fn a_strip() {
+        let layout = Layout {
+            code: 1,
+            octave: 7,
+            tritave: 11,
+        };
+        assert_eq!(
+            answer(&Question::OfLayout(OfLayout::Lamps, layout)).as_deref(),
+            Some("0 1 255 255 255 255 1\n")
+        );
+    }
+
+    #[test]
+    fn an_overflow_is_no_answer() {
+        let pergen = FreePergen {
+            period: 32_770,
+            generator: 32_769,
+        };
+        assert_eq!(answer(&Question::Generation(pergen, 65_535)), None);
+    }
+}
