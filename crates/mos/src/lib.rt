@@ -262,7 +262,7 @@ impl Mos {
             if out.len() < len {
                 return CountAnswer::Refused(Refusal::Room);
             }
-            walks::list_children(self, out, patterns);
+            walks::list_children(self, out, 0);
             return CountAnswer::Given(len);
         }
         CountAnswer::Refused(Refusal::Size)
@@ -278,7 +278,7 @@ impl Mos {
             if out.len() < len {
                 return CountAnswer::Refused(Refusal::Room);
             }
-            walks::list_parents(self, out, patterns);
+            walks::list_parents(self, out, 0);
             return CountAnswer::Given(len);
         }
         CountAnswer::Refused(Refusal::Size)

@@ -1,8 +1,6 @@
 -- Questions 7 and 10, then the listing at the front.
 use mathlib.Core.Path.{sym, _∙_}
 use Rattle.mos.specs.Walks.{children}
-use Rattle.mos.proofs.Sequences.{children-some}
-use Rattle.mos.proofs.Blocks.{whole-listable}
 use Rattle.mos.proofs.Listings.{listing-no-pattern, listing-no-room, listing-room, listing-given}
 use borrow.Author.Needs.{needs}
 use Rattle.mos.proofs.Mos.children.Statement.{statement}
@@ -30,9 +28,8 @@ list-children-requires c κs =
     let counted = c .before .before .count-children .ensures in
     let tested = c .before .before .before .before .is-pattern .ensures in
     let taken = c .before .before .before .if1 .taken in (
-      counted,
-      whole-listable (children m) m (start .args .out .now) 0 (sym tested ∙ taken) (children-some m) counted
-          (listing-room m (children m) (start .args .out .now) _ tested taken counted (c .before .if2 .left)),
+      sym tested ∙ taken,
+      listing-room m (children m) (start .args .out .now) _ tested taken counted (c .before .if2 .left),
     )
 
 same-length : tie.Need-same-length
