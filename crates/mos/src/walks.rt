@@ -10,6 +10,7 @@ ghost use mathlib.Core.Bool.{true};
 ghost use mathlib.Core.Option.{some};
 ghost use Prim.Native.Nat.{_+_, _≤_};
 ghost use lib.ListN.{length, getElem?};
+ghost use lib.Dec.{leb};
 ghost use Rattle.answer.specs.Writing.{Room, Wrote};
 ghost use Rattle.mos.specs.Patterns.{isPattern, countOf, stepsOf};
 ghost use Rattle.mos.specs.Parts.{met, Listing};
@@ -115,6 +116,30 @@ pub fn count_parents(m: Mos) -> u32
     ensures { λ r. ⌜ r ≡ length (parents m) ⌝ }
 {
     count_children(parts::dual_of(m))
+}
+
+// Do so many numbers hold the walk of children? There are no more children than the steps' sum, so a long slice needs no count.
+pub fn children_fit(m: Mos, room: usize) -> bool
+    requires { ⌜ isPattern m ≡ true ⌝ }
+    ensures { λ r. ⌜ r ≡ leb (length (listed (children m))) room ⌝ }
+{
+    let most = (m.primary_step as usize + m.secondary_step as usize + 1) * 4;
+    if most <= room {
+        return true;
+    }
+    count_children(m) as usize * 4 <= room
+}
+
+// Do so many numbers hold the walk of parents? There are no more parents than steps.
+pub fn parents_fit(m: Mos, room: usize) -> bool
+    requires { ⌜ isPattern m ≡ true ⌝ }
+    ensures { λ r. ⌜ r ≡ leb (length (listed (parents m))) room ⌝ }
+{
+    let most = (m.num_primary_steps as usize + m.num_secondary_steps as usize + 1) * 4;
+    if most <= room {
+        return true;
+    }
+    count_parents(m) as usize * 4 <= room
 }
 
 // The four numbers of a pattern at a place; the place after them.
