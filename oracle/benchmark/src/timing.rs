@@ -11,27 +11,38 @@ pub type Work<'a> = Box<dyn FnMut() -> usize + 'a>;
 /// A round repeats the work until it takes at least this long.
 const ROUND: Duration = Duration::from_millis(4);
 
-/// Seconds of one run of the work.
+/// Seconds of one run of the work, the least that was seen.
 #[derive(Clone, Copy)]
 pub struct Times {
     pub ours: f64,
     pub theirs: f64,
 }
 
-/// The best of so many rounds for each side.
-pub fn best_of(rounds: usize, mut ours: Work, mut theirs: Work) -> Times {
-    let our_repeats = repeats(&mut ours);
-    let their_repeats = repeats(&mut theirs);
+impl Times {
+    /// Before anything was seen.
+    pub const NONE: Self = Self {
+        ours: f64::INFINITY,
+        theirs: f64::INFINITY,
+    };
+
+    fn least(self, other: Self) -> Self {
+        Self {
+            ours: self.ours.min(other.ours),
+            theirs: self.theirs.min(other.theirs),
+        }
+    }
+}
+
+/// The best of so many rounds for each side, and of what was seen before.
+pub fn best_of(rounds: usize, seen: Times, ours: &mut Work, theirs: &mut Work) -> Times {
+    let our_repeats = repeats(ours);
+    let their_repeats = repeats(theirs);
     (0..rounds)
         .map(|_| Times {
-            ours: round(&mut ours, our_repeats),
-            theirs: round(&mut theirs, their_repeats),
+            ours: round(ours, our_repeats),
+            theirs: round(theirs, their_repeats),
         })
-        .reduce(|best, next| Times {
-            ours: best.ours.min(next.ours),
-            theirs: best.theirs.min(next.theirs),
-        })
-        .expect("there is at least one round")
+        .fold(seen, Times::least)
 }
 
 /// How often the work is repeated in a round. This also warms caches up.
