@@ -1,5 +1,5 @@
 -- Where a key's name is due: behind the pairs and the names before it, at a place that fits 32 bits; and the pair that says so.
-use Prim.Native.Nat.{ℕ, _+_, _*_, _≤_, _<_}
+use Prim.Native.Nat.{ℕ, _+_, _*_, _-_, _≤_, _<_}
 use native.Mathlib.Omega.{arith}
 use mathlib.Core.Path.{_≡_, refl, sym, ap, ap₂, _∙_}
 use mathlib.Core.List.{List, _++_}
@@ -20,17 +20,20 @@ pub record Due (s : Speller) (keys k offset : ℕ) : Type 0 where
 pub due-none : (s : Speller) (keys : ℕ) → Due s keys 0 (4 + 8 * keys)
 due-none s keys = record { is = omega (arith, ap length (joined-none (nameOf s))); small = omega arith }
 
-pub due-more : (s : Speller) → Sound s → (keys k offset m : ℕ) → Due s keys k offset → m ≡ length (nameOf s k)
-    → Due s keys (k + 1) (offset + m)
-due-more s h keys k offset m w e =
-    record { is = omega (arith, w .is, length-joined-more (nameOf s) k); small = omega (arith, w .small, name-short s h k) }
-
 -- the pair of a key whose name is due there
 pub numbers-pair : (s : Speller) (keys k offset m : ℕ) → Due s keys k offset → m ≡ length (nameOf s k)
     → numbersText offset m ≡ pairText (nameOf s) keys k
 unfolding numbersText
 numbers-pair s keys k offset m w e =
     ap₂ (λ (x y : ℕ). le32 x ++ le32 y) (w .is) e ∙ sym (pair-is (nameOf s) keys k)
+
+-- a name that was put where it is due: its pair, and where the next one is due
+module _ (s : Speller) (keys k offset next : ℕ) (w : Due s keys k offset) (e : next ≡ offset + length (nameOf s k)) where
+  pub due-after : Sound s → Due s keys (k + 1) next
+  due-after h = record { is = omega (arith, w .is, length-joined-more (nameOf s) k); small = omega (arith, w .small, name-short s h k) }
+
+  pub due-pair : numbersText offset (next - offset) ≡ pairText (nameOf s) keys k
+  due-pair = numbers-pair s keys k offset (next - offset) w (omega (arith, e))
 
 pub length-numbers : (x y : ℕ) → length (numbersText x y) ≡ 8
 unfolding numbersText

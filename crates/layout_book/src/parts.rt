@@ -20,6 +20,7 @@ use pergen::stepping;
 use pergen::stepping::Step;
 ghost use mathlib.Core.Path.{_≡_};
 ghost use Prim.Native.Nat.{_+_, _*_, _<_, _≤_};
+ghost use mathlib.Core.List.{_++_};
 ghost use lib.ListN.{length};
 ghost use Rattle.answer.specs.Lent.{heldIn, Filled};
 ghost use Rattle.answer.specs.Refusals.{countOutcome};
@@ -123,41 +124,25 @@ fn put_pair(out: &mut [u8], at: usize, offset: u32, bytes: u32) -> usize
     put_u32(out, next, bytes)
 }
 
-// A pair for each key; the place after the last.
-fn put_pairs(out: &mut [u8], at: usize, speller: Speller, keys: u16) -> usize
-    requires { ⌜ Sound speller × Room (now out) at (joined (pairText (nameOf speller) keys) keys) ⌝ }
-    ensures { λ r. ⌜ Wrote (now (out .entry)) at (joined (pairText (nameOf speller) keys) keys) (now (out .exit)) r ⌝ }
+// The pairs and the names of the first keys, side by side: a pair says where its name was put. The place after the last name.
+fn put_entries(out: &mut [u8], speller: Speller, keys: u16) -> usize
+    requires { ⌜ Sound speller × Room (now out) 4 (joined (pairText (nameOf speller) keys) keys ++ joined (nameOf speller) keys) ⌝ }
+    ensures { λ r. ⌜ Wrote (now (out .entry)) 4 (joined (pairText (nameOf speller) keys) keys ++ joined (nameOf speller) keys) (now (out .exit)) r ⌝ }
 {
     let solved = speller.solved;
-    let mut place = at;
-    let mut offset = 4 + 8 * (keys as u32);
+    let mut pair: usize = 4;
+    let mut text = 4 + 8 * (keys as usize);
     let mut step = stepping::first(solved);
     let mut key: u16 = 0;
     while key < keys {
-        let bytes = plans::plan_length(plan_at(speller, step)) as u32;
-        place = put_pair(out, place, offset, bytes);
-        offset += bytes;
+        let plan = plan_at(speller, step);
+        let next = texts::put_name(out, text, plan);
+        pair = put_pair(out, pair, text as u32, (next - text) as u32);
+        text = next;
         step = stepping::next(solved, step);
         key += 1;
     }
-    place
-}
-
-// The names of the first keys; the place after the last.
-fn put_names(out: &mut [u8], at: usize, speller: Speller, keys: u16) -> usize
-    requires { ⌜ Sound speller × Room (now out) at (joined (nameOf speller) keys) ⌝ }
-    ensures { λ r. ⌜ Wrote (now (out .entry)) at (joined (nameOf speller) keys) (now (out .exit)) r ⌝ }
-{
-    let solved = speller.solved;
-    let mut place = at;
-    let mut step = stepping::first(solved);
-    let mut key: u16 = 0;
-    while key < keys {
-        place = texts::put_name(out, place, plan_at(speller, step));
-        step = stepping::next(solved, step);
-        key += 1;
-    }
-    place
+    text
 }
 
 // The count, the pairs and the names of the first keys; the place after them.
@@ -165,9 +150,8 @@ fn put_book(out: &mut [u8], speller: Speller, keys: u16) -> usize
     requires { ⌜ Sound speller × Room (now out) 0 (bookText (nameOf speller) keys) ⌝ }
     ensures { λ r. ⌜ Wrote (now (out .entry)) 0 (bookText (nameOf speller) keys) (now (out .exit)) r ⌝ }
 {
-    let pairs = put_u32(out, 0, keys as u32);
-    let text = put_pairs(out, pairs, speller, keys);
-    put_names(out, text, speller, keys)
+    put_u32(out, 0, keys as u32);
+    put_entries(out, speller, keys)
 }
 
 // The book of the first keys at the front of a slice that holds it (10).

@@ -1,4 +1,5 @@
 pub mod RunPlaces
+pub mod BandLaws
 pub mod PlanLaws
 pub mod Calls
 pub mod Theorems

@@ -31,11 +31,12 @@ use Rattle.layers.proofs.Answers.{RunsOf}
 use Rattle.layout.specs.Layouts.{Layout, lettersOf, Accepted}
 use Rattle.layout.proofs.Finding.{Parts, accepted}
 use Rattle.layout.proofs.PatternShape.{PatternShape, pattern-shape}
+use Rattle.layout_layers.specs.declared.parts.Bands.{Bands}
 use Rattle.layout_layers.specs.declared.parts.Plan.{Plan}
 use Rattle.layout_layers.specs.declared.Layer.{Layer}
 use Rattle.layout_layers.specs.declared.Layer.the-variants.{Natural, Sharp, Enharmonic, Flat}
 use Rattle.layout_layers.specs.KeyLayers.{equalized, entryCount, listedLayer, alternating, alternateLayer, layerOf, layerNumber, keyLayers, layerCount, kindOf, numberIn, layersIn, countIn}
-use Rattle.layout_layers.specs.Parts.{runLayer, layersOfPlan, Sound, PlanOf, planLayer, turnLayer, planNumber, following, turnNumbers, turnsOf, planLayers}
+use Rattle.layout_layers.specs.Parts.{BandsOf, runLayer, layersOfPlan, Sound, PlanOf, planLayer, turnLayer, planNumber, following, turnNumbers, turnsOf, planLayers}
 use Rattle.layout_layers.proofs.RunPlaces.{numbered-below}
 
 -- ---- what the code tests
@@ -182,11 +183,16 @@ solved-number : (P G : ℕ) (s : Solved) → s ≡ solvedOf P G → s .«num_cyc
 unfolding solvedOf
 solved-number P G s e = ap (λ (x : Solved). x .«num_cycles») e
 
-abbrev planWith : Layout → Solved → Runs → ℕ → ChainRow → Plan
-planWith l s runs h row =
+reduced-fits : (P G : ℕ) → reduced P G ≤ P
+unfolding reduced
+reduced-fits P G = div-le-self P (cycles P G)
+
+abbrev planWith : Layout → Solved → Runs → Bands → ℕ → ChainRow → Plan
+planWith l s runs bands h row =
     record {
       solved = s;
       runs = runs;
+      bands = bands;
       offset = h;
       start = row .start;
       letters = row .«num_letters»;
@@ -216,31 +222,36 @@ module _ (code P tritave : ℕ) (l : Layout) (ok : Accepted code P tritave l) wh
         omega (arith, row-start-is code row chosen, plan-shape .start-below, plan-shape .at-most-nine),
       )
 
-      module _ (runs : Runs) (runs-are : RunsOf (l .pattern) runs) (h : ℕ)
-          (offset : (h ≡ l .generator * row .start / s .«num_cycles») × (h ≤ 524280)) where
-        runs-sum : sum (runSizes runs) ≡ s .«reduced_period»
-        runs-sum =
-            ap sum runs-are
-            ∙ all-sum (primaries (l .pattern)) (secondaries (l .pattern)) (primary (l .pattern) / cyclesOf (l .pattern)) (secondary (l .pattern) / cyclesOf (l .pattern))
-            ∙ sym (Sums.reduced-is (l .pattern))
-            ∙ plan-shape .reduced-is
-            ∙ sym (solved-period P (l .generator) s solved)
+      runs-sum : (runs : Runs) → RunsOf (l .pattern) runs → sum (runSizes runs) ≡ s .«reduced_period»
+      runs-sum runs runs-are =
+          ap sum runs-are
+          ∙ all-sum (primaries (l .pattern)) (secondaries (l .pattern)) (primary (l .pattern) / cyclesOf (l .pattern)) (secondary (l .pattern) / cyclesOf (l .pattern))
+          ∙ sym (Sums.reduced-is (l .pattern))
+          ∙ plan-shape .reduced-is
+          ∙ sym (solved-period P (l .generator) s solved)
 
+      pub runs-fit : (runs : Runs) → RunsOf (l .pattern) runs → sum (runSizes runs) ≤ 65535
+      runs-fit runs runs-are =
+          omega (arith, runs-sum runs runs-are, solved-period P (l .generator) s solved, reduced-fits P (l .generator))
+
+      module _ (runs : Runs) (runs-are : RunsOf (l .pattern) runs) (bands : Bands) (bands-are : BandsOf runs bands) (h : ℕ)
+          (offset : (h ≡ l .generator * row .start / s .«num_cycles») × (h ≤ 524280)) where
         layers-few : pick (eqb (primary (l .pattern)) (secondary (l .pattern))) 2 (length (dropEmpty (runSizes runs))) ≤ s .«reduced_period»
         layers-few =
             pick-most (eqb (primary (l .pattern)) (secondary (l .pattern))) 2 (length (dropEmpty (runSizes runs))) (s .«reduced_period»)
             (omega (arith, plan-shape .at-least-five, plan-shape .enough-keys, solved-period P (l .generator) s solved))
-            (omega (arith, few (runSizes runs), runs-sum))
+            (omega (arith, few (runSizes runs), runs-sum runs runs-are))
 
-        sound-plan : Sound (planWith l s runs h row)
+        sound-plan : Sound (planWith l s runs bands h row)
         sound-plan =
             record {
               walkable = walkable P (l .generator) (plan-parts .positive) s solved;
               start-below = omega (arith, row-start-is code row chosen, plan-shape .start-below, plan-shape .enough-keys, solved-period P (l .generator) s solved);
-              runs-fill = runs-sum;
+              runs-fill = runs-sum runs runs-are;
               some-letters = omega (arith, row-letters-are code row chosen, plan-shape .at-least-five);
               few-secondaries = omega (arith, plan-shape .letters, plan-shape .at-most-nine);
               near-offset = offset .1;
+              bands-are = bands-are;
               layers-fit = omega (
                 arith,
                 mul-le-mul-right (s .«num_cycles») layers-few,
@@ -249,7 +260,7 @@ module _ (code P tritave : ℕ) (l : Layout) (ok : Accepted code P tritave l) wh
               );
             }
 
-        pub plan-made : PlanOf code P l (planWith l s runs h row)
+        pub plan-made : PlanOf code P l (planWith l s runs bands h row)
         plan-made =
             record {
               sound = sound-plan;

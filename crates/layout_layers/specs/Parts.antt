@@ -11,15 +11,27 @@ use Rattle.pergen.specs.Pergen.{cycles}
 use Rattle.pergen.specs.Parts.{solvedOf, Walkable}
 use Rattle.layers.specs.declared.Runs.{Runs}
 use Rattle.layers.specs.Layers.{allSizes, dropEmpty, numbered}
-use Rattle.layers.specs.Parts.{runSizes}
+use Rattle.layers.specs.Parts.{runAt, runSizes}
 use Rattle.layers.specs.Theorems.{sum}
 use Rattle.layout.specs.Layouts.{Layout, lettersOf}
+use Rattle.layout_layers.specs.declared.parts.Bands.{Bands}
 use Rattle.layout_layers.specs.declared.parts.Plan.{Plan}
 use Rattle.layout_layers.specs.KeyLayers.{equalized, alternating}
 
 -- The element at a place of the list of layers that eight runs make.
 unfoldable pub runLayer : Runs → ℕ → ℕ
 runLayer runs place = getD (numbered 0 (dropEmpty (runSizes runs))) place 0
+
+-- Each run's place on the list of layers, and the number of its first layer.
+pub record BandsOf (runs : Runs) (bands : Bands) : Type 0 where
+  pub begins-are : (i : ℕ) → i < 8 → getD (bands .begins) i 0 ≡ sum (joined (runAt (runs .sizes) (runs .times)) i)
+  pub firsts-are : (i : ℕ) → i < 8 → getD (bands .firsts) i 0 ≡ length (dropEmpty (joined (runAt (runs .sizes) (runs .times)) i))
+
+-- The run r begins at a place or before it, and the next one behind it.
+pub record RunAt (begins : List ℕ) (place r : ℕ) : Type 0 where
+  pub below : r < 8
+  pub begun : getD begins r 0 ≤ place
+  pub next-behind : r + 1 < 8 → place < getD begins (r + 1) 0
 
 -- How many layers of one cycle a plan has.
 abbrev pub layersOfPlan : Plan → ℕ
@@ -34,6 +46,7 @@ pub record Sound (p : Plan) : Type 0 where
   pub few-secondaries : p .secondaries ≤ 9
   pub near-offset : p .offset ≤ 524280
   pub layers-fit : layersOfPlan p * p .solved .«num_cycles» ≤ 65535
+  pub bands-are : BandsOf (p .runs) (p .bands)
 
 -- The plan of a layout's layers.
 pub record PlanOf (code P : ℕ) (l : Layout) (p : Plan) : Type 0 where

@@ -12,7 +12,7 @@ use pergen::euclid::Solved;
 use pergen::stepping;
 ghost use mathlib.Core.Path.{_≡_};
 ghost use Prim.Native.Nat.{_+_, _*_, _/_, _%_, _<_, _≤_};
-ghost use lib.ListN.{length, replicate};
+ghost use lib.ListN.{length, getD, replicate};
 ghost use Rattle.answer.specs.Writing.{Room, Wrote, joined};
 ghost use Rattle.answer.specs.Lent.{heldIn, Filled};
 ghost use Rattle.answer.specs.Refusals.{countOutcome};
@@ -24,6 +24,8 @@ ghost use Rattle.layout.specs.Layouts.{Accepted};
 ghost use Rattle.layout.specs.Parts.{layoutOf};
 ghost use Rattle.layout_layers.specs.KeyLayers.{alternating};
 ghost use Rattle.layout_layers.specs.Parts.{
+  BandsOf,
+  RunAt,
   runLayer,
   layersOfPlan,
   Sound,
@@ -36,10 +38,17 @@ ghost use Rattle.layout_layers.specs.Parts.{
   planLayers,
 };
 
+// Where each run begins on the list of layers, and the number of its first layer.
+pub struct Bands {
+    pub begins: [u16; 8],
+    pub firsts: [u16; 8],
+}
+
 // What all keys of a layout have in common.
 pub struct Plan {
     pub solved: Solved,
     pub runs: Runs,
+    pub bands: Bands,
     pub offset: u32,
     pub start: u16,
     pub letters: u16,
@@ -55,27 +64,6 @@ fn offset_of(generator: u16, start: u16, cycles: u16) -> u32
     (generator as u32) * (start as u32) / (cycles as u32)
 }
 
-// The plan of an accepted layout.
-pub fn plan_of(layout: IsomorphicLayout, found: Found) -> Plan
-    requires { ⌜ Accepted (layout .genchain) (layout .octave) (layout .tritave) (layoutOf found) ⌝ }
-    ensures { λ r. ⌜ PlanOf (layout .genchain) (layout .octave) (layoutOf found) r ⌝ }
-{
-    let row = rows::row(layout.genchain);
-    let solved = euclid::solve(layout.octave, found.generator);
-    let pattern = found.pattern;
-    let runs = layers::parts::runs_in(pattern);
-    let offset = offset_of(found.generator, row.start, solved.num_cycles);
-    Plan {
-        solved,
-        runs,
-        offset,
-        start: row.start,
-        letters: row.num_letters,
-        secondaries: pattern.num_secondary_steps,
-        equalized: pattern.primary_step == pattern.secondary_step,
-    }
-}
-
 // How many layers a run has; none where they are empty.
 fn layers_in(size: u16, times: u16) -> u16
     ensures { λ r. ⌜ r ≡ length (dropEmpty (replicate times size)) ⌝ }
@@ -86,28 +74,80 @@ fn layers_in(size: u16, times: u16) -> u16
     times
 }
 
-// The layer at a place of the list: the place among the layers of its run.
-pub fn layer_at(runs: Runs, place: u16) -> u16
-    requires { ⌜ (place < sum (runSizes runs)) × (sum (runSizes runs) ≤ 65535) ⌝ }
-    ensures { λ r. ⌜ r ≡ runLayer runs place ⌝ }
+// The bands of eight runs.
+fn bands_of(runs: Runs) -> Bands
+    requires { ⌜ sum (runSizes runs) ≤ 65535 ⌝ }
+    ensures { λ r. ⌜ BandsOf runs r ⌝ }
 {
     let sizes = runs.sizes;
     let times = runs.times;
-    let mut left = place as u32;
-    let mut number: u32 = 0;
+    let mut begins: [u16; 8] = [0, 0, 0, 0, 0, 0, 0, 0];
+    let mut firsts: [u16; 8] = [0, 0, 0, 0, 0, 0, 0, 0];
+    let mut begin: u16 = 0;
+    let mut first: u16 = 0;
     let mut i: usize = 0;
     while i < 8 {
         let size = sizes[i];
         let count = times[i];
-        let span = (size as u32) * (count as u32);
-        if left < span {
-            return (number + left / (size as u32)) as u16;
-        }
-        left -= span;
-        number += layers_in(size, count) as u32;
+        begins[i] = begin;
+        firsts[i] = first;
+        begin += size * count;
+        first += layers_in(size, count);
         i += 1;
     }
-    0
+    Bands { begins, firsts }
+}
+
+// The plan of an accepted layout.
+pub fn plan_of(layout: IsomorphicLayout, found: Found) -> Plan
+    requires { ⌜ Accepted (layout .genchain) (layout .octave) (layout .tritave) (layoutOf found) ⌝ }
+    ensures { λ r. ⌜ PlanOf (layout .genchain) (layout .octave) (layoutOf found) r ⌝ }
+{
+    let row = rows::row(layout.genchain);
+    let solved = euclid::solve(layout.octave, found.generator);
+    let pattern = found.pattern;
+    let runs = layers::parts::runs_in(pattern);
+    let bands = bands_of(runs);
+    let offset = offset_of(found.generator, row.start, solved.num_cycles);
+    Plan {
+        solved,
+        runs,
+        bands,
+        offset,
+        start: row.start,
+        letters: row.num_letters,
+        secondaries: pattern.num_secondary_steps,
+        equalized: pattern.primary_step == pattern.secondary_step,
+    }
+}
+
+// The run that holds a place of the list: the last that begins there or before. Every run is looked at, so that nothing depends on
+// what the processor guesses.
+fn run_at(begins: [u16; 8], place: u16) -> usize
+    requires { ⌜ getD begins 0 0 ≡ 0 ⌝ }
+    ensures { λ r. ⌜ RunAt begins place r ⌝ }
+{
+    let mut run: usize = 0;
+    let mut i: usize = 1;
+    while i < 8 {
+        if begins[i] <= place {
+            run = i;
+        }
+        i += 1;
+    }
+    run
+}
+
+// The layer at a place of the list: the place among the layers of its run.
+pub fn layer_at(runs: Runs, bands: Bands, place: u16) -> u16
+    requires { ⌜ BandsOf runs bands × (place < sum (runSizes runs)) ⌝ }
+    ensures { λ r. ⌜ r ≡ runLayer runs place ⌝ }
+{
+    let sizes = runs.sizes;
+    let begins = bands.begins;
+    let firsts = bands.firsts;
+    let run = run_at(begins, place);
+    firsts[run] + (place - begins[run]) / sizes[run]
 }
 
 // Which of two layers a scale degree has, in an equalized scale.
@@ -147,7 +187,12 @@ pub fn layer_of(plan: Plan, turn: u32, degree: u16) -> u16
     }
     let solved = plan.solved;
     let runs = plan.runs;
-    layer_at(runs, chain_place(plan.start, degree, solved.reduced_period))
+    let bands = plan.bands;
+    layer_at(
+        runs,
+        bands,
+        chain_place(plan.start, degree, solved.reduced_period),
+    )
 }
 
 // A key's number.

@@ -3,7 +3,8 @@ pub mod Descent
 pub mod Sequences
 pub mod Searches
 pub mod Listings
-pub mod Blocks
+pub mod Runs
+pub mod Leaping
 pub mod Passes
 pub mod CoprimeAnswers
 pub mod Keys

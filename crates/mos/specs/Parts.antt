@@ -1,14 +1,14 @@
 -- What the inner functions promise to the entry points.
-use Prim.Native.Nat.{ℕ, _≤_}
+use Prim.Native.Nat.{ℕ, _+_, _≤_, _<_}
 use mathlib.Core.Path.{_≡_}
 use mathlib.Core.Bool.{Bool, true, false}
 use mathlib.Core.Option.{Option, none, some}
-use mathlib.Core.List.{List}
-use lib.ListN.{length, take, getD, getElem?}
-use Rattle.answer.specs.Writing.{Room, Wrote}
+use mathlib.Core.List.{List, _++_}
+use lib.ListN.{length, getD}
+use Rattle.answer.specs.Writing.{Wrote}
 use Rattle.mos.specs.declared.Mos.{Mos}
-use Rattle.mos.specs.Patterns.{mos, isPattern}
-use Rattle.mos.specs.Walks.{listed}
+use Rattle.mos.specs.Patterns.{mos, isPattern, stepsOf}
+use Rattle.mos.specs.Walks.{children, listed}
 
 -- Is there one?
 abbrev pub isSome : Option Mos → Bool
@@ -24,14 +24,16 @@ abbrev pub met : Bool → List ℕ → Option Mos
 met true l = some (readBack l)
 met false l = none
 
--- The first so many patterns of the walk from m, at least one, can be listed from the place `at` on.
-pub record Listable (whole : List Mos) (m : Mos) (count : ℕ) (out : List ℕ) (at : ℕ) : Type 0 where
-  pub pattern : isPattern m ≡ true
-  pub some : 1 ≤ count
-  pub enough : count ≤ length whole
-  pub room : Room out at (listed (take count whole))
+-- A walk from m has been listed up to a pattern `next` of it: `part` stands there, and with what is still to come it makes up the whole.
+pub record Listing (walk : Mos → List Mos) (left : Mos → ℕ) (m : Mos) (before : List ℕ) (at : ℕ) (next : Mos) (after : List ℕ) (place : ℕ) : Type 0 where
+  pub part : List ℕ
+  pub wrote : Wrote before at part after place
+  pub whole : part ++ listed (walk next) ≡ listed (walk m)
+  pub pattern : isPattern next ≡ true
+  pub falls : left next ≤ left m
 
--- They were listed, and the pattern after them, if there is one, is in the array.
-pub record ListedSome (whole : List Mos) (count : ℕ) (before : List ℕ) (at : ℕ) (after : List ℕ) (next : ℕ) (rest : List ℕ) : Type 0 where
-  pub wrote : Wrote before at (listed (take count whole)) after next
-  pub goes-on : (q : Mos) → getElem? whole count ≡ some q → readBack rest ≡ q
+-- `to` stands so many patterns after m on the walk of children, and its steps are shorter.
+pub record Leaps (m : Mos) (turns : ℕ) (to : Mos) : Type 0 where
+  pub counted : length (children m) ≡ length (children to) + turns
+  pub pattern : isPattern to ≡ true
+  pub falls : stepsOf to < stepsOf m

@@ -257,13 +257,10 @@ impl Mos {
         ensures { λ r. ⌜ Filled (listingOutcome self (children self) (length (now (out .entry)))) (countOutcome r) (now (out .entry)) (now (out .exit)) ⌝ }
     {
         if parts::is_pattern(self) {
-            let patterns = walks::count_children(self);
-            let len = patterns as usize * 4;
-            if out.len() < len {
-                return CountAnswer::Refused(Refusal::Room);
+            if walks::children_fit(self, out.len()) {
+                return CountAnswer::Given(walks::list_children(self, out, 0));
             }
-            walks::list_children(self, out, patterns);
-            return CountAnswer::Given(len);
+            return CountAnswer::Refused(Refusal::Room);
         }
         CountAnswer::Refused(Refusal::Size)
     }
@@ -273,13 +270,10 @@ impl Mos {
         ensures { λ r. ⌜ Filled (listingOutcome self (parents self) (length (now (out .entry)))) (countOutcome r) (now (out .entry)) (now (out .exit)) ⌝ }
     {
         if parts::is_pattern(self) {
-            let patterns = walks::count_parents(self);
-            let len = patterns as usize * 4;
-            if out.len() < len {
-                return CountAnswer::Refused(Refusal::Room);
+            if walks::parents_fit(self, out.len()) {
+                return CountAnswer::Given(walks::list_parents(self, out, 0));
             }
-            walks::list_parents(self, out, patterns);
-            return CountAnswer::Given(len);
+            return CountAnswer::Refused(Refusal::Room);
         }
         CountAnswer::Refused(Refusal::Size)
     }

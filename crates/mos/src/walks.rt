@@ -10,9 +10,10 @@ ghost use mathlib.Core.Bool.{true};
 ghost use mathlib.Core.Option.{some};
 ghost use Prim.Native.Nat.{_+_, _≤_};
 ghost use lib.ListN.{length, getElem?};
+ghost use lib.Dec.{leb};
 ghost use Rattle.answer.specs.Writing.{Room, Wrote};
-ghost use Rattle.mos.specs.Patterns.{isPattern};
-ghost use Rattle.mos.specs.Parts.{met, Listable, ListedSome};
+ghost use Rattle.mos.specs.Patterns.{isPattern, countOf, stepsOf};
+ghost use Rattle.mos.specs.Parts.{met, Listing};
 ghost use Rattle.mos.specs.Walks.{children, parents, firstWith, genesisOf, fields, listed};
 
 // The first child with n steps, m included. Counts only grow, so a pattern with more ends the search.
@@ -96,26 +97,49 @@ pub fn root(m: Mos, found: &mut [u16; 4]) -> bool
     true
 }
 
-// How many patterns the walk of children has, m included.
+// How many patterns the walk of children has, m included. A self call leaps over all children that shorten the same step.
 pub fn count_children(m: Mos) -> u32
     requires { ⌜ isPattern m ≡ true ⌝ }
     ensures { λ r. ⌜ r ≡ length (children m) ⌝ }
 {
     if parts::has_child(m) {
-        return count_children(parts::child_of(m)) + 1;
+        let leap = parts::leap_from(m);
+        let to = leap.to;
+        return count_children(to) + leap.turns as u32;
     }
     1
 }
 
-// How many patterns the walk of parents has, m included.
+// How many patterns the walk of parents has, m included: as many as the dual has children.
 pub fn count_parents(m: Mos) -> u32
     requires { ⌜ isPattern m ≡ true ⌝ }
     ensures { λ r. ⌜ r ≡ length (parents m) ⌝ }
 {
-    if parts::has_parent(m) {
-        return count_parents(parts::parent_of(m)) + 1;
+    count_children(parts::dual_of(m))
+}
+
+// Do so many numbers hold the walk of children? There are no more children than the steps' sum, so a long slice needs no count.
+pub fn children_fit(m: Mos, room: usize) -> bool
+    requires { ⌜ isPattern m ≡ true ⌝ }
+    ensures { λ r. ⌜ r ≡ leb (length (listed (children m))) room ⌝ }
+{
+    let most = (m.primary_step as usize + m.secondary_step as usize + 1) * 4;
+    if most <= room {
+        return true;
     }
-    1
+    count_children(m) as usize * 4 <= room
+}
+
+// Do so many numbers hold the walk of parents? There are no more parents than steps.
+pub fn parents_fit(m: Mos, room: usize) -> bool
+    requires { ⌜ isPattern m ≡ true ⌝ }
+    ensures { λ r. ⌜ r ≡ leb (length (listed (parents m))) room ⌝ }
+{
+    let most = (m.num_primary_steps as usize + m.num_secondary_steps as usize + 1) * 4;
+    if most <= room {
+        return true;
+    }
+    count_parents(m) as usize * 4 <= room
 }
 
 // The four numbers of a pattern at a place; the place after them.
@@ -130,91 +154,67 @@ fn put_pattern(m: Mos, out: &mut [u16], at: usize) -> usize
     at + 4
 }
 
-// So many patterns of the walk of children, from a place on; the place after them. The next pattern, if there is one, goes
-// into `rest`. A self call that is lent a slice keeps a frame of 32 bytes, so a walk is listed in blocks.
-fn list_some_children(m: Mos, out: &mut [u16], at: usize, count: u32, rest: &mut [u16; 4]) -> usize
-    requires { ⌜ Listable (children m) m count (now out) at ⌝ }
-    ensures { λ r. ⌜ ListedSome (children m) count (now (out .entry)) at (now (out .exit)) r (now (rest .exit)) ⌝ }
-{
-    let next = put_pattern(m, out, at);
-    if parts::has_child(m) {
-        let child = parts::child_of(m);
-        if count == 1 {
-            *rest = [
-                child.num_primary_steps,
-                child.num_secondary_steps,
-                child.primary_step,
-                child.secondary_step,
-            ];
-            return next;
-        }
-        return list_some_children(child, out, next, count - 1, rest);
-    }
-    next
+// Where a listing has come to: the next pattern, and its place in the slice.
+struct Reached {
+    next: Mos,
+    at: usize,
 }
 
-// So many patterns of the walk of parents, in the same way.
-fn list_some_parents(m: Mos, out: &mut [u16], at: usize, count: u32, rest: &mut [u16; 4]) -> usize
-    requires { ⌜ Listable (parents m) m count (now out) at ⌝ }
-    ensures { λ r. ⌜ ListedSome (parents m) count (now (out .entry)) at (now (out .exit)) r (now (rest .exit)) ⌝ }
+// The patterns from m on whose children shorten the same step, from a place on.
+fn list_child_run(m: Mos, out: &mut [u16], at: usize) -> Reached
+    requires { ⌜ (isPattern m ≡ true) × Room (now out) at (listed (children m)) ⌝ }
+    ensures { λ r. ⌜ Listing children stepsOf m (now (out .entry)) at (r .next) (now (out .exit)) (r .at) ⌝ }
 {
-    let next = put_pattern(m, out, at);
-    if parts::has_parent(m) {
-        let parent = parts::parent_of(m);
-        if count == 1 {
-            *rest = [
-                parent.num_primary_steps,
-                parent.num_secondary_steps,
-                parent.primary_step,
-                parent.secondary_step,
-            ];
-            return next;
-        }
-        return list_some_parents(parent, out, next, count - 1, rest);
+    let primary = m.secondary_step < m.primary_step;
+    let mut next = m;
+    let mut place = at;
+    while parts::shortens(next, primary) {
+        place = put_pattern(next, out, place);
+        next = parts::child_of(next);
     }
-    next
+    Reached { next, at: place }
 }
 
-// The walk of children, which has so many patterns, at the front.
-pub fn list_children(m: Mos, out: &mut [u16], patterns: u32)
-    requires { ⌜ (patterns ≡ length (children m)) × Listable (children m) m patterns (now out) 0 ⌝ }
-    ensures { λ _. ⌜ Wrote (now (out .entry)) 0 (listed (children m)) (now (out .exit)) (length (listed (children m))) ⌝ }
+// The patterns from m on whose parents take from the same count, from a place on.
+fn list_parent_run(m: Mos, out: &mut [u16], at: usize) -> Reached
+    requires { ⌜ (isPattern m ≡ true) × Room (now out) at (listed (parents m)) ⌝ }
+    ensures { λ r. ⌜ Listing parents countOf m (now (out .entry)) at (r .next) (now (out .exit)) (r .at) ⌝ }
 {
-    let mut first = m;
-    let mut left = patterns;
-    let mut at: usize = 0;
-    let mut rest: [u16; 4] = [0, 0, 0, 0];
-    while 1024 < left {
-        at = list_some_children(first, out, at, 1024, &mut rest);
-        first = Mos {
-            num_primary_steps: rest[0],
-            num_secondary_steps: rest[1],
-            primary_step: rest[2],
-            secondary_step: rest[3],
-        };
-        left -= 1024;
+    let primary = m.num_secondary_steps < m.num_primary_steps;
+    let mut next = m;
+    let mut place = at;
+    while parts::lessens(next, primary) {
+        place = put_pattern(next, out, place);
+        next = parts::parent_of(next);
     }
-    list_some_children(first, out, at, left, &mut rest);
+    Reached { next, at: place }
 }
 
-// The walk of parents, which has so many patterns, at the front.
-pub fn list_parents(m: Mos, out: &mut [u16], patterns: u32)
-    requires { ⌜ (patterns ≡ length (parents m)) × Listable (parents m) m patterns (now out) 0 ⌝ }
-    ensures { λ _. ⌜ Wrote (now (out .entry)) 0 (listed (parents m)) (now (out .exit)) (length (listed (parents m))) ⌝ }
+// The walk of children from a place on; the place after it. Each self call lists one run: a self call that is lent a slice keeps
+// a frame, and there are few runs.
+pub fn list_children(m: Mos, out: &mut [u16], at: usize) -> usize
+    requires { ⌜ (isPattern m ≡ true) × Room (now out) at (listed (children m)) ⌝ }
+    ensures { λ r. ⌜ Wrote (now (out .entry)) at (listed (children m)) (now (out .exit)) r ⌝ }
 {
-    let mut first = m;
-    let mut left = patterns;
-    let mut at: usize = 0;
-    let mut rest: [u16; 4] = [0, 0, 0, 0];
-    while 1024 < left {
-        at = list_some_parents(first, out, at, 1024, &mut rest);
-        first = Mos {
-            num_primary_steps: rest[0],
-            num_secondary_steps: rest[1],
-            primary_step: rest[2],
-            secondary_step: rest[3],
-        };
-        left -= 1024;
+    let run = list_child_run(m, out, at);
+    let last = run.next;
+    let after = put_pattern(last, out, run.at);
+    if parts::has_child(last) {
+        return list_children(parts::child_of(last), out, after);
     }
-    list_some_parents(first, out, at, left, &mut rest);
+    after
+}
+
+// The walk of parents from a place on, in the same way.
+pub fn list_parents(m: Mos, out: &mut [u16], at: usize) -> usize
+    requires { ⌜ (isPattern m ≡ true) × Room (now out) at (listed (parents m)) ⌝ }
+    ensures { λ r. ⌜ Wrote (now (out .entry)) at (listed (parents m)) (now (out .exit)) r ⌝ }
+{
+    let run = list_parent_run(m, out, at);
+    let last = run.next;
+    let after = put_pattern(last, out, run.at);
+    if parts::has_parent(last) {
+        return list_parents(parts::parent_of(last), out, after);
+    }
+    after
 }

@@ -1,4 +1,5 @@
 pub mod Lines
 pub mod Calls
 pub mod Fitting
+pub mod StripQuestions
 pub mod Examples

@@ -73,7 +73,7 @@ pub fn respond(line: &[u8], out: &mut [u8]) -> CountAnswer
                 octave: asked.octave,
                 tritave: asked.tritave,
             };
-            match table_len(layout) {
+            match lamps::strip_len(layout) {
                 CountAnswer::Refused(q) => parts::write_refusal(q.number() as u16, out),
                 CountAnswer::Given(_) => write_table(layout, out),
             }

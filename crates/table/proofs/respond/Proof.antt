@@ -4,6 +4,7 @@ use Rattle.answer.specs.Refusals.{countOutcome}
 use Rattle.line.specs.Lines.{lineAnswered}
 use Rattle.layout.proofs.Calls.{filled-as}
 use Rattle.table.proofs.Calls.{output-no-line, output-refused, output-given}
+use Rattle.table.proofs.StripQuestions.{table-like-strip}
 use borrow.Author.Needs.{needs}
 use Rattle.table.proofs.respond.Statement.{statement}
 use Rattle.table.proofs.respond.Tie as tie
@@ -26,8 +27,8 @@ write-refusal-requires c κs = search needs
 enum-known-asked : tie.Need-enum-known-asked
 enum-known-asked c = search needs
 
-table-len-requires : tie.Need-table-len-requires
-table-len-requires c κs = search needs
+strip-len-requires : tie.Need-strip-len-requires
+strip-len-requires c κs = search needs
 
 enum-known-q-2 : tie.Need-enum-known-q-2
 enum-known-q-2 c = search needs
@@ -57,13 +58,17 @@ same-length-2 : tie.Need-same-length-2
 same-length-2 c = search needs
 
 returns-2 : tie.Need-returns-2
-returns-2 c = filled-as (output-refused _ _ _ (sym (ap lineAnswered (c .before .before .before .before .before .before .before .before .before .before .asked .given .1)) ∙ c .before .before .before .before .before .before .before .before .before .before .before .before .parse .ensures) _ _ (c .before .before .before .before .number2 .ensures) (sym (ap countOutcome (c .before .before .before .before .before .before .q2 .given .1)) ∙ c .before .before .before .before .before .before .before .before .table-len .ensures)) (c .before .before .write-refusal2 .ensures)
+returns-2 c = filled-as (output-refused _ _ _ (sym (ap lineAnswered (c .before .before .before .before .before .before .before .before .before .before .asked .given .1)) ∙ c .before .before .before .before .before .before .before .before .before .before .before .before .parse .ensures) _ _ (c .before .before .before .before .number2 .ensures) (table-like-strip _ .refusals _ (sym (ap countOutcome (c .before .before .before .before .before .before .q2 .given .1)) ∙ c .before .before .before .before .before .before .before .before .strip-len .ensures))) (c .before .before .write-refusal2 .ensures)
 
 same-length-3 : tie.Need-same-length-3
 same-length-3 c = search needs
 
 returns-3 : tie.Need-returns-3
-returns-3 c = filled-as (output-given _ _ _ (sym (ap lineAnswered (c .before .before .before .before .before .before .before .before .asked .given .1)) ∙ c .before .before .before .before .before .before .before .before .before .before .parse .ensures) _ (sym (ap countOutcome (c .before .before .before .before .enum-told .given .1)) ∙ c .before .before .before .before .before .before .table-len .ensures)) (c .before .before .write-table .ensures)
+returns-3 c =
+    let asks = table-like-strip _ .answers _ (sym (ap countOutcome (c .before .before .before .before .enum-told .given .1)) ∙ c .before .before .before .before .before .before .strip-len .ensures) in
+    filled-as
+    (output-given _ _ _ (sym (ap lineAnswered (c .before .before .before .before .before .before .before .before .asked .given .1)) ∙ c .before .before .before .before .before .before .before .before .before .before .parse .ensures) (asks .0) (asks .1))
+    (c .before .before .write-table .ensures)
 
 pub respond-spec : {M : Type 1} → statement M
 respond-spec =
@@ -75,7 +80,7 @@ respond-spec =
     cast-write-refusal
     write-refusal-requires
     enum-known-asked
-    table-len-requires
+    strip-len-requires
     enum-known-q-2
     number-requires-2
     cast-write-refusal-2

@@ -1,7 +1,12 @@
--- The count, then the pairs, then the names.
+-- The count, then the pairs and the names.
+use Prim.Native.Nat.{ℕ}
 use native.Mathlib.Omega.{arith}
-use mathlib.Core.Path.{sym}
+use mathlib.Core.Path.{sym, _∙_}
+use mathlib.Core.List.{append-assoc}
+use lib.ListN.{length-append}
+use Rattle.answer.specs.Writing.{Wrote, joined}
 use Rattle.answer.proofs.Writing.{then, wrote-as, wrote-length}
+use Rattle.book.specs.Books.{le32, pairText}
 use Rattle.book.proofs.Numbers.{length-le32}
 use Rattle.book.proofs.Written.{length-book, length-pairs, book-is}
 use Rattle.layout_book.specs.Parts.{nameOf}
@@ -14,18 +19,9 @@ put-u32-requires c κs =
     let s = c .before .before in
     simp length-le32 (omega (arith, s .pre .1, length-book (nameOf (s .args .speller)) (s .args .keys)))
 
-put-pairs-requires : tie.Need-put-pairs-requires
-put-pairs-requires c κs =
+put-entries-requires : tie.Need-put-entries-requires
+put-entries-requires c κs =
     let u = c .before .before .before in
-    let s = u .before .before .before in
-    let name = nameOf (s .args .speller) in
-    let k = s .args .keys in
-    (s .pre .0, omega (arith, s .pre .1, length-book name k, length-pairs name k k, wrote-length (u .put-u32 .ensures), simp length-le32 at (u .put-u32 .ensures .end)))
-
-put-names-requires : tie.Need-put-names-requires
-put-names-requires c κs =
-    let p = c .before .before .before in
-    let u = p .before .before .before .before in
     let s = u .before .before .before in
     let name = nameOf (s .args .speller) in
     let k = s .args .keys in (
@@ -35,10 +31,8 @@ put-names-requires c κs =
         s .pre .1,
         length-book name k,
         length-pairs name k k,
+        length-append (joined (pairText name k) k) (joined name k),
         wrote-length (u .put-u32 .ensures),
-        simp length-le32 at (u .put-u32 .ensures .end),
-        wrote-length (p .put-pairs .ensures),
-        p .put-pairs .ensures .end,
       ),
     )
 
@@ -47,12 +41,14 @@ same-length c = search needs
 
 returns : tie.Need-returns
 returns c =
-    let n = c .before .before in
-    let p = n .before .before .before .before in
-    let u = p .before .before .before .before in
+    let e = c .before .before in
+    let u = e .before .before .before .before in
     let s = u .before .before .before in
-    wrote-as (sym (book-is (nameOf (s .args .speller)) (s .args .keys))) (then (then (u .put-u32 .ensures) (p .put-pairs .ensures)) (n .put-names .ensures))
+    let name = nameOf (s .args .speller) in
+    let k = s .args .keys in
+    wrote-as
+    (sym (append-assoc (le32 k) (joined (pairText name k) k) (joined name k)) ∙ sym (book-is name k))
+    (then {t = le32 k} (record { content = u .put-u32 .ensures .content; end = omega (arith, length-le32 k) }) (e .put-entries .ensures))
 
 pub put-book-spec : {M : Type 1} → statement M
-put-book-spec =
-    tie.close (tie.spec put-u32-requires put-pairs-requires put-names-requires same-length returns)
+put-book-spec = tie.close (tie.spec put-u32-requires put-entries-requires same-length returns)

@@ -22,15 +22,15 @@ chain-place-requires c κs = search needs
 
 layer-at-requires : tie.Need-layer-at-requires
 layer-at-requires c κs =
-    let start = c .before .before .before .before in (
+    let start = c .before .before .before .before .before in (
+      start .pre .0 .bands-are,
       subst (λ (k : ℕ). k < sum (runSizes (start .args .plan .runs))) (sym (c .chain-place .ensures)) (place-below (start .args .plan) (start .pre .0) (start .args .degree)),
-      omega (arith, start .pre .0 .runs-fill),
     )
 
 returns-2 : tie.Need-returns-2
 returns-2 c =
-    let start = c .before .before .before .before .before in
-    layer-listed (start .args .plan) (start .args .turn) (start .args .degree) _ _ (c .before .before .before .before .if1 .left) (c .before .chain-place .ensures) (c .layer-at .ensures)
+    let start = c .before .before .before .before .before .before in
+    layer-listed (start .args .plan) (start .args .turn) (start .args .degree) _ _ (c .before .before .before .before .before .if1 .left) (c .before .chain-place .ensures) (c .layer-at .ensures)
 
 pub layer-of-spec : {M : Type 1} → statement M
 layer-of-spec =

@@ -1,59 +1,59 @@
 -- Questions 7 and 10, then the listing at the front.
 use mathlib.Core.Path.{sym, _∙_}
-use Rattle.mos.specs.Walks.{children}
-use Rattle.mos.proofs.Sequences.{children-some}
-use Rattle.mos.proofs.Blocks.{whole-listable}
-use Rattle.mos.proofs.Listings.{listing-no-pattern, listing-no-room, listing-room, listing-given}
 use borrow.Author.Needs.{needs}
+use Rattle.mos.specs.Walks.{children}
+use Rattle.mos.proofs.Listings.{listing-no-pattern, listing-no-room, listing-room, listing-given}
 use Rattle.mos.proofs.Mos.children.Statement.{statement}
 use Rattle.mos.proofs.Mos.children.Tie as tie
 
 is-pattern-requires : tie.Need-is-pattern-requires
 is-pattern-requires c κs = search needs
 
-count-children-requires : tie.Need-count-children-requires
-count-children-requires c κs = sym (c .before .is-pattern .ensures) ∙ c .if1 .taken
-
-cast-len : tie.Need-cast-len
-cast-len c = search needs
-
-mul-len : tie.Need-mul-len
-mul-len c = search needs
-
-returns : tie.Need-returns
-returns c = listing-no-room _ _ _ _ (c .before .before .before .is-pattern .ensures) (c .before .before .if1 .taken) (c .before .count-children .ensures) (c .if2 .taken)
+children-fit-requires : tie.Need-children-fit-requires
+children-fit-requires c κs = sym (c .before .is-pattern .ensures) ∙ c .if1 .taken
 
 list-children-requires : tie.Need-list-children-requires
 list-children-requires c κs =
     let start = c .before .before .before .before .before .before in
     let m = start .args .self in
-    let counted = c .before .before .count-children .ensures in
     let tested = c .before .before .before .before .is-pattern .ensures in
     let taken = c .before .before .before .if1 .taken in (
-      counted,
-      whole-listable (children m) m (start .args .out .now) 0 (sym tested ∙ taken) (children-some m) counted
-          (listing-room m (children m) (start .args .out .now) _ tested taken counted (c .before .if2 .left)),
+      sym tested ∙ taken,
+      listing-room m (children m) (start .args .out .now) tested taken (c .before .before .children-fit .ensures) (c .before .if2 .taken),
     )
 
 same-length : tie.Need-same-length
 same-length c = search needs
 
+returns : tie.Need-returns
+returns c =
+    let start = c .before .before .before .before .before .before .before .before .before in
+    let m = start .args .self in
+    listing-given m (children m) (start .args .out .now) (c .before .before .before .before .before .before .before .is-pattern .ensures) (c .before .before .before .before .before .before .if1 .taken)
+    (c .before .before .before .before .before .children-fit .ensures)
+    (c .before .before .before .before .if2 .taken)
+    (c .before .before .list-children .ensures)
+
 returns-2 : tie.Need-returns-2
-returns-2 c = listing-given _ _ _ _ (c .before .before .before .before .before .before .before .is-pattern .ensures) (c .before .before .before .before .before .before .if1 .taken) (c .before .before .before .before .before .count-children .ensures) (c .before .before .before .before .if2 .left) (c .before .before .list-children .ensures)
+returns-2 c =
+    let start = c .before .before .before .before .before in
+    let m = start .args .self in
+    listing-no-room m (children m) (start .args .out .now) (c .before .before .before .is-pattern .ensures) (c .before .before .if1 .taken) (c .before .children-fit .ensures) (c .if2 .left)
 
 returns-3 : tie.Need-returns-3
-returns-3 c = listing-no-pattern _ _ _ (c .before .is-pattern .ensures) (c .if1 .left)
+returns-3 c =
+    let start = c .before .before .before in
+    let m = start .args .self in
+    listing-no-pattern m (children m) (start .args .out .now) (c .before .is-pattern .ensures) (c .if1 .left)
 
 pub children-spec : {M : Type 1} → statement M
 children-spec =
     tie.close
     (tie.spec
     is-pattern-requires
-    count-children-requires
-    cast-len
-    mul-len
-    returns
+    children-fit-requires
     list-children-requires
     same-length
+    returns
     returns-2
     returns-3)

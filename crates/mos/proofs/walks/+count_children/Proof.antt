@@ -1,4 +1,4 @@
--- One pattern more than the walk of what comes next; the sum of the steps falls with each.
+-- As many patterns more than the walk from there as the leap has turns; the sum of the steps falls with each leap.
 use Prim.Native.Nat.{ℕ, _+_, _<_}
 use mathlib.Core.Path.{sym, ap, _∙_, subst}
 use native.Mathlib.Omega.{arith}
@@ -6,13 +6,12 @@ use borrow.Author.Needs.{needs}
 use borrow.Fn.Kinds.{In}
 use borrow.Fn.PlainCycle.{Measures, is, falls, and}
 use Rattle.mos.specs.Patterns.{stepsOf}
-use Rattle.mos.proofs.Descent.{child-at, child-falls, child-keeps-pattern}
-use Rattle.mos.proofs.Sequences.{children-count, children-one, children-few}
+use Rattle.mos.proofs.Sequences.{children-one, children-few}
 use Rattle.mos.proofs.walks.count_children.Reads as count-children
 use Rattle.mos.proofs.walks.count_children.Kinds as count-children-kinds
 use Rattle.mos.proofs.walks.+count_children.Lts-count_children as count-children-lts
 use Rattle.mos.proofs.parts.has_child.Reads as has-child-reads
-use Rattle.mos.proofs.parts.child_of.Reads as child-of-reads
+use Rattle.mos.proofs.parts.leap_from.Reads as leap-from-reads
 use Rattle.mos.proofs.walks.+count_children.{statement}
 use Rattle.mos.proofs.walks.+count_children.Tie.{close}
 
@@ -30,8 +29,8 @@ abbrev calls : ℕ → count-children-lts.Claims
 calls t = (
   has-child-reads.Asked,
   has-child-reads.Learnt,
-  child-of-reads.Asked,
-  child-of-reads.Learnt,
+  leap-from-reads.Asked,
+  leap-from-reads.Learnt,
   count-children-below t,
   count-children.Post,
 )
@@ -39,22 +38,25 @@ calls t = (
 has-child-requires : (t : ℕ) → count-children-lts.Need-has-child-requires (calls t) (count-children-at t) count-children.Post
 has-child-requires t c κs = search needs
 
-child-of-requires : (t : ℕ) → count-children-lts.Need-child-of-requires (calls t) (count-children-at t) count-children.Post
-child-of-requires t c κs = (c .before .before .pre .1, sym (c .before .has-child .ensures) ∙ c .if1 .taken)
+leap-from-requires : (t : ℕ) → count-children-lts.Need-leap-from-requires (calls t) (count-children-at t) count-children.Post
+leap-from-requires t c κs = (c .before .before .pre .1, sym (c .before .has-child .ensures) ∙ c .if1 .taken)
 
 count-children-requires : (t : ℕ) → count-children-lts.Need-count-children-requires (calls t) (count-children-at t) count-children.Post
 count-children-requires t c κs =
-    let start = c .before .before .before in
-    let there = child-at (c .child-of .ensures) in (
-      subst (λ (j : ℕ). stepsOf (c .child-of .result) < j) (start .pre .0) (child-falls there),
-      child-keeps-pattern there (start .pre .1),
+    let start = c .before .before .before .before in
+    let there = c .before .leap-from .ensures in (
+      subst (λ (j : ℕ). stepsOf (c .before .leap-from .result .to) < j) (start .pre .0) (there .falls),
+      there .pattern,
     )
 
+cast-result : (t : ℕ) → count-children-lts.Need-cast-result (calls t) (count-children-at t) count-children.Post
+cast-result t c = search needs
+
 add-result : (t : ℕ) → count-children-lts.Need-add-result (calls t) (count-children-at t) count-children.Post
-add-result t c = omega (arith, children-few (c .before .child-of .result))
+add-result t c = omega (arith, children-few (c .before .before .before .leap-from .result .to))
 
 returns : (t : ℕ) → count-children-lts.Need-returns (calls t) (count-children-at t) count-children.Post
-returns t c = ap (λ (j : ℕ). j + 1) (c .count-children .ensures) ∙ children-count _ _ (c .before .child-of .ensures)
+returns t c = ap (λ (j : ℕ). j + c .before .before .before .leap-from .result .turns) (c .before .count-children .ensures) ∙ sym (c .before .before .before .leap-from .ensures .counted)
 
 returns-2 : (t : ℕ) → count-children-lts.Need-returns-2 (calls t) (count-children-at t) count-children.Post
 returns-2 t c = children-one _ (sym (c .before .has-child .ensures) ∙ c .if1 .left)
@@ -67,8 +69,9 @@ pub +count-children-spec : {M : Type 1} → statement M
     (count-children-at t)
     count-children.Post
     (has-child-requires t)
-    (child-of-requires t)
+    (leap-from-requires t)
     (count-children-requires t)
+    (cast-result t)
     (add-result t)
     (returns t)
     (returns-2 t)

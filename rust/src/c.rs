@@ -1,0 +1,87 @@
+//! The C interface, as `include/vetchnoon.h` declares it.
+
+unsafe extern "C" {
+    pub fn vn_gcd(x: u16, y: u16) -> i64;
+    pub fn vn_rem(numer: i32, denom: u16) -> i64;
+
+    pub fn vn_pergen(period: u16, generator: u16, out: *mut u16, len: usize) -> i64;
+    pub fn vn_generation(period: u16, generator: u16, key: u16, out: *mut u16, len: usize) -> i64;
+    pub fn vn_accidentals(
+        period: u16,
+        generator: u16,
+        symbols: u16,
+        origin: u16,
+        key: u16,
+        out: *mut u16,
+        len: usize,
+    ) -> i64;
+
+    pub fn vn_mos_child(a: u16, b: u16, p: u16, s: u16, out: *mut u16, len: usize) -> i64;
+    pub fn vn_mos_parent(a: u16, b: u16, p: u16, s: u16, out: *mut u16, len: usize) -> i64;
+    pub fn vn_mos_genesis(a: u16, b: u16, p: u16, s: u16, out: *mut u16, len: usize) -> i64;
+    pub fn vn_mos_coprime(a: u16, b: u16, p: u16, s: u16, out: *mut u16, len: usize) -> i64;
+    pub fn vn_mos_children(a: u16, b: u16, p: u16, s: u16, out: *mut u16, len: usize) -> i64;
+    pub fn vn_mos_parents(a: u16, b: u16, p: u16, s: u16, out: *mut u16, len: usize) -> i64;
+    pub fn vn_mos_layers(a: u16, b: u16, p: u16, s: u16, out: *mut u16, len: usize) -> i64;
+    pub fn vn_mos_key(
+        a: u16,
+        b: u16,
+        primary_step: u16,
+        secondary_step: u16,
+        p: i16,
+        s: i16,
+        out: *mut i64,
+        len: usize,
+    ) -> i64;
+    pub fn vn_mos_find(period: u16, generator: u16, steps: u16, out: *mut u16, len: usize) -> i64;
+
+    pub fn vn_layout(chain: u16, octave: u16, tritave: u16, out: *mut u16, len: usize) -> i64;
+    pub fn vn_scale_name(chain: u16, octave: u16, tritave: u16, out: *mut u8, len: usize) -> i64;
+    pub fn vn_note_name(
+        chain: u16,
+        octave: u16,
+        tritave: u16,
+        key: u16,
+        out: *mut u8,
+        len: usize,
+    ) -> i64;
+    pub fn vn_note_name_len(chain: u16, octave: u16, tritave: u16, key: u16) -> i64;
+    pub fn vn_layout_accidentals(
+        chain: u16,
+        octave: u16,
+        tritave: u16,
+        key: u16,
+        out: *mut u16,
+        len: usize,
+    ) -> i64;
+    pub fn vn_sounded_key(
+        chain: u16,
+        octave: u16,
+        tritave: u16,
+        letter: u16,
+        sharps: u32,
+        flats: u32,
+        stars: u16,
+    ) -> i64;
+
+    pub fn vn_layer_count(chain: u16, octave: u16, tritave: u16) -> i64;
+    pub fn vn_layout_layers(
+        chain: u16,
+        octave: u16,
+        tritave: u16,
+        out: *mut u16,
+        len: usize,
+    ) -> i64;
+    pub fn vn_lamp_strip(chain: u16, octave: u16, tritave: u16, out: *mut u8, len: usize) -> i64;
+    pub fn vn_book_len(chain: u16, octave: u16, tritave: u16) -> i64;
+    pub fn vn_book(chain: u16, octave: u16, tritave: u16, out: *mut u8, len: usize) -> i64;
+    pub fn vn_book_find(
+        book: *const u8,
+        book_len: usize,
+        key: u32,
+        out: *mut u32,
+        len: usize,
+    ) -> i64;
+
+    pub fn vn_key_table(line: *const u8, line_len: usize, out: *mut u8, len: usize) -> i64;
+}

@@ -1,0 +1,172 @@
+//! The proved library for Rust, over its C interface (`include/vetchnoon.h`).
+//!
+//! Each function here makes one call and turns its answer into a `Result`: the
+//! value, or how many elements were written to the front of `out`; or the number
+//! of the first question of document 01 that has the answer no. A refusal changes
+//! no element of `out`, and elements past the output keep their contents.
+//!
+//! ```
+//! let mut name = [0; 16];
+//! let bytes = vetchnoon::note_name(1, 12, 19, 1, &mut name).unwrap();
+//! assert_eq!(&name[..bytes], b"D#/Eb");
+//!
+//! assert_eq!(vetchnoon::note_name(0, 12, 19, 1, &mut name), Err(vetchnoon::Refused(4)));
+//! ```
+
+use std::error::Error;
+use std::fmt;
+
+mod c;
+
+/// The number of the first question that has the answer no.
+#[derive(Clone, Copy, Debug, PartialEq, Eq, PartialOrd, Ord, Hash)]
+pub struct Refused(pub u8);
+
+impl fmt::Display for Refused {
+    fn fmt(&self, f: &mut fmt::Formatter<'_>) -> fmt::Result {
+        write!(f, "refused {}", self.0)
+    }
+}
+
+impl Error for Refused {}
+
+/// A step pattern: primary count, secondary count, primary step, secondary step.
+pub type Pattern = [u16; 4];
+
+/// An answer that is not negative is the value, a negative one minus the refusal's number.
+fn value<T>(answer: i64) -> Result<T, Refused>
+where
+    T: TryFrom<i64>,
+    T::Error: fmt::Debug,
+{
+    if answer < 0 {
+        return Err(Refused(
+            u8::try_from(-answer).expect("a refusal's number is small"),
+        ));
+    }
+    Ok(T::try_from(answer).expect("a value fits the type of its answer"))
+}
+
+/// The greatest common divisor; 1 for 0 and 0.
+pub fn gcd(x: u16, y: u16) -> u16 {
+    value(unsafe { c::vn_gcd(x, y) }).expect("no pair of numbers is refused")
+}
+
+/// The remainder, never negative (2).
+pub fn rem(numer: i32, denom: u16) -> Result<u16, Refused> {
+    value(unsafe { c::vn_rem(numer, denom) })
+}
+
+/// Declares functions that pass numbers on and fill `out`.
+macro_rules! filling {
+    ($($(#[$doc:meta])* $name:ident = $call:ident($($number:ident: $type:ty),*; $element:ty);)*) => {$(
+        $(#[$doc])*
+        pub fn $name($($number: $type,)* out: &mut [$element]) -> Result<usize, Refused> {
+            value(unsafe { c::$call($($number,)* out.as_mut_ptr(), out.len()) })
+        }
+    )*};
+}
+
+/// Declares functions that pass a pattern's four numbers on, then others, and fill `out`.
+macro_rules! filling_from_pattern {
+    ($($(#[$doc:meta])* $name:ident = $call:ident($($number:ident: $type:ty),*; $element:ty);)*) => {$(
+        $(#[$doc])*
+        pub fn $name(pattern: Pattern, $($number: $type,)* out: &mut [$element]) -> Result<usize, Refused> {
+            let [a, b, p, s] = pattern;
+            value(unsafe { c::$call(a, b, p, s, $($number,)* out.as_mut_ptr(), out.len()) })
+        }
+    )*};
+}
+
+filling! {
+    /// Cycles, reduced period and inverse (2, 10).
+    pergen = vn_pergen(period: u16, generator: u16; u16);
+    /// Degree, 1 if a cycle is present else 0, cycle or 0 (2, 10).
+    generation = vn_generation(period: u16, generator: u16, key: u16; u16);
+    /// Sharp index, sharp count, flat index, flat count (2, 5, 6, 10).
+    accidentals = vn_accidentals(period: u16, generator: u16, symbols: u16, origin: u16, key: u16; u16);
+    /// The pattern with that many steps on the walk from the genesis, or nothing (2, 10).
+    mos_find = vn_mos_find(period: u16, generator: u16, steps: u16; u16);
+    /// Generator, cycles, reduced period, inverse, and the pattern (1, 2, 3, 4, 10).
+    layout = vn_layout(chain: u16, octave: u16, tritave: u16; u16);
+    /// The scale's name (1, 2, 3, 4, 10).
+    scale_name = vn_scale_name(chain: u16, octave: u16, tritave: u16; u8);
+    /// A key's name (1, 2, 3, 4, 10).
+    note_name = vn_note_name(chain: u16, octave: u16, tritave: u16, key: u16; u8);
+    /// Sharp index, sharp count, flat index, flat count of a key (1, 2, 3, 4, 10).
+    layout_accidentals = vn_layout_accidentals(chain: u16, octave: u16, tritave: u16, key: u16; u16);
+    /// The layer number of each key of the octave, or of two at sharpness 0 (1, 2, 3, 4, 10).
+    layout_layers = vn_layout_layers(chain: u16, octave: u16, tritave: u16; u16);
+    /// The lamp code of each key of the octave (1, 2, 3, 4, 9, 10).
+    lamp_strip = vn_lamp_strip(chain: u16, octave: u16, tritave: u16; u8);
+    /// The book of all names of the octave (1, 2, 3, 4, 10).
+    book = vn_book(chain: u16, octave: u16, tritave: u16; u8);
+}
+
+filling_from_pattern! {
+    /// The child, or nothing (7, 10).
+    mos_child = vn_mos_child(; u16);
+    /// The parent, or nothing (7, 10).
+    mos_parent = vn_mos_parent(; u16);
+    /// The pattern from which all its parents come (7, 10).
+    mos_genesis = vn_mos_genesis(; u16);
+    /// The pattern with coprime steps (7, 8, 10).
+    mos_coprime = vn_mos_coprime(; u16);
+    /// The whole walk of children, four numbers each (7, 10).
+    mos_children = vn_mos_children(; u16);
+    /// The whole walk of parents, four numbers each (7, 10).
+    mos_parents = vn_mos_parents(; u16);
+    /// The number of its layer for each key (7, 10).
+    mos_layers = vn_mos_layers(; u16);
+    /// The key that so many primary and secondary steps lead to (7, 10).
+    mos_key = vn_mos_key(p: i16, s: i16; i64);
+}
+
+/// How many bytes a key's name has (1, 2, 3, 4).
+pub fn note_name_len(chain: u16, octave: u16, tritave: u16, key: u16) -> Result<usize, Refused> {
+    value(unsafe { c::vn_note_name_len(chain, octave, tritave, key) })
+}
+
+/// The key of the octave that a spelling sounds (1, 2, 3, 4).
+pub fn sounded_key(
+    chain: u16,
+    octave: u16,
+    tritave: u16,
+    letter: u16,
+    sharps: u32,
+    flats: u32,
+    stars: u16,
+) -> Result<u16, Refused> {
+    value(unsafe { c::vn_sounded_key(chain, octave, tritave, letter, sharps, flats, stars) })
+}
+
+/// How many layer numbers there are (1, 2, 3, 4).
+pub fn layer_count(chain: u16, octave: u16, tritave: u16) -> Result<u16, Refused> {
+    value(unsafe { c::vn_layer_count(chain, octave, tritave) })
+}
+
+/// How many bytes the book of a layout has (1, 2, 3, 4).
+pub fn book_len(chain: u16, octave: u16, tritave: u16) -> Result<usize, Refused> {
+    value(unsafe { c::vn_book_len(chain, octave, tritave) })
+}
+
+/// The part of a book, which may be any bytes, that holds a key's name (11, 12, 13).
+pub fn book_find(book: &[u8], key: u32) -> Result<&[u8], Refused> {
+    let mut found = [0; 2];
+    value::<usize>(unsafe {
+        c::vn_book_find(
+            book.as_ptr(),
+            book.len(),
+            key,
+            found.as_mut_ptr(),
+            found.len(),
+        )
+    })?;
+    let [offset, length] = found.map(|number| number as usize);
+    Ok(&book[offset..offset + length])
+}
+
+/// What the key table program prints for a line (10).
+pub fn key_table(line: &[u8], out: &mut [u8]) -> Result<usize, Refused> {
+    value(unsafe { c::vn_key_table(line.as_ptr(), line.len(), out.as_mut_ptr(), out.len()) })
+}
