@@ -9,6 +9,7 @@ use std::fmt::Debug;
 use vetchnoon::Refused;
 
 use crate::reading::Outcome;
+use crate::tally::outcome;
 
 /// An element of a lent slice.
 pub trait Element: Copy + PartialEq + Debug {
@@ -86,7 +87,7 @@ fn filled<T: Element>(
     let mut elements: Vec<T> = (0..length + 2 * GUARD)
         .map(|place| T::before(place, round))
         .collect();
-    let answer = call(&mut elements[lent.clone()]).map_err(|Refused(number)| number);
+    let answer = outcome(call(&mut elements[lent.clone()]));
 
     let written = answer.unwrap_or(0);
     if written > length {

@@ -99,12 +99,22 @@ pub struct Kept {
     pub call: Call,
 }
 
+impl Kept {
+    /// The arguments as the bytes that they are.
+    fn text(&self) -> Vec<u8> {
+        self.arguments.iter().map(|byte| *byte as u8).collect()
+    }
+}
+
 impl fmt::Display for Kept {
     fn fmt(&self, f: &mut fmt::Formatter<'_>) -> fmt::Result {
         /// Books are long.
         const SHOWN: usize = 160;
 
         write!(f, "{}", self.call.name())?;
+        if self.call == Call::KeyTable {
+            return write!(f, " \"{}\"", self.text().escape_ascii());
+        }
         for argument in self.arguments.iter().take(SHOWN) {
             write!(f, " {argument}")?;
         }

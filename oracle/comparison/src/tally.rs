@@ -4,6 +4,7 @@ use std::collections::BTreeMap;
 use std::fmt::Debug;
 
 use judge::asking::Answer;
+use vetchnoon::Refused;
 
 use crate::classes::Class;
 use crate::lending;
@@ -12,7 +13,6 @@ use crate::question::Call;
 use crate::question::Kept;
 use crate::question::Question;
 use crate::reading::Outcome;
-use vetchnoon::Refused;
 
 /// What the original has to say of a question.
 #[derive(Clone, Debug, PartialEq, Eq)]
@@ -51,6 +51,11 @@ impl<T> Original<T> {
             Self::Failed(reason) => Original::Failed(reason.clone()),
         }
     }
+}
+
+/// An answer of the library.
+pub fn outcome<T>(answer: Result<T, Refused>) -> Outcome<T> {
+    answer.map_err(|Refused(number)| number)
 }
 
 /// The answers to one question.
@@ -101,7 +106,7 @@ impl Tally {
         answers: &Answers<T>,
         class: Option<Class>,
     ) {
-        self.count(question.call, answers);
+        self.count(question.call, &answers.reading, &answers.original);
         if answers.library != answers.reading {
             return self.unexplained(question, || difference(answers));
         }
@@ -133,17 +138,20 @@ impl Tally {
                 };
                 self.compare(question, &answers, class);
             }
-            Err(misbehaviour) => self.unexplained(question, || misbehaviour.clone()),
+            Err(misbehaviour) => {
+                self.count(question.call, &reading, &original);
+                self.unexplained(question, || misbehaviour.clone());
+            }
         }
     }
 
-    fn count<T>(&mut self, call: Call, answers: &Answers<T>) {
+    fn count<T>(&mut self, call: Call, reading: &Outcome<T>, original: &Original<T>) {
         let counts = self.calls.entry(call).or_default();
-        match answers.reading {
+        match reading {
             Ok(_) => counts.given += 1,
             Err(_) => counts.refused += 1,
         }
-        counts.judged += u64::from(!matches!(answers.original, Original::Silent));
+        counts.judged += u64::from(!matches!(original, Original::Silent));
     }
 
     fn note(&mut self, class: Class, question: Question) {
@@ -222,8 +230,8 @@ fn merge<K: Ord, V>(map: &mut BTreeMap<K, V>, key: K, value: V, add: impl FnOnce
 }
 
 /// The questions to which the original has the answer `None`: a layout's generator
-/// and pattern, and the size of a given pattern.
-const DECLINED: [u8; 3] = [3, 4, 7];
+/// and pattern, and the size of a given pattern; and where its layers make no strip.
+const DECLINED: [u8; 4] = [3, 4, 7, 9];
 
 /// A `None` of the original agrees with a refusal where it stands for one.
 fn agrees<T: PartialEq>(answers: &Answers<T>) -> bool {

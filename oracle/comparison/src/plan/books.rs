@@ -22,7 +22,7 @@ pub fn plan(tasks: &mut Vec<Task>, mode: Mode, seed: u64) {
         tasks.push(Box::new(move |tally| single_changes(tally, layout)));
         tasks.push(Box::new(move |tally| cut_and_extended(tally, layout)));
     }
-    for stream in 0..mode.pick(16, 200) {
+    for stream in 0..mode.pick(128, 1_024) {
         let randoms = Randoms::new(seed, STREAM + stream);
         let layout = LARGER[stream as usize % LARGER.len()];
         tasks.push(Box::new(move |tally| {

@@ -20,7 +20,7 @@ pub fn plan(tasks: &mut Vec<Task>, mode: Mode, seed: u64) {
         let randoms = Randoms::new(seed, STREAM + index as u64);
         tasks.push(Box::new(move |tally| whole(tally, large, randoms.clone())));
     }
-    for octave in (0..=mode.pick(60, 110)).rev() {
+    for octave in (0..=mode.pick(72, 160)).rev() {
         tasks.push(Box::new(move |tally| all_of_octave(tally, octave)));
     }
     for (index, octave) in LIMITS.into_iter().enumerate() {
@@ -29,7 +29,7 @@ pub fn plan(tasks: &mut Vec<Task>, mode: Mode, seed: u64) {
             limits_of_octave(tally, octave, randoms.clone());
         }));
     }
-    for stream in 0..mode.pick(32, 512) {
+    for stream in 0..mode.pick(256, 2_048) {
         let randoms = Randoms::new(seed, STREAM + 20_000 + stream);
         tasks.push(Box::new(move |tally| at_random(tally, randoms.clone())));
     }
@@ -94,7 +94,7 @@ fn random_layout(randoms: &mut Randoms) -> (u16, u16, u16) {
     match randoms.below(4) {
         0 => (code, randoms.any(), randoms.any()),
         1 => {
-            let octave = randoms.any_length();
+            let octave = randoms.any_length().max(1);
             (code, octave, likely_tritave(code, octave, randoms))
         }
         2 => {
@@ -174,7 +174,7 @@ fn whole_layouts(mode: Mode, seed: u64) -> Vec<(u16, u16, u16)> {
         layouts.push((2, 65_534, 65_535));
     }
     let mut randoms = Randoms::new(seed, STREAM - 1);
-    let wanted = layouts.len() + mode.pick(8, 100);
+    let wanted = layouts.len() + mode.pick(32, 200);
     while layouts.len() < wanted {
         let (code, octave, tritave) = random_layout(&mut randoms);
         if octave > 300 && GivenLayout::new(code, octave, tritave).is_accepted() {

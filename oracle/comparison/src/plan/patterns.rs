@@ -23,17 +23,17 @@ pub fn plan(tasks: &mut Vec<Task>, mode: Mode, seed: u64) {
     for primary_count in PATTERN_LIMITS {
         tasks.push(Box::new(move |tally| limits(tally, primary_count)));
     }
-    let largest = mode.pick(12, 18);
+    let largest = mode.pick(14, 20);
     for primary_count in 0..=largest {
         tasks.push(Box::new(move |tally| {
             all_with_count(tally, primary_count, largest);
         }));
     }
-    for stream in 0..mode.pick(32, 512) {
+    for stream in 0..mode.pick(40, 320) {
         let randoms = Randoms::new(seed, STREAM + stream);
         tasks.push(Box::new(move |tally| at_random(tally, randoms.clone())));
     }
-    for period in 0..=mode.pick(40, 80) {
+    for period in 0..=mode.pick(60, 120) {
         tasks.push(Box::new(move |tally| all_searches(tally, period)));
     }
 }

@@ -15,13 +15,13 @@ const STREAM: u64 = 3_000_000;
 const NUMERATOR_LIMITS: [i32; 7] = [i32::MIN, i32::MIN + 1, -1, 0, 1, i32::MAX - 1, i32::MAX];
 
 pub fn plan(tasks: &mut Vec<Task>, mode: Mode, seed: u64) {
-    for period in 0..=mode.pick(16, 28) {
+    for period in 0..=mode.pick(24, 40) {
         tasks.push(Box::new(move |tally| all_of_period(tally, period)));
     }
     for period in LIMITS {
         tasks.push(Box::new(move |tally| limits_of_period(tally, period)));
     }
-    for stream in 0..mode.pick(16, 256) {
+    for stream in 0..mode.pick(128, 1_024) {
         let randoms = Randoms::new(seed, STREAM + stream);
         tasks.push(Box::new(move |tally| at_random(tally, randoms.clone())));
     }

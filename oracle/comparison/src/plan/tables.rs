@@ -16,17 +16,17 @@ const ALPHABET: [u8; 8] = *b"019 \n\r-x";
 const LINE: &[u8] = b"1 12 19\n";
 
 pub fn plan(tasks: &mut Vec<Task>, mode: Mode, seed: u64) {
-    for octave in (0..=mode.pick(36, 72)).rev() {
+    for octave in (0..=mode.pick(72, 144)).rev() {
         tasks.push(Box::new(move |tally| all_of_octave(tally, octave)));
     }
-    let longest = mode.pick(5, 6);
+    let longest = mode.pick(6, 7);
     for first in ALPHABET {
         tasks.push(Box::new(move |tally| {
             all_beginning(tally, &mut vec![first], longest);
         }));
     }
     tasks.push(Box::new(changed_line));
-    for stream in 0..mode.pick(16, 200) {
+    for stream in 0..mode.pick(256, 2_048) {
         let randoms = Randoms::new(seed, STREAM + stream);
         tasks.push(Box::new(move |tally| at_random(tally, randoms.clone())));
     }

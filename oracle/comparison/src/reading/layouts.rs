@@ -90,8 +90,7 @@ impl Layout {
         ((h * s) / n % 2 - ((i / cycles + h) * s) / n % 2).abs()
     }
 
-    /// The lamp strip. Question 9: "is every sharp and flat layer number of the lamp
-    /// strip below 100?"
+    /// The lamp strip, "from the first P layer entries".
     pub fn strip(&self) -> Outcome<Vec<u8>> {
         let total = self.layer_count();
         let octave = self.pergen.period as usize;
@@ -99,16 +98,22 @@ impl Layout {
             .iter()
             .map(|number| layers::kind((*number).into(), total))
             .collect();
-        let below_100 = |kind: &Kind| match kind {
-            Kind::Sharp(level) | Kind::Flat(level) => *level < 100,
-            Kind::Natural | Kind::Enharmonic(_) => true,
-        };
-        ask(9, kinds.iter().all(below_100))?;
-
-        let mut strip: Vec<u8> = kinds.into_iter().map(lamp).collect();
-        strip[0] = HOME;
-        Ok(strip)
+        strip_of(&kinds)
     }
+}
+
+/// The lamp codes of the keys of an octave. Question 9: "is every sharp and flat
+/// layer number of the lamp strip below 100?"
+pub fn strip_of(kinds: &[Kind]) -> Outcome<Vec<u8>> {
+    let below_100 = |kind: &Kind| match kind {
+        Kind::Sharp(level) | Kind::Flat(level) => *level < 100,
+        Kind::Natural | Kind::Enharmonic(_) => true,
+    };
+    ask(9, kinds.iter().all(below_100))?;
+
+    let mut strip: Vec<u8> = kinds.iter().copied().map(lamp).collect();
+    strip[0] = HOME;
+    Ok(strip)
 }
 
 /// "Key 0 is 0, home."

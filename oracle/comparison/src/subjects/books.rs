@@ -7,6 +7,7 @@ use crate::question::Question;
 use crate::reading::books;
 use crate::tally::Original;
 use crate::tally::Tally;
+use crate::tally::outcome;
 
 /// Looks a key up, and compares the part of the book that the Rust package makes
 /// of offset and length.
@@ -20,7 +21,7 @@ pub fn find(tally: &mut Tally, book: &[u8], key: u32) {
     };
     let reading = books::find(book, key);
     let part = reading.map(|[offset, length]| &book[offset as usize..][..length as usize]);
-    let packaged = vetchnoon::book_find(book, key).map_err(|refused| refused.0);
+    let packaged = outcome(vetchnoon::book_find(book, key));
     if packaged != part {
         return tally.unexplained(question, || {
             format!("the Rust package finds {packaged:?}, the reading {part:?}")

@@ -6,6 +6,7 @@ use crate::classes;
 use crate::classes::Class;
 use crate::question::Call;
 use crate::question::Question;
+use crate::reading::Outcome;
 use crate::reading::fitted;
 use crate::reading::names;
 use crate::reading::names::Spelling;
@@ -14,6 +15,7 @@ use crate::subjects::pergens;
 use crate::tally::Answers;
 use crate::tally::Original;
 use crate::tally::Tally;
+use crate::tally::outcome;
 
 impl GivenLayout {
     /// Every question about one key.
@@ -47,8 +49,12 @@ impl GivenLayout {
         let arguments = self.arguments_with(key);
 
         let length = Answers {
-            library: vetchnoon::note_name_len(self.code, self.octave, self.tritave, key)
-                .map_err(|refused| refused.0),
+            library: outcome(vetchnoon::note_name_len(
+                self.code,
+                self.octave,
+                self.tritave,
+                key,
+            )),
             reading: reading.as_ref().map(Vec::len).map_err(|number| *number),
             original: original.then(|name| Original::Answered(name.len())),
         };
@@ -100,8 +106,8 @@ impl GivenLayout {
         tally.compare(sounding(&arguments), &answers, None);
     }
 
-    fn sounded(&self, spelling: Spelling) -> Result<u16, u8> {
-        vetchnoon::sounded_key(
+    fn sounded(&self, spelling: Spelling) -> Outcome<u16> {
+        outcome(vetchnoon::sounded_key(
             self.code,
             self.octave,
             self.tritave,
@@ -109,8 +115,7 @@ impl GivenLayout {
             fitted(spelling.sharps),
             fitted(spelling.flats),
             fitted(spelling.stars),
-        )
-        .map_err(|refused| refused.0)
+        ))
     }
 
     fn arguments_with(&self, key: u16) -> [i64; 4] {
@@ -130,10 +135,7 @@ impl GivenLayout {
     }
 
     fn key_class(&self, key: u16) -> Option<Class> {
-        match &self.reading {
-            Ok(layout) => classes::of_layout_key(layout, key),
-            Err(_) => self.octave_class(),
-        }
+        self.class(|layout| classes::of_layout_key(layout, key))
     }
 }
 

@@ -17,10 +17,12 @@ use crate::reading::fitted;
 use crate::reading::layers;
 use crate::reading::layers::Kind;
 use crate::reading::layouts::Layout;
+use crate::reading::layouts::strip_of;
 use crate::subjects::patterns::original_numbers;
 use crate::tally::Answers;
 use crate::tally::Original;
 use crate::tally::Tally;
+use crate::tally::outcome;
 
 /// Three numbers, with what the reading and the original make of them.
 pub struct GivenLayout {
@@ -29,6 +31,8 @@ pub struct GivenLayout {
     pub tritave: u16,
     pub reading: Outcome<Layout>,
     pub original: Original<IsomorphicLayout>,
+    /// The three numbers again, to ask questions with.
+    arguments: [i64; 3],
 }
 
 impl GivenLayout {
@@ -42,6 +46,7 @@ impl GivenLayout {
                 Some(chain) => Original::of_option(layouts::create(chain, octave, tritave)),
                 None => Original::Silent,
             },
+            arguments: [code, octave, tritave].map(i64::from),
         }
     }
 
@@ -49,13 +54,34 @@ impl GivenLayout {
         self.reading.is_ok()
     }
 
-    pub fn arguments(&self) -> [i64; 3] {
-        [self.code, self.octave, self.tritave].map(i64::from)
+    /// The reading's answer, or its refusal of the layout.
+    pub fn read<T>(&self, answer: impl FnOnce(&Layout) -> T) -> Outcome<T> {
+        match &self.reading {
+            Ok(layout) => Ok(answer(layout)),
+            Err(number) => Err(*number),
+        }
+    }
+
+    /// The class of a question: an accepted layout's, or the refused layout's own.
+    pub fn class(&self, of_accepted: impl FnOnce(&Layout) -> Option<Class>) -> Option<Class> {
+        match &self.reading {
+            Ok(layout) => of_accepted(layout),
+            Err(_) => self.refused_class(),
+        }
+    }
+
+    fn refused_class(&self) -> Option<Class> {
+        let chain = chains::chain(self.code).ok()?;
+        let generator = chain.generator(0, self.tritave.into());
+        (self.octave == 0).then(|| classes::of_octave_zero(generator.is_ok()))
     }
 
     /// A question about the layout as a whole.
-    fn asking<'a>(&self, call: Call, arguments: &'a [i64; 3]) -> Question<'a> {
-        Question { call, arguments }
+    fn asking(&self, call: Call) -> Question<'_> {
+        Question {
+            call,
+            arguments: &self.arguments,
+        }
     }
 
     /// The numbers of the layout, its scale name and its count of layers.
@@ -92,10 +118,9 @@ impl GivenLayout {
             });
             Original::of(derived)
         });
-        let question = self.arguments();
-        let question = self.asking(Call::Layout, &question);
+        let question = self.asking(Call::Layout);
         let call = |out: &mut [u16]| vetchnoon::layout(self.code, self.octave, self.tritave, out);
-        tally.compare_filling(question, reading, original, self.octave_class(), call);
+        tally.compare_filling(question, reading, original, self.class(|_| None), call);
     }
 
     fn compare_scale_name(&self, tally: &mut Tally) {
@@ -103,23 +128,20 @@ impl GivenLayout {
         let original = self.original.then(|layout| {
             Original::of(layouts::scale_name(layout).map(|name| name.as_bytes().to_vec()))
         });
-        let question = self.arguments();
-        let question = self.asking(Call::ScaleName, &question);
+        let question = self.asking(Call::ScaleName);
         let call =
             |out: &mut [u8]| vetchnoon::scale_name(self.code, self.octave, self.tritave, out);
-        tally.compare_filling(question, reading, original, self.octave_class(), call);
+        tally.compare_filling(question, reading, original, self.class(|_| None), call);
     }
 
     /// The original does not tell T; its layers, which depend on it, are compared.
     fn compare_layer_count(&self, tally: &mut Tally) {
         let answers = Answers {
-            library: vetchnoon::layer_count(self.code, self.octave, self.tritave)
-                .map_err(|refused| refused.0),
+            library: outcome(vetchnoon::layer_count(self.code, self.octave, self.tritave)),
             reading: self.read(|layout| fitted(layout.layer_count())),
             original: Original::Silent,
         };
-        let question = self.arguments();
-        tally.compare(self.asking(Call::LayerCount, &question), &answers, None);
+        tally.compare(self.asking(Call::LayerCount), &answers, None);
     }
 
     /// What holds an entry for each key of the octave: layers and strip.
@@ -131,53 +153,52 @@ impl GivenLayout {
     fn compare_layers(&self, tally: &mut Tally) {
         let reading = self.read(Layout::layers);
         let total = self.read(Layout::layer_count).unwrap_or(0);
-        let original = self.original.then(|layout| match layouts::layers(layout) {
-            Ok(layers) => numbers_of(&layers, total),
-            Err(panicked) => Original::Failed(panicked.to_string()),
-        });
-        let class = self.octave_class().or_else(|| {
-            self.reading
-                .as_ref()
-                .ok()
-                .and_then(classes::of_layout_layers)
-        });
-        let question = self.arguments();
-        let question = self.asking(Call::LayoutLayers, &question);
+        let original = self
+            .original_layers()
+            .then(|layers| numbers_of(layers, total));
+        let class = self.class(classes::of_layout_layers);
+        let question = self.asking(Call::LayoutLayers);
         let call =
             |out: &mut [u16]| vetchnoon::layout_layers(self.code, self.octave, self.tritave, out);
         tally.compare_filling(question, reading, original, class, call);
     }
 
+    fn original_layers(&self) -> Original<Vec<Layer>> {
+        self.original
+            .then(|layout| Original::of(layouts::layers(layout)))
+    }
+
+    /// The original has no strips; its layers, with document 01's codes, make one.
     fn compare_strip(&self, tally: &mut Tally) {
         let reading = match &self.reading {
             Ok(layout) => layout.strip(),
             Err(number) => Err(*number),
         };
-        let question = self.arguments();
-        let question = self.asking(Call::LampStrip, &question);
+        let octave = usize::from(self.octave);
+        let original = self
+            .original_layers()
+            .then(|layers| strip_from(&layers[..octave]));
+        let class = self.class(classes::of_layout_layers);
+        let question = self.asking(Call::LampStrip);
         let call =
             |out: &mut [u8]| vetchnoon::lamp_strip(self.code, self.octave, self.tritave, out);
-        tally.compare_filling(question, reading, Original::Silent, None, call);
+        tally.compare_filling(question, reading, original, class, call);
     }
 
     /// The book and its length. The names in it are compared with the original's.
     pub fn compare_book(&self, tally: &mut Tally) {
         let reading = self.read(books::book);
         let answers = Answers {
-            library: vetchnoon::book_len(self.code, self.octave, self.tritave)
-                .map_err(|refused| refused.0),
+            library: outcome(vetchnoon::book_len(self.code, self.octave, self.tritave)),
             reading: reading.as_ref().map(Vec::len).map_err(|number| *number),
             original: Original::Silent,
         };
-        let question = self.arguments();
-        tally.compare(self.asking(Call::BookLen, &question), &answers, None);
+        tally.compare(self.asking(Call::BookLen), &answers, None);
 
         let call = |out: &mut [u8]| vetchnoon::book(self.code, self.octave, self.tritave, out);
         let original = self.original_book();
-        let class = self
-            .octave_class()
-            .or_else(|| self.reading.as_ref().ok().and_then(classes::of_layout_book));
-        let question = self.asking(Call::Book, &question);
+        let class = self.class(classes::of_layout_book);
+        let question = self.asking(Call::Book);
         tally.compare_filling(question, reading, original, class, call);
     }
 
@@ -189,19 +210,6 @@ impl GivenLayout {
                 .collect();
             Original::of(names.map(|names| books::of_names(&names)))
         })
-    }
-
-    pub fn read<T>(&self, answer: impl FnOnce(&Layout) -> T) -> Outcome<T> {
-        match &self.reading {
-            Ok(layout) => Ok(answer(layout)),
-            Err(number) => Err(*number),
-        }
-    }
-
-    pub fn octave_class(&self) -> Option<Class> {
-        let chain = chains::chain(self.code).ok()?;
-        let generator = chain.generator(0, self.tritave.into());
-        (self.octave == 0).then(|| classes::of_octave_zero(generator.is_ok()))
     }
 }
 
@@ -221,14 +229,29 @@ fn numbers_of(layers: &[Layer], total: Whole) -> Original<Vec<u16>> {
 
 /// The one number of T that means this layer, if there is one.
 fn number_of(layer: Layer, total: Whole) -> Option<u16> {
-    let (number, meant) = match layer {
-        Layer::Natural => (0, Kind::Natural),
-        Layer::Sharp(level) => (level + 1, Kind::Sharp(level.into())),
-        Layer::Enharmonic(level) => (level + 1, Kind::Enharmonic(level.into())),
-        Layer::Flat(level) => {
-            let number = total - 1 - Whole::from(level);
-            (u16::try_from(number).ok()?, Kind::Flat(level.into()))
-        }
+    let number = match layer {
+        Layer::Natural => 0,
+        Layer::Sharp(level) | Layer::Enharmonic(level) => Whole::from(level) + 1,
+        Layer::Flat(level) => total - 1 - Whole::from(level),
     };
-    (layers::kind(number.into(), total) == meant).then_some(number)
+    let in_range = (0..total).contains(&number);
+    (in_range && layers::kind(number, total) == kind_of(layer)).then(|| fitted(number))
+}
+
+fn kind_of(layer: Layer) -> Kind {
+    match layer {
+        Layer::Natural => Kind::Natural,
+        Layer::Sharp(level) => Kind::Sharp(level.into()),
+        Layer::Enharmonic(level) => Kind::Enharmonic(level.into()),
+        Layer::Flat(level) => Kind::Flat(level.into()),
+    }
+}
+
+/// The strip that the original's layers make, or none where they have no codes.
+fn strip_from(layers: &[Layer]) -> Original<Vec<u8>> {
+    let kinds: Vec<Kind> = layers.iter().copied().map(kind_of).collect();
+    match strip_of(&kinds) {
+        Ok(strip) => Original::Answered(strip),
+        Err(_) => Original::Declined,
+    }
 }

@@ -8,6 +8,7 @@ use crate::reading::numbers as reading;
 use crate::tally::Answers;
 use crate::tally::Original;
 use crate::tally::Tally;
+use crate::tally::outcome;
 
 pub fn gcd(tally: &mut Tally, x: u16, y: u16) {
     let question = Question {
@@ -28,7 +29,7 @@ pub fn remainder(tally: &mut Tally, numer: i32, denom: u16) {
         arguments: &[numer.into(), denom.into()],
     };
     let answers = Answers {
-        library: vetchnoon::rem(numer, denom).map_err(|refused| refused.0),
+        library: outcome(vetchnoon::rem(numer, denom)),
         reading: reading::remainder(numer.into(), denom.into()).map(fitted),
         original: Original::of(judge::numbers::remainder(numer, denom)),
     };
