@@ -9,6 +9,7 @@ use std::fmt::Debug;
 use vetchnoon::Refused;
 
 use crate::reading::Outcome;
+use crate::shown::shown;
 use crate::tally::outcome;
 
 /// An element of a lent slice.
@@ -59,9 +60,9 @@ pub fn lent<T: Element>(
     let exact = filled(room, Round::Exact, &call)?;
     let longer = filled(room + MORE, Round::Longer, &call)?;
     if longer != exact {
+        let (exact, longer) = (shown(&exact), shown(&longer));
         return Err(format!(
-            "into {room} elements {exact:?}, into {} {longer:?}",
-            room + MORE
+            "into {room} elements {exact}, into {MORE} more {longer}"
         ));
     }
     if room > 0 {
@@ -71,7 +72,7 @@ pub fn lent<T: Element>(
             Err(number) => Err(number),
         };
         if short != expected {
-            return Err(format!("into {} elements {short:?}", room - 1));
+            return Err(format!("into {} elements {}", room - 1, shown(&short)));
         }
     }
     Ok(exact)

@@ -9,6 +9,7 @@ mod question;
 mod randoms;
 mod reading;
 mod report;
+mod shown;
 mod subjects;
 mod tally;
 

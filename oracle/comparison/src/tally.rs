@@ -13,6 +13,7 @@ use crate::question::Call;
 use crate::question::Kept;
 use crate::question::Question;
 use crate::reading::Outcome;
+use crate::shown::shown;
 
 /// What the original has to say of a question.
 #[derive(Clone, Debug, PartialEq, Eq)]
@@ -250,21 +251,11 @@ fn difference<T: Debug>(answers: &Answers<T>) -> String {
         original,
     } = answers;
     [
-        format!("library  {}", shortened(library)),
-        format!("reading  {}", shortened(reading)),
-        format!("original {}", shortened(original)),
+        format!("library  {}", shown(library)),
+        format!("reading  {}", shown(reading)),
+        format!("original {}", shown(original)),
     ]
     .join("\n")
-}
-
-/// Whole layouts and books are long.
-fn shortened(value: &impl Debug) -> String {
-    const LONGEST: usize = 240;
-    let text = format!("{value:?}");
-    match text.char_indices().nth(LONGEST) {
-        Some((end, _)) => format!("{} ..", &text[..end]),
-        None => text,
-    }
 }
 
 #[cfg(test)]
