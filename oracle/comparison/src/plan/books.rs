@@ -82,7 +82,7 @@ fn changed_at_random(tally: &mut Tally, layout: (u16, u16, u16), mut randoms: Ra
         match randoms.below(3) {
             0 => change_bytes(&mut changed, &mut randoms),
             1 => change_number(&mut changed, keys, &mut randoms),
-            _ => lengthen_name(&mut changed, keys, &mut randoms),
+            _ => move_borders(&mut changed, keys, &mut randoms),
         }
         find_some(tally, &changed, keys);
         subject::find(tally, &changed, randoms.below(u64::from(keys)) as u32);
@@ -111,19 +111,33 @@ fn change_number(book: &mut [u8], keys: u32, randoms: &mut Randoms) {
     put_number(book, place, number);
 }
 
-/// Makes one name longer or shorter and moves all later offsets, in 32 bits that
-/// wrap: only exact sums tell that the pairs do not cover the text.
-fn lengthen_name(book: &mut [u8], keys: u32, randoms: &mut Randoms) {
-    let changed = randoms.below(keys.into()) as usize;
+/// Makes one name longer and a later one shorter by as much, with the offsets
+/// between moved, all in 32 bits that wrap. The ends then fit in wrapped numbers;
+/// by a small change they fit indeed.
+fn move_borders(book: &mut [u8], keys: u32, randoms: &mut Randoms) {
+    let first = randoms.below(u64::from(keys) - 1) as usize;
+    let last = first + 1 + randoms.below(u64::from(keys) - 1 - first as u64) as usize;
     let by = randoms.of(&[1, 2, u32::MAX, 1 << 31, randoms.clone().next() as u32]);
-    let length_at = 8 + 8 * changed;
-    let length = number_at(book, length_at).wrapping_add(by);
-    put_number(book, length_at, length);
-    for key in changed + 1..keys as usize {
-        let offset_at = 4 + 8 * key;
-        let offset = number_at(book, offset_at).wrapping_add(by);
-        put_number(book, offset_at, offset);
+    add_at(book, length_of(first), by);
+    for key in first + 1..=last {
+        add_at(book, offset_of(key), by);
     }
+    add_at(book, length_of(last), by.wrapping_neg());
+}
+
+/// Where a key's offset stands in a book.
+fn offset_of(key: usize) -> usize {
+    4 + 8 * key
+}
+
+/// Where its length stands.
+fn length_of(key: usize) -> usize {
+    offset_of(key) + 4
+}
+
+fn add_at(book: &mut [u8], place: usize, by: u32) {
+    let number = number_at(book, place).wrapping_add(by);
+    put_number(book, place, number);
 }
 
 fn number_at(book: &[u8], place: usize) -> u32 {
@@ -155,6 +169,21 @@ mod tests {
     fn every_book_to_damage_is_there() {
         for layout in SMALL.into_iter().chain(LARGER) {
             assert!(book_of(layout).len() > 4, "{layout:?}");
+        }
+    }
+    #[test]
+    fn moved_borders_fit_where_sums_wrap() {
+        let mut randoms = Randoms::new(1, 1);
+        for _ in 0..100 {
+            let mut book = book_of((1, 31, 49));
+            let ends = book.len() as u32;
+            move_borders(&mut book, 31, &mut randoms);
+            let mut end = 4 + 8 * 31;
+            for key in 0..31 {
+                assert_eq!(number_at(&book, offset_of(key)), end);
+                end = end.wrapping_add(number_at(&book, length_of(key)));
+            }
+            assert_eq!(end, ends);
         }
     }
 }
