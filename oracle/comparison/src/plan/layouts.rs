@@ -5,6 +5,7 @@ use super::Task;
 use crate::randoms::LIMITS;
 use crate::randoms::Randoms;
 use crate::reading::Whole;
+use crate::reading::fitted;
 use crate::reading::names::Spelling;
 use crate::subjects::layouts::GivenLayout;
 use crate::tally::Tally;
@@ -28,6 +29,9 @@ pub fn plan(tasks: &mut Vec<Task>, mode: Mode, seed: u64) {
         tasks.push(Box::new(move |tally| {
             limits_of_octave(tally, octave, randoms.clone());
         }));
+    }
+    for octave in (5..=mode.pick(16, 28)).rev() {
+        tasks.push(Box::new(move |tally| strips_at_limit(tally, octave)));
     }
     for stream in 0..mode.pick(256, 2_048) {
         let randoms = Randoms::new(seed, STREAM + 20_000 + stream);
@@ -77,6 +81,22 @@ fn limits_of_octave(tally: &mut Tally, octave: u16, mut randoms: Randoms) {
     for code in CODES {
         for tritave in LIMITS {
             compare_some(tally, code, octave, tritave, &mut randoms);
+        }
+    }
+}
+
+/// Small layouts times the numbers that bring their count of layers close to the
+/// 202 with which a strip just has codes.
+fn strips_at_limit(tally: &mut Tally, octave: u16) {
+    for code in 0..=5 {
+        for tritave in 0..=3 * octave {
+            let count = GivenLayout::new(code, octave, tritave).read(|layout| layout.layer_count());
+            let Ok(count) = count.map(fitted::<u16>) else {
+                continue;
+            };
+            for times in 198u16.div_ceil(count)..=206 / count {
+                GivenLayout::new(code, octave * times, tritave * times).compare_octave(tally);
+            }
         }
     }
 }

@@ -26,6 +26,7 @@ pub fn plan(tasks: &mut Vec<Task>, mode: Mode, seed: u64) {
         }));
     }
     tasks.push(Box::new(changed_line));
+    tasks.push(Box::new(limits));
     for stream in 0..mode.pick(256, 2_048) {
         let randoms = Randoms::new(seed, STREAM + stream);
         tasks.push(Box::new(move |tally| at_random(tally, randoms.clone())));
@@ -72,6 +73,17 @@ fn changed_line(tally: &mut Tally) {
             let mut shorter = LINE.to_vec();
             shorter.remove(place);
             tables::print(tally, &shorter);
+        }
+    }
+}
+
+/// Numbers at the limits of each place, and just beyond.
+fn limits(tally: &mut Tally) {
+    for code in [0, 1, 5, 6, 65_535, 65_536] {
+        for octave in [0, 1, 5, 4_095, 4_096, 4_097, 65_535, 65_536, 99_999] {
+            for tritave in [0, 1, 8, 6_492, 65_535, 65_536, 99_999, 100_000] {
+                tables::print(tally, format!("{code} {octave} {tritave}\n").as_bytes());
+            }
         }
     }
 }
