@@ -181,27 +181,44 @@ fn random_spelling(layout: &GivenLayout, randoms: &mut Randoms) -> Spelling {
     }
 }
 
-/// Large layouts of which every key is compared.
+/// Large layouts: one cycle, four, a hundred, and code 3's largest octave.
+const LARGE: [(u16, u16, u16); 4] = [
+    (1, 311, 493),
+    (1, 4096, 6492),
+    (2, 1200, 1900),
+    (3, 32_767, 52_427),
+];
+
+/// The layout with the longest names and the longest book, of 307,321,697 bytes.
+const LONGEST_NAMES: (u16, u16, u16) = (2, 65_534, 65_535);
+
+/// Layouts of which every key is compared.
 fn whole_layouts(mode: Mode, seed: u64) -> Vec<(u16, u16, u16)> {
-    let mut layouts = vec![
-        (1, 311, 493),
-        (1, 4096, 6492),
-        (2, 1200, 2000),
-        (3, 32_767, 52_427),
-    ];
+    let mut layouts = LARGE.to_vec();
     if mode == Mode::Long {
-        // The longest names and the longest book.
-        layouts.push((2, 65_534, 65_535));
+        layouts.push(LONGEST_NAMES);
     }
     let mut randoms = Randoms::new(seed, STREAM - 1);
-    let wanted = layouts.len() + mode.pick(32, 200);
-    while layouts.len() < wanted {
-        let (code, octave, tritave) = random_layout(&mut randoms);
-        if octave > 300 && GivenLayout::new(code, octave, tritave).is_accepted() {
-            layouts.push((code, octave, tritave));
-        }
+    for _ in 0..mode.pick(32, 200) {
+        layouts.push(accepted(&mut randoms, 300));
+    }
+    for _ in 0..mode.pick(6, 40) {
+        layouts.push(accepted(&mut randoms, FIRST_BEYOND_32_BITS));
     }
     layouts
+}
+
+/// From this octave on the original's product of inverse and key may overflow.
+const FIRST_BEYOND_32_BITS: u16 = 46_342;
+
+/// An accepted layout at random with at least so many keys.
+fn accepted(randoms: &mut Randoms, least: u16) -> (u16, u16, u16) {
+    loop {
+        let (code, octave, tritave) = random_layout(randoms);
+        if octave >= least && GivenLayout::new(code, octave, tritave).is_accepted() {
+            return (code, octave, tritave);
+        }
+    }
 }
 
 /// Everything about a layout: its numbers, layers, strip, book and every key.
@@ -212,5 +229,17 @@ fn whole(tally: &mut Tally, (code, octave, tritave): (u16, u16, u16), mut random
     layout.compare_book(tally);
     for key in 0..octave {
         layout.compare_key(tally, key);
+    }
+}
+
+#[cfg(test)]
+mod tests {
+    use super::*;
+
+    #[test]
+    fn the_large_layouts_are_accepted() {
+        for (code, octave, tritave) in LARGE.into_iter().chain([LONGEST_NAMES]) {
+            assert!(GivenLayout::new(code, octave, tritave).is_accepted());
+        }
     }
 }
