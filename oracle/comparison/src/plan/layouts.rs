@@ -200,25 +200,30 @@ fn whole_layouts(mode: Mode, seed: u64) -> Vec<(u16, u16, u16)> {
     }
     let mut randoms = Randoms::new(seed, STREAM - 1);
     for _ in 0..mode.pick(32, 200) {
-        layouts.push(accepted(&mut randoms, 300));
+        layouts.push(accepted(300, || random_layout(&mut randoms)));
     }
     for _ in 0..mode.pick(6, 40) {
-        layouts.push(accepted(&mut randoms, FIRST_BEYOND_32_BITS));
+        layouts.push(accepted(0, || large_layout(&mut randoms)));
     }
     layouts
 }
 
-/// From this octave on the original's product of inverse and key may overflow.
-const FIRST_BEYOND_32_BITS: u16 = 46_342;
-
-/// An accepted layout at random with at least so many keys.
-fn accepted(randoms: &mut Randoms, least: u16) -> (u16, u16, u16) {
+/// The first accepted one of the chosen layouts that has at least so many keys.
+fn accepted(least: u16, mut choose: impl FnMut() -> (u16, u16, u16)) -> (u16, u16, u16) {
     loop {
-        let (code, octave, tritave) = random_layout(randoms);
+        let (code, octave, tritave) = choose();
         if octave >= least && GivenLayout::new(code, octave, tritave).is_accepted() {
             return (code, octave, tritave);
         }
     }
+}
+
+/// A layout so large that the original's product of inverse and key may overflow
+/// within the octave.
+fn large_layout(randoms: &mut Randoms) -> (u16, u16, u16) {
+    let code = randoms.between(0, 5);
+    let octave = randoms.between(46_342, u16::MAX);
+    (code, octave, likely_tritave(code, octave, randoms))
 }
 
 /// Everything about a layout: its numbers, layers, strip, book and every key.

@@ -1,5 +1,6 @@
 //! Looking keys up in books, which may be any bytes.
 
+use judge::asking;
 use vetchnoon::Refused;
 
 use crate::question::Call;
@@ -10,7 +11,7 @@ use crate::tally::Tally;
 use crate::tally::outcome;
 
 /// Looks a key up, and compares the part of the book that the Rust package makes
-/// of offset and length.
+/// of offset and length; a part that is none would make it panic.
 pub fn find(tally: &mut Tally, book: &[u8], key: u32) {
     let arguments: Vec<i64> = std::iter::once(key.into())
         .chain(book.iter().map(|byte| i64::from(*byte)))
@@ -21,8 +22,8 @@ pub fn find(tally: &mut Tally, book: &[u8], key: u32) {
     };
     let reading = books::find(book, key);
     let part = reading.map(|[offset, length]| &book[offset as usize..][..length as usize]);
-    let packaged = outcome(vetchnoon::book_find(book, key));
-    if packaged != part {
+    let packaged = asking::ask(|| outcome(vetchnoon::book_find(book, key)));
+    if packaged != Ok(part) {
         return tally.unexplained(question, || {
             format!("the Rust package finds {packaged:?}, the reading {part:?}")
         });
