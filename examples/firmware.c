@@ -1,0 +1,57 @@
+/* What an instrument's firmware does with the library: it makes a layout, lights the lamps, keeps a book of names, and
+ * shows the name of each key that is pressed. Nothing is allocated, and every refusal is shown by its number. */
+#include <inttypes.h>
+#include <stdio.h>
+
+#include "vetchnoon.h"
+
+enum { CHAIN = 1, OCTAVE = 24, TRITAVE = 38 }; /* Meantone[7] in quarter tones */
+
+static uint8_t lamps[OCTAVE];
+static uint8_t book[512];
+
+static int refused(const char *what, int64_t answer)
+{
+    if (answer < 0)
+        printf("%s: refused %" PRId64 "\n", what, -answer);
+    return answer < 0;
+}
+
+static void press(size_t book_len, uint32_t key)
+{
+    uint32_t name[2]; /* offset and length */
+
+    if (refused("name", vn_book_find(book, book_len, key % OCTAVE, name, 2)))
+        return;
+    printf("key %" PRIu32 ": %.*s, lamp %d\n", key, (int)name[1], (const char *)book + name[0], lamps[key % OCTAVE]);
+}
+
+int main(void)
+{
+    uint16_t layout[8]; /* generator, cycles, reduced period, inverse, counts, steps */
+    int64_t length;
+
+    if (refused("layout", vn_layout(CHAIN, OCTAVE, TRITAVE, layout, 8)))
+        return 1;
+    printf("%d keys, %d cycles, steps %d and %d\n", OCTAVE, layout[1], layout[6], layout[7]);
+
+    if (refused("lamps", vn_lamp_strip(CHAIN, OCTAVE, TRITAVE, lamps, sizeof lamps)))
+        return 1;
+
+    length = vn_book(CHAIN, OCTAVE, TRITAVE, book, sizeof book);
+    if (refused("book", length))
+        return 1;
+    printf("book of %" PRId64 " bytes\n", length);
+
+    press((size_t)length, 0);
+    press((size_t)length, 1);
+    press((size_t)length, 2);
+    press((size_t)length, 24 + 3); /* an octave higher */
+
+    book[4]++; /* a damaged book is seen at the next key */
+    press((size_t)length, 4);
+
+    refused("book in 100 bytes", vn_book(CHAIN, OCTAVE, TRITAVE, book, 100));
+    refused("Mavila[9] in 12 keys", vn_layout(0, 12, 19, layout, 8));
+    return 0;
+}

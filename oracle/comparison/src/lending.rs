@@ -1,0 +1,162 @@
+//! Lending the library slices: of exactly the right length, longer, and one short.
+//!
+//! Each slice lies within a larger one that is filled with a pattern. After a call
+//! everything but the output must still hold it: elements past the output, the
+//! whole slice after a refusal, and what lies before and behind the slice.
+
+use std::fmt::Debug;
+
+use vetchnoon::Refused;
+
+use crate::reading::Outcome;
+use crate::shown::shown;
+use crate::tally::outcome;
+
+/// An element of a lent slice.
+pub trait Element: Copy + PartialEq + Debug {
+    /// What an element holds before a call. Two rounds hold different values at
+    /// each place, so no output can be taken for what was there.
+    fn before(place: usize, round: Round) -> Self;
+}
+
+#[derive(Clone, Copy, Debug)]
+pub enum Round {
+    Exact,
+    Longer,
+    Short,
+}
+
+macro_rules! elements {
+    ($($type:ty),*) => {$(
+        impl Element for $type {
+            fn before(place: usize, round: Round) -> Self {
+                let pattern = (place as $type).wrapping_mul(37).wrapping_add(0x5a);
+                match round {
+                    Round::Exact => pattern,
+                    Round::Longer | Round::Short => !pattern,
+                }
+            }
+        }
+    )*};
+}
+
+elements!(u8, u16, u32, i64);
+
+/// Elements before and behind a lent slice.
+const GUARD: usize = 4;
+
+/// By how much the longer slice is longer.
+const MORE: usize = 3;
+
+/// The question whether the output slice holds the whole output.
+const SLICE_HOLDS_OUTPUT: u8 = 10;
+
+/// What the library gives into a slice of `room` elements, or what it did that no
+/// call may do.
+pub fn lent<T: Element>(
+    room: usize,
+    call: impl Fn(&mut [T]) -> Result<usize, Refused>,
+) -> Result<Outcome<Vec<T>>, String> {
+    let exact = filled(room, Round::Exact, &call)?;
+    let longer = filled(room + MORE, Round::Longer, &call)?;
+    if longer != exact {
+        let (exact, longer) = (shown(&exact), shown(&longer));
+        return Err(format!(
+            "into {room} elements {exact}, into {MORE} more {longer}"
+        ));
+    }
+    if room > 0 {
+        let short = filled(room - 1, Round::Short, &call)?;
+        let expected = match exact {
+            Ok(_) => Err(SLICE_HOLDS_OUTPUT),
+            Err(number) => Err(number),
+        };
+        if short != expected {
+            return Err(format!("into {} elements {}", room - 1, shown(&short)));
+        }
+    }
+    Ok(exact)
+}
+
+/// One call with a slice of `length` elements.
+fn filled<T: Element>(
+    length: usize,
+    round: Round,
+    call: &impl Fn(&mut [T]) -> Result<usize, Refused>,
+) -> Result<Outcome<Vec<T>>, String> {
+    let lent = GUARD..GUARD + length;
+    let mut elements: Vec<T> = (0..length + 2 * GUARD)
+        .map(|place| T::before(place, round))
+        .collect();
+    let answer = outcome(call(&mut elements[lent.clone()]));
+
+    let written = answer.unwrap_or(0);
+    if written > length {
+        return Err(format!("{written} elements into a slice of {length}"));
+    }
+    let output = lent.start..lent.start + written;
+    let changed = (0..elements.len())
+        .filter(|place| !output.contains(place))
+        .find(|place| elements[*place] != T::before(*place, round));
+    match changed {
+        Some(place) => Err(format!(
+            "answered {answer:?} and changed element {} of a slice of {length}",
+            place as i64 - GUARD as i64
+        )),
+        None => Ok(answer.map(|_| elements[output].to_vec())),
+    }
+}
+
+#[cfg(test)]
+mod tests {
+    use super::*;
+
+    /// Writes 1, 2, 3 as a call of the library does.
+    fn well_behaved(out: &mut [u16]) -> Result<usize, Refused> {
+        out.get_mut(..3)
+            .ok_or(Refused(10))?
+            .copy_from_slice(&[1, 2, 3]);
+        Ok(3)
+    }
+
+    #[test]
+    fn output_and_refusals_are_handed_on() {
+        assert_eq!(lent(3, well_behaved), Ok(Ok(vec![1, 2, 3])));
+        assert_eq!(lent::<u8>(0, |_| Err(Refused(4))), Ok(Err(4)));
+        // The reading expected fewer elements: a refusal with 10 that a longer
+        // slice does not get.
+        assert!(lent(2, well_behaved).is_err());
+    }
+
+    #[test]
+    fn a_change_past_the_output_is_seen() {
+        let writes_on = |out: &mut [u16]| {
+            if let Some(past) = out.get_mut(3) {
+                *past = 0;
+            }
+            well_behaved(out)
+        };
+        assert!(lent(3, writes_on).is_err());
+    }
+
+    #[test]
+    fn a_refusal_that_writes_is_seen() {
+        let writes_first = |out: &mut [u16]| {
+            if let Some(first) = out.first_mut() {
+                *first = 1;
+            }
+            well_behaved(out)
+        };
+        assert!(lent(3, writes_first).is_err());
+    }
+
+    #[test]
+    fn a_short_slice_that_is_accepted_is_seen() {
+        let accepts = |out: &mut [u16]| {
+            let written = out.len().min(3);
+            out[..written].copy_from_slice(&[1, 2, 3][..written]);
+            Ok(written)
+        };
+        assert!(lent(3, accepts).is_err());
+    }
+}

@@ -1,0 +1,250 @@
+//! Layouts.
+
+use super::Mode;
+use super::Task;
+use crate::randoms::LIMITS;
+use crate::randoms::Randoms;
+use crate::reading::Whole;
+use crate::reading::fitted;
+use crate::reading::names::Spelling;
+use crate::subjects::layouts::GivenLayout;
+use crate::tally::Tally;
+
+/// The six chains, and codes that are none.
+const CODES: [u16; 9] = [0, 1, 2, 3, 4, 5, 6, 7, 65_535];
+
+/// The streams of random numbers that are used here.
+const STREAM: u64 = 1_000_000;
+
+pub fn plan(tasks: &mut Vec<Task>, mode: Mode, seed: u64) {
+    for (index, large) in whole_layouts(mode, seed).into_iter().enumerate() {
+        let randoms = Randoms::new(seed, STREAM + index as u64);
+        tasks.push(Box::new(move |tally| whole(tally, large, randoms.clone())));
+    }
+    for octave in (0..=mode.pick(72, 160)).rev() {
+        tasks.push(Box::new(move |tally| all_of_octave(tally, octave)));
+    }
+    for (index, octave) in LIMITS.into_iter().enumerate() {
+        let randoms = Randoms::new(seed, STREAM + 10_000 + index as u64);
+        tasks.push(Box::new(move |tally| {
+            limits_of_octave(tally, octave, randoms.clone());
+        }));
+    }
+    for octave in (5..=mode.pick(16, 28)).rev() {
+        tasks.push(Box::new(move |tally| strips_at_limit(tally, octave)));
+    }
+    for stream in 0..mode.pick(256, 2_048) {
+        let randoms = Randoms::new(seed, STREAM + 20_000 + stream);
+        tasks.push(Box::new(move |tally| at_random(tally, randoms.clone())));
+    }
+}
+
+/// Every chain with each tritave up to 6 × octave + 6, and every key of two octaves.
+fn all_of_octave(tally: &mut Tally, octave: u16) {
+    for code in CODES {
+        for tritave in 0..=6 * octave + 6 {
+            let layout = GivenLayout::new(code, octave, tritave);
+            layout.compare(tally);
+            layout.compare_octave(tally);
+            layout.compare_book(tally);
+            let keys = if layout.is_accepted() { 2 * octave } else { 2 };
+            for key in 0..keys {
+                layout.compare_key(tally, key);
+            }
+            compare_small_spellings(tally, &layout);
+        }
+    }
+}
+
+/// All letters and one beyond, up to two signs of each kind and of both, and stars
+/// up to one that is too many.
+fn compare_small_spellings(tally: &mut Tally, layout: &GivenLayout) {
+    let letters = layout.read(|layout| layout.chain.count()).unwrap_or(0);
+    let cycles = layout.read(|layout| layout.pergen.cycles).unwrap_or(0);
+    for letter in 0..=letters {
+        for (sharps, flats) in [(0, 0), (1, 0), (2, 0), (0, 1), (0, 2), (1, 1)] {
+            for stars in [0, cycles - 1, cycles, cycles + 1] {
+                let spelling = Spelling {
+                    letter,
+                    sharps,
+                    flats,
+                    stars: stars.max(0),
+                };
+                layout.compare_sounded(tally, spelling);
+            }
+        }
+    }
+}
+
+/// An octave with each tritave at a limit, for every chain.
+fn limits_of_octave(tally: &mut Tally, octave: u16, mut randoms: Randoms) {
+    for code in CODES {
+        for tritave in LIMITS {
+            compare_some(tally, code, octave, tritave, &mut randoms);
+        }
+    }
+}
+
+/// Small layouts times the numbers that bring their count of layers close to the
+/// 202 with which a strip just has codes.
+fn strips_at_limit(tally: &mut Tally, octave: u16) {
+    for code in 0..=5 {
+        for tritave in 0..=3 * octave {
+            let count = GivenLayout::new(code, octave, tritave).read(|layout| layout.layer_count());
+            let Ok(count) = count.map(fitted::<u16>) else {
+                continue;
+            };
+            for times in 198u16.div_ceil(count)..=206 / count {
+                GivenLayout::new(code, octave * times, tritave * times).compare_octave(tally);
+            }
+        }
+    }
+}
+
+/// Layouts that are likely to be accepted, and others.
+fn at_random(tally: &mut Tally, mut randoms: Randoms) {
+    for _ in 0..1_000 {
+        let (code, octave, tritave) = random_layout(&mut randoms);
+        compare_some(tally, code, octave, tritave, &mut randoms);
+    }
+}
+
+fn random_layout(randoms: &mut Randoms) -> (u16, u16, u16) {
+    let code = randoms.between(0, 5);
+    match randoms.below(4) {
+        0 => (code, randoms.any(), randoms.any()),
+        1 => {
+            let octave = randoms.any_length().max(1);
+            (code, octave, likely_tritave(code, octave, randoms))
+        }
+        2 => {
+            let octave = randoms.any();
+            (code, octave, likely_tritave(code, octave, randoms))
+        }
+        _ => with_cycles(code, randoms),
+    }
+}
+
+/// A small layout with octave and tritave times the same number, which gives cycles.
+fn with_cycles(code: u16, randoms: &mut Randoms) -> (u16, u16, u16) {
+    let octave = randoms.between(5, 60);
+    let tritave = likely_tritave(code, octave, randoms);
+    let times = randoms.between(1, u16::MAX / octave.max(tritave));
+    (code, octave * times, tritave * times)
+}
+
+/// A tritave that gives a generator within the octave; any where there is none.
+fn likely_tritave(code: u16, octave: u16, randoms: &mut Randoms) -> u16 {
+    let generator = Whole::from(randoms.between(0, octave));
+    let octave = Whole::from(octave);
+    let tritave = match code {
+        0..=2 => octave + generator,
+        3 => 2 * octave - 3 * generator,
+        4 => octave + 4 * generator,
+        _ => 6 * (octave - generator),
+    };
+    u16::try_from(tritave).unwrap_or_else(|_| randoms.any())
+}
+
+/// The layout itself, nine keys and nine spellings.
+fn compare_some(tally: &mut Tally, code: u16, octave: u16, tritave: u16, randoms: &mut Randoms) {
+    let layout = GivenLayout::new(code, octave, tritave);
+    layout.compare(tally);
+    for key in [0, 1, octave.saturating_sub(1), octave, u16::MAX] {
+        layout.compare_key(tally, key);
+    }
+    for _ in 0..4 {
+        layout.compare_key(tally, randoms.any());
+    }
+    for _ in 0..9 {
+        let spelling = random_spelling(&layout, randoms);
+        layout.compare_sounded(tally, spelling);
+    }
+}
+
+/// Mostly a spelling, with any number of signs; at times none.
+fn random_spelling(layout: &GivenLayout, randoms: &mut Randoms) -> Spelling {
+    let cycles = layout.read(|layout| layout.pergen.cycles).unwrap_or(1);
+    let signs = Whole::from((randoms.next() as u32) >> randoms.below(32));
+    let (sharps, flats) = randoms.of(&[
+        (signs, 0),
+        (0, signs),
+        (u32::MAX.into(), 0),
+        (0, u32::MAX.into()),
+        (1, signs),
+    ]);
+    Spelling {
+        letter: randoms.between(0, 9).into(),
+        sharps,
+        flats,
+        stars: (Whole::from(randoms.any()) % cycles) + Whole::from(randoms.below(8) == 0),
+    }
+}
+
+/// Large layouts: one cycle, four, a hundred, and code 3's largest octave.
+const LARGE: [(u16, u16, u16); 4] = [
+    (1, 311, 493),
+    (1, 4096, 6492),
+    (2, 1200, 1900),
+    (3, 32_767, 52_427),
+];
+
+/// The layout with the longest names and the longest book, of 307,321,697 bytes.
+const LONGEST_NAMES: (u16, u16, u16) = (2, 65_534, 65_535);
+
+/// Layouts of which every key is compared.
+fn whole_layouts(mode: Mode, seed: u64) -> Vec<(u16, u16, u16)> {
+    let mut layouts = LARGE.to_vec();
+    if mode == Mode::Long {
+        layouts.push(LONGEST_NAMES);
+    }
+    let mut randoms = Randoms::new(seed, STREAM - 1);
+    for _ in 0..mode.pick(32, 200) {
+        layouts.push(accepted(300, || random_layout(&mut randoms)));
+    }
+    for _ in 0..mode.pick(6, 40) {
+        layouts.push(accepted(0, || large_layout(&mut randoms)));
+    }
+    layouts
+}
+
+/// The first accepted one of the chosen layouts that has at least so many keys.
+fn accepted(least: u16, mut choose: impl FnMut() -> (u16, u16, u16)) -> (u16, u16, u16) {
+    loop {
+        let (code, octave, tritave) = choose();
+        if octave >= least && GivenLayout::new(code, octave, tritave).is_accepted() {
+            return (code, octave, tritave);
+        }
+    }
+}
+
+/// A layout so large that the original's product of inverse and key may overflow
+/// within the octave.
+fn large_layout(randoms: &mut Randoms) -> (u16, u16, u16) {
+    let code = randoms.between(0, 5);
+    let octave = randoms.between(46_342, u16::MAX);
+    (code, octave, likely_tritave(code, octave, randoms))
+}
+
+/// Everything about a layout: its numbers, layers, strip, book and every key.
+fn whole(tally: &mut Tally, (code, octave, tritave): (u16, u16, u16), mut randoms: Randoms) {
+    compare_some(tally, code, octave, tritave, &mut randoms);
+    let layout = GivenLayout::new(code, octave, tritave);
+    layout.compare_octave(tally);
+    layout.compare_book(tally);
+    for key in 0..octave {
+        layout.compare_key(tally, key);
+    }
+}
+
+#[cfg(test)]
+mod tests {
+    use super::*;
+
+    #[test]
+    fn the_large_layouts_are_accepted() {
+        for (code, octave, tritave) in LARGE.into_iter().chain([LONGEST_NAMES]) {
+            assert!(GivenLayout::new(code, octave, tritave).is_accepted());
+        }
+    }
+}

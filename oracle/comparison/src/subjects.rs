@@ -1,0 +1,10 @@
+//! What is compared, by subject. A function here takes one input and puts every
+//! question about it; which inputs are taken, [`crate::plan`] says.
+
+pub mod books;
+pub mod keys;
+pub mod layouts;
+pub mod numbers;
+pub mod patterns;
+pub mod pergens;
+pub mod tables;

@@ -1,0 +1,58 @@
+//! Looking keys up in books, which may be any bytes.
+
+use judge::asking;
+use vetchnoon::Refused;
+
+use crate::question::Call;
+use crate::question::Question;
+use crate::reading::books;
+use crate::tally::Original;
+use crate::tally::Tally;
+use crate::tally::outcome;
+
+/// Looks a key up, and compares the part of the book that the Rust package makes
+/// of offset and length; a part that is none would make it panic.
+pub fn find(tally: &mut Tally, book: &[u8], key: u32) {
+    let arguments: Vec<i64> = std::iter::once(key.into())
+        .chain(book.iter().map(|byte| i64::from(*byte)))
+        .collect();
+    let question = Question {
+        call: Call::BookFind,
+        arguments: &arguments,
+    };
+    let reading = books::find(book, key);
+    let part = reading.map(|[offset, length]| &book[offset as usize..][..length as usize]);
+    let packaged = asking::ask(|| outcome(vetchnoon::book_find(book, key)));
+    if packaged != Ok(part) {
+        return tally.unexplained(question, || {
+            format!("the Rust package finds {packaged:?}, the reading {part:?}")
+        });
+    }
+    let reading = reading.map(|pair| pair.to_vec());
+    let call = |out: &mut [u32]| find_into(book, key, out);
+    tally.compare_filling(question, reading, Original::Silent, None, call);
+}
+
+/// Every key of a book, some beyond, and the largest number.
+pub fn find_all(tally: &mut Tally, book: &[u8], keys: u32) {
+    for key in 0..keys + 2 {
+        find(tally, book, key);
+    }
+    find(tally, book, u32::MAX);
+}
+
+/// The C call itself: the Rust package lends a slice of its own.
+fn find_into(book: &[u8], key: u32, out: &mut [u32]) -> Result<usize, Refused> {
+    unsafe extern "C" {
+        fn vn_book_find(
+            book: *const u8,
+            book_len: usize,
+            key: u32,
+            out: *mut u32,
+            len: usize,
+        ) -> i64;
+    }
+    let answer =
+        unsafe { vn_book_find(book.as_ptr(), book.len(), key, out.as_mut_ptr(), out.len()) };
+    usize::try_from(answer).map_err(|_| Refused((-answer) as u8))
+}

@@ -1,0 +1,147 @@
+//! Keys of a layout: spellings, names, and what spellings sound.
+
+use judge::layouts;
+
+use crate::classes;
+use crate::classes::Class;
+use crate::question::Call;
+use crate::question::Question;
+use crate::reading::Outcome;
+use crate::reading::fitted;
+use crate::reading::names;
+use crate::reading::names::Spelling;
+use crate::subjects::layouts::GivenLayout;
+use crate::subjects::pergens;
+use crate::tally::Answers;
+use crate::tally::Original;
+use crate::tally::Tally;
+use crate::tally::outcome;
+
+impl GivenLayout {
+    /// Every question about one key.
+    pub fn compare_key(&self, tally: &mut Tally, key: u16) {
+        self.compare_accidentals(tally, key);
+        self.compare_name(tally, key);
+        self.compare_printed_spellings(tally, key);
+    }
+
+    fn compare_accidentals(&self, tally: &mut Tally, key: u16) {
+        let reading = self.read(|layout| pergens::spellings(layout.spellings(key)));
+        let original = self.original.then(|layout| {
+            Original::of(layouts::accidentals(layout, key).map(pergens::original_spellings))
+        });
+        let arguments = self.arguments_with(key);
+        let question = Question {
+            call: Call::LayoutAccidentals,
+            arguments: &arguments,
+        };
+        let call = |out: &mut [u16]| {
+            vetchnoon::layout_accidentals(self.code, self.octave, self.tritave, key, out)
+        };
+        tally.compare_filling(question, reading, original, self.key_class(key), call);
+    }
+
+    fn compare_name(&self, tally: &mut Tally, key: u16) {
+        let reading = self.read(|layout| names::name(layout, key).into_bytes());
+        let original = self
+            .original
+            .then(|layout| Original::of(layouts::note_name(layout, key)));
+        let arguments = self.arguments_with(key);
+
+        let length = Answers {
+            library: outcome(vetchnoon::note_name_len(
+                self.code,
+                self.octave,
+                self.tritave,
+                key,
+            )),
+            reading: reading.as_ref().map(Vec::len).map_err(|number| *number),
+            original: original.then(|name| Original::Answered(name.len())),
+        };
+        let question = Question {
+            call: Call::NoteNameLen,
+            arguments: &arguments,
+        };
+        let class = self.key_class(key);
+        tally.compare(question, &length, class);
+
+        let question = Question {
+            call: Call::NoteName,
+            arguments: &arguments,
+        };
+        let original = original.then(|name| Original::Answered(name.as_bytes().to_vec()));
+        let call =
+            |out: &mut [u8]| vetchnoon::note_name(self.code, self.octave, self.tritave, key, out);
+        tally.compare_filling(question, reading, original, class, call);
+    }
+
+    /// "Each spelling in the key's name sounds that key." The expected key is the
+    /// key itself here, and not the formula's.
+    fn compare_printed_spellings(&self, tally: &mut Tally, key: u16) {
+        let Ok(layout) = &self.reading else {
+            return;
+        };
+        for spelling in names::printed(layout, key) {
+            let answers = Answers {
+                library: self.sounded(spelling),
+                reading: Ok(key % self.octave),
+                original: Original::Silent,
+            };
+            let arguments = self.arguments_of(spelling);
+            tally.compare(sounding(&arguments), &answers, None);
+        }
+    }
+
+    /// Any spelling, or what is none, against the formula.
+    pub fn compare_sounded(&self, tally: &mut Tally, spelling: Spelling) {
+        let answers = Answers {
+            library: self.sounded(spelling),
+            reading: match &self.reading {
+                Ok(layout) => names::sounded(layout, spelling).map(fitted),
+                Err(number) => Err(*number),
+            },
+            original: Original::Silent,
+        };
+        let arguments = self.arguments_of(spelling);
+        tally.compare(sounding(&arguments), &answers, None);
+    }
+
+    fn sounded(&self, spelling: Spelling) -> Outcome<u16> {
+        outcome(vetchnoon::sounded_key(
+            self.code,
+            self.octave,
+            self.tritave,
+            fitted(spelling.letter),
+            fitted(spelling.sharps),
+            fitted(spelling.flats),
+            fitted(spelling.stars),
+        ))
+    }
+
+    fn arguments_with(&self, key: u16) -> [i64; 4] {
+        [self.code, self.octave, self.tritave, key].map(i64::from)
+    }
+
+    fn arguments_of(&self, spelling: Spelling) -> [i64; 7] {
+        [
+            self.code.into(),
+            self.octave.into(),
+            self.tritave.into(),
+            fitted(spelling.letter),
+            fitted(spelling.sharps),
+            fitted(spelling.flats),
+            fitted(spelling.stars),
+        ]
+    }
+
+    fn key_class(&self, key: u16) -> Option<Class> {
+        self.class(|layout| classes::of_layout_key(layout, key))
+    }
+}
+
+fn sounding(arguments: &[i64; 7]) -> Question<'_> {
+    Question {
+        call: Call::SoundedKey,
+        arguments,
+    }
+}

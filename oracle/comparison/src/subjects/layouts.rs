@@ -1,0 +1,257 @@
+//! Layouts: making one, its scale name, the layers of its keys, strip and book.
+
+use judge::layouts;
+use judge::spelling;
+use tune::layout::IsomorphicLayout;
+use tune::layout::Layer;
+
+use crate::classes;
+use crate::classes::Class;
+use crate::question::Call;
+use crate::question::Question;
+use crate::reading::Outcome;
+use crate::reading::Whole;
+use crate::reading::books;
+use crate::reading::chains;
+use crate::reading::fitted;
+use crate::reading::layers;
+use crate::reading::layers::Kind;
+use crate::reading::layouts::Layout;
+use crate::reading::layouts::strip_of;
+use crate::subjects::patterns::original_numbers;
+use crate::tally::Answers;
+use crate::tally::Original;
+use crate::tally::Tally;
+use crate::tally::outcome;
+
+/// Three numbers, with what the reading and the original make of them.
+pub struct GivenLayout {
+    pub code: u16,
+    pub octave: u16,
+    pub tritave: u16,
+    pub reading: Outcome<Layout>,
+    pub original: Original<IsomorphicLayout>,
+    /// The three numbers again, to ask questions with.
+    arguments: [i64; 3],
+}
+
+impl GivenLayout {
+    pub fn new(code: u16, octave: u16, tritave: u16) -> Self {
+        Self {
+            code,
+            octave,
+            tritave,
+            reading: Layout::new(code, octave, tritave),
+            original: match layouts::chain(code) {
+                Some(chain) => Original::of_option(layouts::create(chain, octave, tritave)),
+                None => Original::Silent,
+            },
+            arguments: [code, octave, tritave].map(i64::from),
+        }
+    }
+
+    pub fn is_accepted(&self) -> bool {
+        self.reading.is_ok()
+    }
+
+    /// The reading's answer, or its refusal of the layout.
+    pub fn read<T>(&self, answer: impl FnOnce(&Layout) -> T) -> Outcome<T> {
+        match &self.reading {
+            Ok(layout) => Ok(answer(layout)),
+            Err(number) => Err(*number),
+        }
+    }
+
+    /// The class of a question: an accepted layout's, or the refused layout's own.
+    pub fn class(&self, of_accepted: impl FnOnce(&Layout) -> Option<Class>) -> Option<Class> {
+        match &self.reading {
+            Ok(layout) => of_accepted(layout),
+            Err(_) => self.refused_class(),
+        }
+    }
+
+    fn refused_class(&self) -> Option<Class> {
+        let chain = chains::chain(self.code).ok()?;
+        let generator = chain.generator(0, self.tritave.into());
+        (self.octave == 0).then(|| classes::of_octave_zero(generator.is_ok()))
+    }
+
+    /// A question about the layout as a whole.
+    fn asking(&self, call: Call) -> Question<'_> {
+        Question {
+            call,
+            arguments: &self.arguments,
+        }
+    }
+
+    /// The numbers of the layout, its scale name and its count of layers.
+    pub fn compare(&self, tally: &mut Tally) {
+        self.compare_numbers(tally);
+        self.compare_scale_name(tally);
+        self.compare_layer_count(tally);
+    }
+
+    fn compare_numbers(&self, tally: &mut Tally) {
+        let reading = self.read(|layout| {
+            let pergen = layout.pergen;
+            let mut numbers = [
+                pergen.generator,
+                pergen.cycles,
+                pergen.reduced,
+                pergen.inverse,
+            ]
+            .map(fitted)
+            .to_vec();
+            numbers.extend(layout.pattern.numbers());
+            numbers
+        });
+        let original = self.original.then(|layout| {
+            let derived = spelling::derived(layout.pergen()).map(|derived| {
+                let mut numbers = vec![
+                    layout.pergen().generator(),
+                    derived.num_cycles,
+                    derived.reduced_period,
+                    derived.inverse,
+                ];
+                numbers.extend(original_numbers(layout.mos()));
+                numbers
+            });
+            Original::of(derived)
+        });
+        let question = self.asking(Call::Layout);
+        let call = |out: &mut [u16]| vetchnoon::layout(self.code, self.octave, self.tritave, out);
+        tally.compare_filling(question, reading, original, self.class(|_| None), call);
+    }
+
+    fn compare_scale_name(&self, tally: &mut Tally) {
+        let reading = self.read(|layout| layout.scale_name().as_bytes().to_vec());
+        let original = self.original.then(|layout| {
+            Original::of(layouts::scale_name(layout).map(|name| name.as_bytes().to_vec()))
+        });
+        let question = self.asking(Call::ScaleName);
+        let call =
+            |out: &mut [u8]| vetchnoon::scale_name(self.code, self.octave, self.tritave, out);
+        tally.compare_filling(question, reading, original, self.class(|_| None), call);
+    }
+
+    /// The original does not tell T; its layers, which depend on it, are compared.
+    fn compare_layer_count(&self, tally: &mut Tally) {
+        let answers = Answers {
+            library: outcome(vetchnoon::layer_count(self.code, self.octave, self.tritave)),
+            reading: self.read(|layout| fitted(layout.layer_count())),
+            original: Original::Silent,
+        };
+        tally.compare(self.asking(Call::LayerCount), &answers, None);
+    }
+
+    /// What holds an entry for each key of the octave: layers and strip.
+    pub fn compare_octave(&self, tally: &mut Tally) {
+        self.compare_layers(tally);
+        self.compare_strip(tally);
+    }
+
+    fn compare_layers(&self, tally: &mut Tally) {
+        let reading = self.read(Layout::layers);
+        let total = self.read(Layout::layer_count).unwrap_or(0);
+        let original = self
+            .original_layers()
+            .then(|layers| numbers_of(layers, total));
+        let class = self.class(classes::of_layout_layers);
+        let question = self.asking(Call::LayoutLayers);
+        let call =
+            |out: &mut [u16]| vetchnoon::layout_layers(self.code, self.octave, self.tritave, out);
+        tally.compare_filling(question, reading, original, class, call);
+    }
+
+    fn original_layers(&self) -> Original<Vec<Layer>> {
+        self.original
+            .then(|layout| Original::of(layouts::layers(layout)))
+    }
+
+    /// The original has no strips; its layers, with document 01's codes, make one.
+    fn compare_strip(&self, tally: &mut Tally) {
+        let reading = match &self.reading {
+            Ok(layout) => layout.strip(),
+            Err(number) => Err(*number),
+        };
+        let octave = usize::from(self.octave);
+        let original = self
+            .original_layers()
+            .then(|layers| strip_from(&layers[..octave]));
+        let class = self.class(classes::of_layout_layers);
+        let question = self.asking(Call::LampStrip);
+        let call =
+            |out: &mut [u8]| vetchnoon::lamp_strip(self.code, self.octave, self.tritave, out);
+        tally.compare_filling(question, reading, original, class, call);
+    }
+
+    /// The book and its length. The names in it are compared with the original's.
+    pub fn compare_book(&self, tally: &mut Tally) {
+        let reading = self.read(books::book);
+        let answers = Answers {
+            library: outcome(vetchnoon::book_len(self.code, self.octave, self.tritave)),
+            reading: reading.as_ref().map(Vec::len).map_err(|number| *number),
+            original: Original::Silent,
+        };
+        tally.compare(self.asking(Call::BookLen), &answers, None);
+
+        let call = |out: &mut [u8]| vetchnoon::book(self.code, self.octave, self.tritave, out);
+        let original = self.original_book();
+        let class = self.class(classes::of_layout_book);
+        let question = self.asking(Call::Book);
+        tally.compare_filling(question, reading, original, class, call);
+    }
+
+    /// A book of the original's names, laid out as document 01 says.
+    fn original_book(&self) -> Original<Vec<u8>> {
+        self.original.then(|layout| {
+            let names: Result<Vec<String>, _> = (0..self.octave)
+                .map(|key| layouts::note_name(layout, key))
+                .collect();
+            Original::of(names.map(|names| books::of_names(&names)))
+        })
+    }
+}
+
+/// The original's layers by document 01's numbers of T.
+fn numbers_of(layers: &[Layer], total: Whole) -> Original<Vec<u16>> {
+    let numbers: Option<Vec<u16>> = layers
+        .iter()
+        .map(|layer| number_of(*layer, total))
+        .collect();
+    match numbers {
+        Some(numbers) => Original::Answered(numbers),
+        None => Original::Failed(format!(
+            "layers that no numbers of {total} mean: {layers:?}"
+        )),
+    }
+}
+
+/// The one number of T that means this layer, if there is one.
+fn number_of(layer: Layer, total: Whole) -> Option<u16> {
+    let number = match layer {
+        Layer::Natural => 0,
+        Layer::Sharp(level) | Layer::Enharmonic(level) => Whole::from(level) + 1,
+        Layer::Flat(level) => total - 1 - Whole::from(level),
+    };
+    let in_range = (0..total).contains(&number);
+    (in_range && layers::kind(number, total) == kind_of(layer)).then(|| fitted(number))
+}
+
+fn kind_of(layer: Layer) -> Kind {
+    match layer {
+        Layer::Natural => Kind::Natural,
+        Layer::Sharp(level) => Kind::Sharp(level.into()),
+        Layer::Enharmonic(level) => Kind::Enharmonic(level.into()),
+        Layer::Flat(level) => Kind::Flat(level.into()),
+    }
+}
+
+/// The strip that the original's layers make, or none where they have no codes.
+fn strip_from(layers: &[Layer]) -> Original<Vec<u8>> {
+    let kinds: Vec<Kind> = layers.iter().copied().map(kind_of).collect();
+    match strip_of(&kinds) {
+        Ok(strip) => Original::Answered(strip),
+        Err(_) => Original::Declined,
+    }
+}

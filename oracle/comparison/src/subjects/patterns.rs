@@ -1,0 +1,213 @@
+//! Given step patterns, and patterns that are searched for.
+
+use judge::asking::Answer;
+use judge::patterns;
+use tune::pergen::Mos;
+use vetchnoon::Refused;
+
+use crate::classes;
+use crate::classes::Class;
+use crate::question::Call;
+use crate::question::Question;
+use crate::reading::Outcome;
+use crate::reading::ask;
+use crate::reading::fitted;
+use crate::reading::layers;
+use crate::reading::patterns as reading;
+use crate::reading::patterns::Pattern;
+use crate::tally::Original;
+use crate::tally::Tally;
+
+/// Four numbers, with what the reading and the original make of them.
+pub struct GivenPattern {
+    numbers: [u16; 4],
+    reading: Outcome<Pattern>,
+    original: Original<Mos>,
+}
+
+/// A call of the library on a pattern.
+type Filling = fn(vetchnoon::Pattern, &mut [u16]) -> Result<usize, Refused>;
+
+impl GivenPattern {
+    pub fn new(numbers: [u16; 4]) -> Self {
+        let [
+            num_primary_steps,
+            num_secondary_steps,
+            primary_step,
+            secondary_step,
+        ] = numbers;
+        let pattern = patterns::Pattern {
+            num_primary_steps,
+            num_secondary_steps,
+            primary_step,
+            secondary_step,
+        };
+        Self {
+            numbers,
+            reading: Pattern::given(numbers),
+            original: Original::of_option(patterns::create(pattern)),
+        }
+    }
+
+    /// Every call but `get_key`.
+    pub fn compare(&self, tally: &mut Tally) {
+        self.compare_neighbours(tally);
+        self.compare_coprime(tally);
+        self.compare_walks(tally);
+        self.compare_layers(tally);
+    }
+
+    fn compare_neighbours(&self, tally: &mut Tally) {
+        self.compare_call(
+            tally,
+            Call::MosChild,
+            vetchnoon::mos_child,
+            |pattern| Ok(or_nothing(pattern.child())),
+            |mos| patterns::child(mos).map(original_or_nothing),
+            None,
+        );
+        self.compare_call(
+            tally,
+            Call::MosParent,
+            vetchnoon::mos_parent,
+            |pattern| Ok(or_nothing(pattern.parent())),
+            |mos| patterns::parent(mos).map(original_or_nothing),
+            None,
+        );
+        self.compare_call(
+            tally,
+            Call::MosGenesis,
+            vetchnoon::mos_genesis,
+            |pattern| Ok(pattern.genesis().numbers().to_vec()),
+            |mos| patterns::genesis(mos).map(|mos| original_numbers(mos).to_vec()),
+            None,
+        );
+    }
+
+    fn compare_coprime(&self, tally: &mut Tally) {
+        self.compare_call(
+            tally,
+            Call::MosCoprime,
+            vetchnoon::mos_coprime,
+            |pattern| pattern.coprime().map(|coprime| coprime.numbers().to_vec()),
+            |mos| patterns::coprime(mos).map(|mos| original_numbers(mos).to_vec()),
+            self.reading.ok().and_then(classes::of_coprime),
+        );
+    }
+
+    fn compare_walks(&self, tally: &mut Tally) {
+        self.compare_call(
+            tally,
+            Call::MosChildren,
+            vetchnoon::mos_children,
+            |pattern| Ok(pattern.children().flat_map(Pattern::numbers).collect()),
+            |mos| patterns::children(mos).map(original_walk),
+            None,
+        );
+        self.compare_call(
+            tally,
+            Call::MosParents,
+            vetchnoon::mos_parents,
+            |pattern| Ok(pattern.parents().flat_map(Pattern::numbers).collect()),
+            |mos| patterns::parents(mos).map(original_walk),
+            None,
+        );
+    }
+
+    fn compare_layers(&self, tally: &mut Tally) {
+        self.compare_call(
+            tally,
+            Call::MosLayers,
+            vetchnoon::mos_layers,
+            |pattern| Ok(layers::numbers(pattern)),
+            patterns::layers,
+            self.reading.ok().and_then(classes::of_pattern_layers),
+        );
+    }
+
+    fn compare_call(
+        &self,
+        tally: &mut Tally,
+        call: Call,
+        library: Filling,
+        reading: impl FnOnce(Pattern) -> Outcome<Vec<u16>>,
+        original: impl FnOnce(Mos) -> Answer<Vec<u16>>,
+        class: Option<Class>,
+    ) {
+        let question = Question {
+            call,
+            arguments: &self.numbers.map(i64::from),
+        };
+        let reading = self.reading.and_then(reading);
+        let original = self.original.then(|mos| Original::of(original(*mos)));
+        let filling = |out: &mut [u16]| library(self.numbers, out);
+        tally.compare_filling(question, reading, original, class, filling);
+    }
+
+    /// The key at a place of the board.
+    pub fn compare_key(&self, tally: &mut Tally, primary: i16, secondary: i16) {
+        let [a, b, p, s] = self.numbers.map(i64::from);
+        let question = Question {
+            call: Call::MosKey,
+            arguments: &[a, b, p, s, primary.into(), secondary.into()],
+        };
+        let key = self
+            .reading
+            .map(|pattern| pattern.key(primary.into(), secondary.into()));
+        let original = self.original.then(|mos| {
+            let answer = patterns::key(*mos, primary, secondary);
+            Original::of(answer.map(|key| vec![i64::from(key)]))
+        });
+        let class = key.ok().and_then(classes::of_pattern_key);
+        let reading = key.map(|key| vec![fitted(key)]);
+        let call = |out: &mut [i64]| vetchnoon::mos_key(self.numbers, primary, secondary, out);
+        tally.compare_filling(question, reading, original, class, call);
+    }
+}
+
+/// The pattern with that many steps on the walk from a genesis.
+pub fn find(tally: &mut Tally, period: u16, generator: u16, steps: u16) {
+    let question = Question {
+        call: Call::MosFind,
+        arguments: &[period, generator, steps].map(i64::from),
+    };
+    let reading = ask(2, period >= 1).map(|()| {
+        let found = reading::find(period.into(), generator.into(), steps.into());
+        or_nothing(found)
+    });
+    let original = Original::of(
+        patterns::create_genesis(period, generator)
+            .and_then(patterns::children)
+            .map(|walk| {
+                let found = walk
+                    .into_iter()
+                    .find(|mos| mos.num_steps() == u32::from(steps));
+                original_or_nothing(found)
+            }),
+    );
+    let class = (period == 0).then_some(Class::GenesisOfPeriodZero);
+    let call = |out: &mut [u16]| vetchnoon::mos_find(period, generator, steps, out);
+    tally.compare_filling(question, reading, original, class, call);
+}
+
+/// The four numbers, or no element where there is no pattern.
+fn or_nothing(pattern: Option<Pattern>) -> Vec<u16> {
+    pattern.map_or_else(Vec::new, |pattern| pattern.numbers().to_vec())
+}
+
+fn original_or_nothing(mos: Option<Mos>) -> Vec<u16> {
+    mos.map_or_else(Vec::new, |mos| original_numbers(mos).to_vec())
+}
+
+pub fn original_numbers(mos: Mos) -> [u16; 4] {
+    [
+        mos.num_primary_steps(),
+        mos.num_secondary_steps(),
+        mos.primary_step(),
+        mos.secondary_step(),
+    ]
+}
+
+fn original_walk(walk: Vec<Mos>) -> Vec<u16> {
+    walk.into_iter().flat_map(original_numbers).collect()
+}

@@ -1,0 +1,155 @@
+//! Free pergens with free formats.
+
+use judge::spelling;
+use tune::pergen::AccidentalsFormat;
+use tune::pergen::PerGen;
+
+use crate::classes;
+use crate::classes::Class;
+use crate::question::Call;
+use crate::question::Question;
+use crate::reading::Outcome;
+use crate::reading::fitted;
+use crate::reading::pergens::Format;
+use crate::reading::pergens::Pergen;
+use crate::reading::pergens::Spellings;
+use crate::tally::Original;
+use crate::tally::Tally;
+
+/// A period and a generator, with what the reading and the original make of them.
+pub struct FreePergen {
+    period: u16,
+    generator: u16,
+    reading: Outcome<Pergen>,
+    original: Original<PerGen>,
+}
+
+impl FreePergen {
+    pub fn new(period: u16, generator: u16) -> Self {
+        Self {
+            period,
+            generator,
+            reading: Pergen::new(period.into(), generator.into()),
+            original: Original::of(spelling::create(period, generator)),
+        }
+    }
+
+    pub fn compare(&self, tally: &mut Tally) {
+        let question = Question {
+            call: Call::Pergen,
+            arguments: &[self.period.into(), self.generator.into()],
+        };
+        let reading = self.reading.map(|pergen| {
+            let Pergen {
+                cycles,
+                reduced,
+                inverse,
+                ..
+            } = pergen;
+            [cycles, reduced, inverse].map(fitted).to_vec()
+        });
+        let original =
+            self.original.then(|pergen| {
+                Original::of(spelling::derived(pergen).map(|derived| {
+                    vec![derived.num_cycles, derived.reduced_period, derived.inverse]
+                }))
+            });
+        let call = |out: &mut [u16]| vetchnoon::pergen(self.period, self.generator, out);
+        tally.compare_filling(question, reading, original, self.period_class(), call);
+    }
+
+    pub fn compare_generation(&self, tally: &mut Tally, key: u16) {
+        let question = Question {
+            call: Call::Generation,
+            arguments: &[self.period.into(), self.generator.into(), key.into()],
+        };
+        let reading = self.reading.map(|pergen| {
+            let degree = fitted(pergen.degree(key.into()));
+            generation(degree, pergen.cycle(key.into()).map(fitted))
+        });
+        let original = self.original.then(|pergen| {
+            let answer = spelling::generation(pergen, key);
+            Original::of(answer.map(|found| generation(found.degree, found.cycle)))
+        });
+        let call = |out: &mut [u16]| vetchnoon::generation(self.period, self.generator, key, out);
+        tally.compare_filling(question, reading, original, self.key_class(key), call);
+    }
+
+    pub fn compare_accidentals(&self, tally: &mut Tally, symbols: u16, origin: u16, key: u16) {
+        let question = Question {
+            call: Call::Accidentals,
+            arguments: &[self.period, self.generator, symbols, origin, key].map(i64::from),
+        };
+        let format = Format {
+            symbols: symbols.into(),
+            origin: origin.into(),
+        };
+        let reading = self
+            .reading
+            .and_then(|pergen| pergen.accidentals(format, key.into()))
+            .map(spellings);
+        let original = self.original.then(|pergen| {
+            let format = AccidentalsFormat {
+                num_symbols: symbols,
+                genchain_origin: origin,
+            };
+            Original::of(spelling::accidentals(pergen, &format, key).map(original_spellings))
+        });
+        let class = self
+            .period_class()
+            .or_else(|| format_class(format))
+            .or_else(|| self.key_class(key));
+        let call = |out: &mut [u16]| {
+            vetchnoon::accidentals(self.period, self.generator, symbols, origin, key, out)
+        };
+        tally.compare_filling(question, reading, original, class, call);
+    }
+
+    fn period_class(&self) -> Option<Class> {
+        (self.period == 0).then_some(Class::PeriodZero)
+    }
+
+    fn key_class(&self, key: u16) -> Option<Class> {
+        match &self.reading {
+            Ok(pergen) => classes::of_generation(pergen, key.into()),
+            Err(_) => self.period_class(),
+        }
+    }
+}
+
+fn format_class(format: Format) -> Option<Class> {
+    if format.symbols == 0 {
+        Some(Class::NoSymbols)
+    } else if format.origin >= format.symbols {
+        Some(Class::OriginNotBelowSymbols)
+    } else {
+        None
+    }
+}
+
+/// Degree, 1 if a cycle is present else 0, cycle or 0.
+fn generation(degree: u16, cycle: Option<u16>) -> Vec<u16> {
+    vec![degree, cycle.is_some().into(), cycle.unwrap_or(0)]
+}
+
+/// Sharp index, sharp count, flat index, flat count.
+pub fn spellings(spelt: Spellings) -> Vec<u16> {
+    [
+        spelt.sharp_index,
+        spelt.sharp_count,
+        spelt.flat_index,
+        spelt.flat_count,
+    ]
+    .map(fitted)
+    .to_vec()
+}
+
+/// The same of the original. Its cycle stands in the key's generation and name.
+pub fn original_spellings(spelt: spelling::Accidentals) -> Vec<u16> {
+    vec![
+        spelt.sharp_index,
+        spelt.sharp_count,
+        spelt.flat_index,
+        spelt.flat_count,
+    ]
+}

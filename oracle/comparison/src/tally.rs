@@ -1,0 +1,329 @@
+//! Counting what was compared, and keeping what has to be reported.
+
+use std::collections::BTreeMap;
+use std::fmt::Debug;
+
+use judge::asking::Answer;
+use vetchnoon::Refused;
+
+use crate::classes::Class;
+use crate::lending;
+use crate::lending::Element;
+use crate::question::Call;
+use crate::question::Kept;
+use crate::question::Question;
+use crate::reading::Outcome;
+use crate::shown::shown;
+
+/// What the original has to say of a question.
+#[derive(Clone, Debug, PartialEq, Eq)]
+pub enum Original<T> {
+    /// It has nothing of the kind, or was not asked.
+    Silent,
+    Answered(T),
+    /// `None`, which does not tell a refusal's number.
+    Declined,
+    /// It panics, or answers what no answer of the library can mean.
+    Failed(String),
+}
+
+impl<T> Original<T> {
+    pub fn of(answer: Answer<T>) -> Self {
+        match answer {
+            Ok(value) => Self::Answered(value),
+            Err(panicked) => Self::Failed(panicked.to_string()),
+        }
+    }
+
+    pub fn of_option(answer: Answer<Option<T>>) -> Self {
+        match answer {
+            Ok(Some(value)) => Self::Answered(value),
+            Ok(None) => Self::Declined,
+            Err(panicked) => Self::Failed(panicked.to_string()),
+        }
+    }
+
+    /// The next question to what was answered.
+    pub fn then<U>(&self, next: impl FnOnce(&T) -> Original<U>) -> Original<U> {
+        match self {
+            Self::Silent => Original::Silent,
+            Self::Answered(value) => next(value),
+            Self::Declined => Original::Declined,
+            Self::Failed(reason) => Original::Failed(reason.clone()),
+        }
+    }
+}
+
+/// An answer of the library.
+pub fn outcome<T>(answer: Result<T, Refused>) -> Outcome<T> {
+    answer.map_err(|Refused(number)| number)
+}
+
+/// The answers to one question.
+#[derive(Debug)]
+pub struct Answers<T> {
+    pub library: Outcome<T>,
+    pub reading: Outcome<T>,
+    pub original: Original<T>,
+}
+
+#[derive(Clone, Debug, Default)]
+pub struct Tally {
+    calls: BTreeMap<Call, Counts>,
+    classes: BTreeMap<Class, Noted>,
+    unexplained: BTreeMap<Call, Unexplained>,
+}
+
+/// How many questions to one call were compared.
+#[derive(Clone, Copy, Debug, Default, PartialEq, Eq)]
+pub struct Counts {
+    pub given: u64,
+    pub refused: u64,
+    /// Of these, how many the original was asked as well.
+    pub judged: u64,
+}
+
+/// How often a class was met, and its smallest input.
+#[derive(Clone, Debug)]
+pub struct Noted {
+    pub count: u64,
+    pub smallest: Kept,
+}
+
+/// How many answers of a call nothing explains, and the smallest such input.
+#[derive(Clone, Debug)]
+pub struct Unexplained {
+    pub count: u64,
+    pub smallest: Kept,
+    pub detail: String,
+}
+
+impl Tally {
+    /// Compares the answers to one question. The library must say what document 01
+    /// says; the original must say the same, unless the input belongs to `class`.
+    pub fn compare<T: PartialEq + Debug>(
+        &mut self,
+        question: Question,
+        answers: &Answers<T>,
+        class: Option<Class>,
+    ) {
+        self.count(question.call, &answers.reading, &answers.original);
+        if answers.library != answers.reading {
+            return self.unexplained(question, || difference(answers));
+        }
+        if agrees(answers) {
+            return;
+        }
+        match class {
+            Some(class) => self.note(class, question),
+            None => self.unexplained(question, || difference(answers)),
+        }
+    }
+
+    /// Compares a call that fills a slice, with slices of every fitting length.
+    pub fn compare_filling<T: Element>(
+        &mut self,
+        question: Question,
+        reading: Outcome<Vec<T>>,
+        original: Original<Vec<T>>,
+        class: Option<Class>,
+        call: impl Fn(&mut [T]) -> Result<usize, Refused>,
+    ) {
+        let room = reading.as_ref().map_or(0, Vec::len);
+        match lending::lent(room, call) {
+            Ok(library) => {
+                let answers = Answers {
+                    library,
+                    reading,
+                    original,
+                };
+                self.compare(question, &answers, class);
+            }
+            Err(misbehaviour) => {
+                self.count(question.call, &reading, &original);
+                self.unexplained(question, || misbehaviour.clone());
+            }
+        }
+    }
+
+    fn count<T>(&mut self, call: Call, reading: &Outcome<T>, original: &Original<T>) {
+        let counts = self.calls.entry(call).or_default();
+        match reading {
+            Ok(_) => counts.given += 1,
+            Err(_) => counts.refused += 1,
+        }
+        counts.judged += u64::from(!matches!(original, Original::Silent));
+    }
+
+    fn note(&mut self, class: Class, question: Question) {
+        let noted = self.classes.entry(class).or_insert_with(|| Noted {
+            count: 0,
+            smallest: question.kept(),
+        });
+        noted.count += 1;
+        if question.is_below(&noted.smallest) {
+            noted.smallest = question.kept();
+        }
+    }
+
+    /// Counts an answer that nothing explains.
+    pub fn unexplained(&mut self, question: Question, detail: impl Fn() -> String) {
+        let unexplained = self
+            .unexplained
+            .entry(question.call)
+            .or_insert_with(|| Unexplained {
+                count: 0,
+                smallest: question.kept(),
+                detail: detail(),
+            });
+        unexplained.count += 1;
+        if question.is_below(&unexplained.smallest) {
+            unexplained.smallest = question.kept();
+            unexplained.detail = detail();
+        }
+    }
+
+    /// Adds what another thread counted. The order of adding does not matter.
+    pub fn add(&mut self, other: Self) {
+        for (call, counts) in other.calls {
+            let sum = self.calls.entry(call).or_default();
+            sum.given += counts.given;
+            sum.refused += counts.refused;
+            sum.judged += counts.judged;
+        }
+        for (class, noted) in other.classes {
+            merge(&mut self.classes, class, noted, |sum, noted| {
+                sum.count += noted.count;
+                sum.smallest = noted.smallest.min(sum.smallest.clone());
+            });
+        }
+        for (call, unexplained) in other.unexplained {
+            merge(&mut self.unexplained, call, unexplained, |sum, more| {
+                let count = sum.count + more.count;
+                if more.smallest < sum.smallest {
+                    *sum = more;
+                }
+                sum.count = count;
+            });
+        }
+    }
+
+    pub fn calls(&self) -> &BTreeMap<Call, Counts> {
+        &self.calls
+    }
+
+    pub fn class(&self, class: Class) -> Option<&Noted> {
+        self.classes.get(&class)
+    }
+
+    pub fn all_unexplained(&self) -> &BTreeMap<Call, Unexplained> {
+        &self.unexplained
+    }
+}
+
+fn merge<K: Ord, V>(map: &mut BTreeMap<K, V>, key: K, value: V, add: impl FnOnce(&mut V, V)) {
+    match map.get_mut(&key) {
+        Some(sum) => add(sum, value),
+        None => {
+            map.insert(key, value);
+        }
+    }
+}
+
+/// The questions to which the original has the answer `None`: a layout's generator
+/// and pattern, and the size of a given pattern; and where its layers make no strip.
+const DECLINED: [u8; 4] = [3, 4, 7, 9];
+
+/// A `None` of the original agrees with a refusal where it stands for one.
+fn agrees<T: PartialEq>(answers: &Answers<T>) -> bool {
+    match (&answers.original, &answers.library) {
+        (Original::Silent, _) => true,
+        (Original::Answered(original), Ok(library)) => original == library,
+        (Original::Declined, Err(number)) => DECLINED.contains(number),
+        _ => false,
+    }
+}
+
+fn difference<T: Debug>(answers: &Answers<T>) -> String {
+    let Answers {
+        library,
+        reading,
+        original,
+    } = answers;
+    [
+        format!("library  {}", shown(library)),
+        format!("reading  {}", shown(reading)),
+        format!("original {}", shown(original)),
+    ]
+    .join("\n")
+}
+
+#[cfg(test)]
+mod tests {
+    use super::*;
+
+    fn compared(answers: Answers<u16>, class: Option<Class>) -> Tally {
+        let mut tally = Tally::default();
+        for argument in [7, 3, 5] {
+            let question = Question {
+                call: Call::Gcd,
+                arguments: &[argument],
+            };
+            tally.compare(question, &answers, class);
+        }
+        tally
+    }
+
+    fn answers(
+        library: Outcome<u16>,
+        reading: Outcome<u16>,
+        original: Original<u16>,
+    ) -> Answers<u16> {
+        Answers {
+            library,
+            reading,
+            original,
+        }
+    }
+
+    #[test]
+    fn agreement_is_only_counted() {
+        for original in [Original::Answered(1), Original::Silent] {
+            let tally = compared(answers(Ok(1), Ok(1), original), None);
+            assert!(tally.all_unexplained().is_empty());
+            assert_eq!(tally.calls()[&Call::Gcd].given, 3);
+        }
+        let tally = compared(answers(Err(4), Err(4), Original::Declined), None);
+        assert!(tally.all_unexplained().is_empty());
+    }
+
+    #[test]
+    fn a_class_explains_the_original_and_keeps_its_smallest_input() {
+        let panicked = || Original::Failed("overflow".to_owned());
+        let tally = compared(
+            answers(Ok(1), Ok(1), panicked()),
+            Some(Class::ProductWithInverse),
+        );
+        let noted = tally.class(Class::ProductWithInverse).unwrap();
+        assert_eq!(
+            (noted.count, noted.smallest.to_string()),
+            (3, "vn_gcd 3".to_owned())
+        );
+        assert!(tally.all_unexplained().is_empty());
+
+        let tally = compared(answers(Ok(1), Ok(1), panicked()), None);
+        assert_eq!(tally.all_unexplained()[&Call::Gcd].count, 3);
+    }
+
+    #[test]
+    fn no_class_explains_the_library() {
+        let wrong = answers(Ok(2), Ok(1), Original::Answered(2));
+        let tally = compared(wrong, Some(Class::ProductWithInverse));
+        let unexplained = &tally.all_unexplained()[&Call::Gcd];
+        assert_eq!(unexplained.smallest.arguments, [3]);
+
+        let mut sum = tally.clone();
+        sum.add(tally);
+        assert_eq!(sum.all_unexplained()[&Call::Gcd].count, 6);
+    }
+}
