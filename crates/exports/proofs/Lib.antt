@@ -1,0 +1,4 @@
+pub mod Coding
+pub mod Outputs
+pub mod Sounding
+pub mod Examples
