@@ -9,10 +9,6 @@ use Rattle.exports.specs.Examples.{ExamplesHold}
 pub examples-hold : ExamplesHold
 unfolding pergenOutput getGeneration getAccidentals ofPattern childOf coprimeOutcome findOutput layoutOutput soundedOutcome
 examples-hold = record {
-  codes = refl;
-  one-room = refl;
-  one-short = refl;
-  one-counts = refl;
   pergens = refl;
   no-period = refl;
   with-cycle = refl;

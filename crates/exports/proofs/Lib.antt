@@ -1,4 +1,3 @@
-pub mod Coding
 pub mod Outputs
 pub mod Sounding
 pub mod Examples

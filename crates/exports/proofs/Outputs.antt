@@ -36,7 +36,8 @@ use Rattle.pergen.specs.Parts.{solvedOf}
 use Rattle.pergen.specs.Spelling.{starsOf}
 use Rattle.pergen.specs.declared.Generation.{Generation}
 use Rattle.pergen.specs.declared.euclid.Solved.{Solved}
-use Rattle.exports.specs.Written.{asNumbers, pergenNumbers, pergenOutput, presence, generationNumbers, walkNumbers, findOutput, layoutNumbers, layoutOutput}
+use Rattle.codes.specs.Numbers.{asNumbers, walkNumbers}
+use Rattle.exports.specs.Written.{pergenNumbers, pergenOutput, presence, generationNumbers, findOutput, layoutNumbers, layoutOutput}
 
 -- ---- pergens
 

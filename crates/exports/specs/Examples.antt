@@ -1,26 +1,14 @@
--- Worked examples of what the calls answer and write, and one theorem that the definitions give them.
+-- Worked examples of what the calls write and answer, and one theorem that the definitions give them.
 use Prim.Native.Nat.{ℕ}
 use mathlib.Core.List.{List, [], _∷_, map}
 use mathlib.Core.Path.{_≡_}
-use lib.IntN.{ℤ, pos, negsuc}
 use Rattle.answer.specs.Outcome.{Outcome, given, refused}
 use Rattle.mos.specs.Answers.{ofPattern, coprimeOutcome}
 use Rattle.mos.specs.Patterns.{mos, childOf}
 use Rattle.mos.specs.Walks.{fields}
 use Rattle.pergen.specs.Answers.{getGeneration, getAccidentals}
-use Rattle.exports.specs.Codes.{codeOf, oneHeld, oneCounted, oneWritten}
-use Rattle.exports.specs.Written.{
-  asNumbers,
-  pergen,
-  format,
-  pergenOutput,
-  generationNumbers,
-  accidentalsNumbers,
-  walkNumbers,
-  findOutput,
-  layoutOutput,
-  soundedOutcome,
-}
+use Rattle.codes.specs.Numbers.{asNumbers, accidentalsNumbers, walkNumbers}
+use Rattle.exports.specs.Written.{pergen, format, pergenOutput, generationNumbers, findOutput, layoutOutput, soundedOutcome}
 
 -- A layout's three numbers, and what is written for it.
 pub record LayoutExample : Type 0 where
@@ -71,11 +59,6 @@ spellingExamples =
 
 -- Theorem.
 pub record ExamplesHold : Type 0 where
-  pub codes : map codeOf (given 0 ∷ given 8 ∷ refused 1 ∷ refused 15 ∷ []) ≡ pos 0 ∷ pos 8 ∷ negsuc 0 ∷ negsuc 14 ∷ []
-  -- one number, with room for it and without
-  pub one-room : oneWritten (oneHeld 2 (negsuc 4)) (pos 1 ∷ pos 2 ∷ []) ≡ negsuc 4 ∷ pos 2 ∷ []
-  pub one-short : oneWritten (oneHeld 0 (negsuc 4)) [] ≡ []
-  pub one-counts : map oneCounted (oneHeld 1 (pos 3) ∷ oneHeld 0 (pos 3) ∷ []) ≡ given 1 ∷ refused 10 ∷ []
   -- cycles, reduced period, inverse
   pub pergens : pergenOutput 24 14 ≡ given (2 ∷ 12 ∷ 7 ∷ [])
   pub no-period : pergenOutput 0 14 ≡ refused 2

@@ -1,11 +1,11 @@
--- The library's answers as the lists of numbers that the C calls write, each after the questions of its call.
+-- The lists of numbers that the calls write, each after the questions of its call.
 use Prim.Native.Nat.{ℕ}
 use mathlib.Core.Bool.{Bool, true, false, _&&_, _||_}
-use mathlib.Core.Option.{Option, none, some}
 use mathlib.Core.List.{List, [], _∷_, _++_}
 use lib.Dec.{eqb, ltb, leb}
-use Rattle.answer.specs.Outcome.{Outcome, given, refused, ask, andThen}
+use Rattle.answer.specs.Outcome.{Outcome, given, ask, andThen}
 use Rattle.book.specs.declared.Place.{Place}
+use Rattle.codes.specs.Numbers.{walkNumbers}
 use Rattle.layout.specs.declared.IsomorphicLayout.{IsomorphicLayout}
 use Rattle.layout.specs.Layouts.{Layout, layoutOutcome, lettersOf}
 use Rattle.layout.specs.Names.{keyOf}
@@ -13,7 +13,6 @@ use Rattle.mos.specs.declared.Mos.{Mos}
 use Rattle.mos.specs.Patterns.{pick}
 use Rattle.mos.specs.Walks.{children, firstWith, fields}
 use Rattle.mos.specs.Answers.{genesisOutcome}
-use Rattle.pergen.specs.declared.Accidentals.{Accidentals}
 use Rattle.pergen.specs.declared.AccidentalsFormat.{AccidentalsFormat}
 use Rattle.pergen.specs.declared.Cycle.{Cycle}
 use Rattle.pergen.specs.declared.Cycle.the-variants.{Absent, Number}
@@ -24,11 +23,6 @@ use Rattle.pergen.specs.declared.Signs.the-variants.{Sharps, Flats}
 use Rattle.pergen.specs.declared.Spelling.{Spelling}
 use Rattle.pergen.specs.Pergen.{cycles, reduced, inverse}
 use Rattle.pergen.specs.Spelling.{starsOf}
-
--- The numbers of a value, where it is given.
-abbrev pub asNumbers : {A : Type 0} → (A → List ℕ) → Outcome A → Outcome (List ℕ)
-asNumbers numbers (given a) = given (numbers a)
-asNumbers numbers (refused n) = refused n
 
 -- ---- the records that a call's numbers make
 
@@ -62,16 +56,7 @@ presence (Number c) = 1
 abbrev pub generationNumbers : Generation → List ℕ
 generationNumbers g = g .degree ∷ presence (g .cycle) ∷ starsOf (g .cycle) ∷ []
 
--- "The sharp index and count .. The flat index .. the flat count"
-abbrev pub accidentalsNumbers : Accidentals → List ℕ
-accidentalsNumbers a = a .«sharp_index» ∷ a .«sharp_count» ∷ a .«flat_index» ∷ a .«flat_count» ∷ []
-
--- ---- step patterns: `fields` are a pattern's four numbers
-
--- "No child" and "no parent" are ordinary answers: no numbers.
-abbrev pub walkNumbers : Option Mos → List ℕ
-walkNumbers none = []
-walkNumbers (some m) = fields m
+-- ---- step patterns
 
 -- Question 2, then the pattern with so many steps on the walk from the genesis.
 unfoldable pub findOutput : ℕ → ℕ → ℕ → Outcome (List ℕ)

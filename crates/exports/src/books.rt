@@ -1,5 +1,4 @@
 // Books and key tables (document 01, "Lamps and book").
-use crate::codes;
 use answer::Refusal;
 use book::FindAnswer;
 use layout::IsomorphicLayout;
@@ -9,8 +8,9 @@ ghost use Rattle.answer.specs.Outcome.{given};
 ghost use Rattle.book.specs.Books.{findOutcome};
 ghost use Rattle.layout_book.specs.LayoutBooks.{getBook};
 ghost use Rattle.table.specs.Tables.{output};
-ghost use Rattle.exports.specs.Codes.{codeOf, Fills};
-ghost use Rattle.exports.specs.Written.{asNumbers, layout, placeNumbers};
+ghost use Rattle.codes.specs.Codes.{codeOf, Fills};
+ghost use Rattle.codes.specs.Numbers.{asNumbers};
+ghost use Rattle.exports.specs.Written.{layout, placeNumbers};
 
 // How many bytes a layout's book has (1, 2, 3, 4).
 #[no_mangle]

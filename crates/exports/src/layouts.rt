@@ -1,5 +1,4 @@
 // Layouts: a chain code, an octave and a tritave; their numbers, names, spellings, layers and lamps.
-use crate::codes;
 use answer::Refusal;
 use genchain::rows;
 use genchain::rows::ChainRow;
@@ -19,16 +18,9 @@ ghost use Rattle.lamps.specs.Answers.{getStrip};
 ghost use Rattle.layout.specs.Answers.{getAccidentals, getScaleName, getNoteName};
 ghost use Rattle.layout_layers.specs.Answers.{getLayers, getLayerCount};
 ghost use Rattle.pergen.specs.Spelling.{soundedKey};
-ghost use Rattle.exports.specs.Codes.{codeOf, Fills};
-ghost use Rattle.exports.specs.Written.{
-  asNumbers,
-  accidentalsNumbers,
-  layout,
-  layoutOutput,
-  isSpelling,
-  spelling,
-  soundedOutcome,
-};
+ghost use Rattle.codes.specs.Codes.{codeOf, Fills};
+ghost use Rattle.codes.specs.Numbers.{asNumbers, accidentalsNumbers};
+ghost use Rattle.exports.specs.Written.{layout, layoutOutput, isSpelling, spelling, soundedOutcome};
 
 // Generator, cycles, reduced period, inverse, then the pattern's four numbers (1, 2, 3, 4, 10).
 #[no_mangle]

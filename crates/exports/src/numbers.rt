@@ -1,5 +1,4 @@
 // Numbers, pergens and spellings in a free format (document 01, "Pergen and spelling").
-use crate::codes;
 use answer::Refusal;
 use pergen::AccidentalsFormat;
 use pergen::Cycle;
@@ -11,16 +10,9 @@ ghost use lib.IntN.{pos};
 ghost use Rattle.math.specs.Answers.{remOutcome};
 ghost use Rattle.math.specs.Gcd.{gcdOrOne};
 ghost use Rattle.pergen.specs.Answers.{getGeneration, getAccidentals};
-ghost use Rattle.exports.specs.Codes.{codeOf, Fills};
-ghost use Rattle.exports.specs.Written.{
-  asNumbers,
-  pergen,
-  format,
-  pergenOutput,
-  presence,
-  generationNumbers,
-  accidentalsNumbers,
-};
+ghost use Rattle.codes.specs.Codes.{codeOf, Fills};
+ghost use Rattle.codes.specs.Numbers.{asNumbers, accidentalsNumbers};
+ghost use Rattle.exports.specs.Written.{pergen, format, pergenOutput, presence, generationNumbers};
 
 // The greatest common divisor; 0 and 0 give 1.
 #[no_mangle]

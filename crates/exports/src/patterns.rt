@@ -1,5 +1,4 @@
 // Step patterns (document 01, "Step patterns"): a pattern is its primary and secondary count, then its steps.
-use crate::codes;
 use answer::Refusal;
 use mos::KeyAnswer;
 use mos::Mos;
@@ -8,8 +7,9 @@ ghost use Rattle.layers.specs.Layers.{layersOf};
 ghost use Rattle.mos.specs.Answers.{ofPattern, coprimeOutcome};
 ghost use Rattle.mos.specs.Patterns.{mos, childOf, parentOf, keyAt};
 ghost use Rattle.mos.specs.Walks.{children, parents, genesisOf, fields, listed};
-ghost use Rattle.exports.specs.Codes.{Fills, FillsOne};
-ghost use Rattle.exports.specs.Written.{asNumbers, walkNumbers, findOutput};
+ghost use Rattle.codes.specs.Codes.{Fills, FillsOne};
+ghost use Rattle.codes.specs.Numbers.{asNumbers, walkNumbers};
+ghost use Rattle.exports.specs.Written.{findOutput};
 
 // The child, or nothing (7, 10).
 #[no_mangle]

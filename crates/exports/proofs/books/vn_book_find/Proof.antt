@@ -2,8 +2,9 @@
 use mathlib.Core.Path.{refl, sym, ap, _∙_}
 use Rattle.answer.proofs.Writing.{wrote-one, then}
 use Rattle.book.specs.Answers.{findAnswered}
-use Rattle.exports.specs.Written.{asNumbers, placeNumbers}
-use Rattle.exports.proofs.Coding.{coded, fills-refused, fills-short, fills-given}
+use Rattle.codes.specs.Numbers.{asNumbers}
+use Rattle.exports.specs.Written.{placeNumbers}
+use Rattle.codes.proofs.Coding.{coded, fills-refused, fills-short, fills-given}
 use borrow.Author.Needs.{needs}
 use Rattle.exports.proofs.books.vn_book_find.Statement.{statement}
 use Rattle.exports.proofs.books.vn_book_find.Tie as tie

@@ -2,9 +2,9 @@
 use mathlib.Core.Path.{ap, _∙_}
 use native.Mathlib.Omega.{arith}
 use Rattle.layout_book.specs.LayoutBooks.{getBook}
-use Rattle.exports.specs.Codes.{codeOf}
+use Rattle.codes.specs.Codes.{codeOf}
 use Rattle.exports.specs.Written.{layout}
-use Rattle.exports.proofs.Coding.{coded, small-counted}
+use Rattle.codes.proofs.Coding.{coded, small-counted}
 use Rattle.exports.proofs.Outputs.{books-fit}
 use borrow.Author.Needs.{needs}
 use Rattle.exports.proofs.books.vn_book_len.Statement.{statement}

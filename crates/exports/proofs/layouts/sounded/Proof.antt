@@ -1,7 +1,7 @@
 -- No question of the library's says no: the octave is above 0, and a row's start is below its letters.
 use mathlib.Core.Path.{ap, _∙_}
-use Rattle.exports.specs.Codes.{codeOf}
-use Rattle.exports.proofs.Coding.{coded}
+use Rattle.codes.specs.Codes.{codeOf}
+use Rattle.codes.proofs.Coding.{coded}
 use Rattle.exports.proofs.Sounding.{sounded-given}
 use borrow.Author.Needs.{needs}
 use Rattle.exports.proofs.layouts.sounded.Statement.{statement}

@@ -1,7 +1,7 @@
 -- The library's answer, as a code.
 use mathlib.Core.Path.{ap, _∙_}
-use Rattle.exports.specs.Codes.{codeOf}
-use Rattle.exports.proofs.Coding.{coded}
+use Rattle.codes.specs.Codes.{codeOf}
+use Rattle.codes.proofs.Coding.{coded}
 use borrow.Author.Needs.{needs}
 use Rattle.exports.proofs.layouts.vn_layer_count.Statement.{statement}
 use Rattle.exports.proofs.layouts.vn_layer_count.Tie as tie

@@ -2,7 +2,7 @@
 use mathlib.Core.Path.{sym, ap, _∙_}
 use Rattle.layout.specs.Parts.{foundOutcome}
 use Rattle.layout.proofs.Calls.{parts-of}
-use Rattle.exports.proofs.Coding.{coded, fills-refused, fills-as}
+use Rattle.codes.proofs.Coding.{coded, fills-refused, fills-as}
 use Rattle.exports.proofs.Outputs.{layout-refused, layout-given}
 use borrow.Author.Needs.{needs}
 use Rattle.exports.proofs.layouts.vn_layout.Statement.{statement}

@@ -1,7 +1,7 @@
 -- The library filled the slice; the code is its count.
 use mathlib.Core.Path.{refl}
 use native.Mathlib.Omega.{arith}
-use Rattle.exports.proofs.Coding.{coded, fills-filled, small-filled}
+use Rattle.codes.proofs.Coding.{coded, fills-filled, small-filled}
 use borrow.Author.Needs.{needs}
 use Rattle.exports.proofs.layouts.vn_scale_name.Statement.{statement}
 use Rattle.exports.proofs.layouts.vn_scale_name.Tie as tie

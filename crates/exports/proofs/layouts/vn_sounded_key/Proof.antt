@@ -5,8 +5,8 @@ use Rattle.genchain.proofs.TableRows.{table-row}
 use Rattle.layout.specs.Parts.{foundOutcome}
 use Rattle.layout.proofs.Calls.{parts-of}
 use Rattle.layout.proofs.Finding.{find-refused, count-found}
-use Rattle.exports.specs.Codes.{codeOf}
-use Rattle.exports.proofs.Coding.{coded}
+use Rattle.codes.specs.Codes.{codeOf}
+use Rattle.codes.proofs.Coding.{coded}
 use Rattle.exports.proofs.Sounding.{sounded-refused, sounded-key, no-spelling}
 use borrow.Author.Needs.{needs}
 use Rattle.exports.proofs.layouts.vn_sounded_key.Statement.{statement}

@@ -1,7 +1,7 @@
 -- The library's answer, in numbers.
 use mathlib.Core.Path.{ap}
-use Rattle.exports.specs.Written.{asNumbers, accidentalsNumbers}
-use Rattle.exports.proofs.Coding.{fills-as}
+use Rattle.codes.specs.Numbers.{asNumbers, accidentalsNumbers}
+use Rattle.codes.proofs.Coding.{fills-as}
 use borrow.Author.Needs.{needs}
 use Rattle.exports.proofs.numbers.vn_accidentals.Statement.{statement}
 use Rattle.exports.proofs.numbers.vn_accidentals.Tie as tie

@@ -1,8 +1,9 @@
 -- Question 2, then the numbers of the generation.
 use mathlib.Core.Path.{sym, ap, _∙_}
 use Rattle.pergen.specs.Answers.{generationOutcome}
-use Rattle.exports.specs.Written.{asNumbers, generationNumbers}
-use Rattle.exports.proofs.Coding.{coded, fills-refused, fills-as}
+use Rattle.codes.specs.Numbers.{asNumbers}
+use Rattle.exports.specs.Written.{generationNumbers}
+use Rattle.codes.proofs.Coding.{coded, fills-refused, fills-as}
 use Rattle.exports.proofs.Outputs.{generation-given}
 use borrow.Author.Needs.{needs}
 use Rattle.exports.proofs.numbers.vn_generation.Statement.{statement}

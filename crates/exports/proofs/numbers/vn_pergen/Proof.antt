@@ -1,5 +1,5 @@
 -- Question 2, then the numbers that were solved.
-use Rattle.exports.proofs.Coding.{coded, fills-refused, fills-as}
+use Rattle.codes.proofs.Coding.{coded, fills-refused, fills-as}
 use Rattle.exports.proofs.Outputs.{pergen-refused, pergen-given}
 use borrow.Author.Needs.{needs}
 use Rattle.exports.proofs.numbers.vn_pergen.Statement.{statement}

@@ -4,8 +4,8 @@ use lib.IntN.{ℤ}
 use mir.Syntax.{w32}
 use Rattle.math.specs.Answers.{remOutcome}
 use Rattle.math.proofs.Signed.{read-back}
-use Rattle.exports.specs.Codes.{codeOf}
-use Rattle.exports.proofs.Coding.{coded}
+use Rattle.codes.specs.Codes.{codeOf}
+use Rattle.codes.proofs.Coding.{coded}
 use borrow.Author.Needs.{needs}
 use Rattle.exports.proofs.numbers.vn_rem.Statement.{statement}
 use Rattle.exports.proofs.numbers.vn_rem.Tie as tie

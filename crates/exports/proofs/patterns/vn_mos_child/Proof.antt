@@ -1,7 +1,7 @@
 -- The library's answer, in numbers.
 use mathlib.Core.Path.{ap}
-use Rattle.exports.specs.Written.{asNumbers, walkNumbers}
-use Rattle.exports.proofs.Coding.{fills-as}
+use Rattle.codes.specs.Numbers.{asNumbers, walkNumbers}
+use Rattle.codes.proofs.Coding.{fills-as}
 use borrow.Author.Needs.{needs}
 use Rattle.exports.proofs.patterns.vn_mos_child.Statement.{statement}
 use Rattle.exports.proofs.patterns.vn_mos_child.Tie as tie

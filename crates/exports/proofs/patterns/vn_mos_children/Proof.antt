@@ -1,7 +1,7 @@
 -- The library filled the slice; the code is its count.
 use native.Mathlib.Omega.{arith}
 use Rattle.exports.proofs.Outputs.{listing-in-room}
-use Rattle.exports.proofs.Coding.{coded, fills-filled, small-filled}
+use Rattle.codes.proofs.Coding.{coded, fills-filled, small-filled}
 use borrow.Author.Needs.{needs}
 use Rattle.exports.proofs.patterns.vn_mos_children.Statement.{statement}
 use Rattle.exports.proofs.patterns.vn_mos_children.Tie as tie

@@ -2,7 +2,7 @@
 use mathlib.Core.Path.{sym, ap, _∙_}
 use native.Mathlib.Omega.{arith}
 use Rattle.mos.specs.Answers.{mosOutcome}
-use Rattle.exports.proofs.Coding.{coded, fills-refused, fills-as}
+use Rattle.codes.proofs.Coding.{coded, fills-refused, fills-as}
 use Rattle.exports.proofs.Outputs.{find-refused, find-given}
 use borrow.Author.Needs.{needs}
 use Rattle.exports.proofs.patterns.vn_mos_find.Statement.{statement}

@@ -1,8 +1,8 @@
 -- The library's answer, in numbers.
 use mathlib.Core.Path.{ap}
 use Rattle.mos.specs.Walks.{fields}
-use Rattle.exports.specs.Written.{asNumbers}
-use Rattle.exports.proofs.Coding.{fills-as}
+use Rattle.codes.specs.Numbers.{asNumbers}
+use Rattle.codes.proofs.Coding.{fills-as}
 use borrow.Author.Needs.{needs}
 use Rattle.exports.proofs.patterns.vn_mos_genesis.Statement.{statement}
 use Rattle.exports.proofs.patterns.vn_mos_genesis.Tie as tie

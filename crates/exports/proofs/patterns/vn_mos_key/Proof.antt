@@ -1,7 +1,7 @@
 -- Question 7, question 10, then the key in the first place.
 use mathlib.Core.Path.{refl, sym, ap, _∙_}
 use Rattle.mos.specs.Answers.{keyOutcome}
-use Rattle.exports.proofs.Coding.{coded, one-refused, one-short, one-given}
+use Rattle.codes.proofs.Coding.{coded, one-refused, one-short, one-given}
 use Rattle.exports.proofs.Outputs.{key-read-back}
 use borrow.Author.Needs.{needs}
 use Rattle.exports.proofs.patterns.vn_mos_key.Statement.{statement}

@@ -7,10 +7,10 @@ use mir.Syntax.{w64}
 use mir.ValLaws.{toZ-pos}
 use Rattle.answer.specs.Writing.{Wrote}
 use Rattle.answer.proofs.Copying.{copy-start, copy-more, copied}
-use Rattle.exports.proofs.Coding.{coded, fills-short, fills-given}
+use Rattle.codes.proofs.Coding.{coded, fills-short, fills-given}
 use borrow.Author.Needs.{needs}
-use Rattle.exports.proofs.codes.put.Statement.{statement}
-use Rattle.exports.proofs.codes.put.Tie as tie
+use Rattle.codes.proofs.put.Statement.{statement}
+use Rattle.codes.proofs.put.Tie as tie
 
 abbrev Inv-loop : tie.InvT-loop
 Inv-loop out₀ numbers len place₀ out place =

@@ -11,17 +11,16 @@ use mir.Syntax.{w64}
 use mir.Val.{SFits, toZ, ofZ}
 use mir.ValLaws.{toZ-pos}
 use Rattle.answer.specs.Outcome.{Outcome, given, refused, andThen}
-use Rattle.answer.specs.Lent.{counted, written, Filled}
+use Rattle.answer.specs.Lent.{heldIn, counted, written, Filled}
 use Rattle.answer.specs.Refusals.{numberOf, countOutcome}
 use Rattle.answer.specs.Writing.{Wrote}
 use Rattle.answer.specs.declared.CountAnswer.{CountAnswer}
 use Rattle.answer.specs.declared.CountAnswer.the-variants as Count
 use Rattle.answer.proofs.Lent.{held, not-held}
 use Rattle.answer.proofs.Writing.{wrote-front}
-use Rattle.layout.specs.Answers.{inRoom}
 use Rattle.math.proofs.Integers.{rep-pos, rep-neg, rep-minus, rep-agree, abs-rep}
 use Rattle.math.proofs.Signed.{read-back, abs-fits}
-use Rattle.exports.specs.Codes.{codeOf, Fills, oneHeld, oneCounted, oneWritten, FillsOne, SmallCount}
+use Rattle.codes.specs.Codes.{codeOf, Fills, oneHeld, oneCounted, oneWritten, FillsOne, SmallCount}
 
 -- ---- the numbers themselves
 
@@ -44,6 +43,10 @@ pub coded : {r z : ℤ} → mag r < 2 ^ 63 → r ≡ z → toZ w64 (ofZ w64 r) �
 coded {r} h e = read-back w64 r (record { sfits = h }) ∙ e
 
 -- ---- calls that fill a slice
+
+-- question 10, after the questions of the call
+abbrev inRoom : ℕ → Outcome (List ℕ) → Outcome (List ℕ)
+inRoom room o = andThen o (heldIn room)
 
 in-room : {o p whole : Outcome (List ℕ)} (room : ℕ) → p ≡ o → inRoom room p ≡ whole → inRoom room o ≡ whole
 in-room room e w = sym (ap (inRoom room) e) ∙ w

@@ -3,11 +3,11 @@ use mathlib.Core.Path.{sym, ap}
 use Rattle.mos.specs.Answers.{mosOutcome}
 use Rattle.mos.specs.declared.MosAnswer.{MosAnswer}
 use Rattle.mos.specs.Walks.{fields}
-use Rattle.exports.specs.Written.{asNumbers}
-use Rattle.exports.proofs.Coding.{coded, fills-refused, fills-as}
+use Rattle.codes.specs.Numbers.{asNumbers}
+use Rattle.codes.proofs.Coding.{coded, fills-refused, fills-as}
 use borrow.Author.Needs.{needs}
-use Rattle.exports.proofs.codes.pattern.Statement.{statement}
-use Rattle.exports.proofs.codes.pattern.Tie as tie
+use Rattle.codes.proofs.pattern.Statement.{statement}
+use Rattle.codes.proofs.pattern.Tie as tie
 
 enum-known-answer : tie.Need-enum-known-answer
 enum-known-answer c = search needs

@@ -3,9 +3,9 @@ use mathlib.Core.Path.{ap, _∙_}
 use Prim.Native.Nat.{ℕ}
 use lib.IntN.{pos, negℤ}
 use borrow.Author.Needs.{needs}
-use Rattle.exports.proofs.Coding.{minus-fits, minus-is}
-use Rattle.exports.proofs.codes.refused.Statement.{statement}
-use Rattle.exports.proofs.codes.refused.Tie as tie
+use Rattle.codes.proofs.Coding.{minus-fits, minus-is}
+use Rattle.codes.proofs.refused.Statement.{statement}
+use Rattle.codes.proofs.refused.Tie as tie
 
 number-requires : tie.Need-number-requires
 number-requires c κs = search needs

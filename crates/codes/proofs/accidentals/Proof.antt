@@ -2,11 +2,11 @@
 use mathlib.Core.Path.{sym, ap}
 use Rattle.pergen.specs.Answers.{accidentalsOutcome}
 use Rattle.pergen.specs.declared.AccidentalsAnswer.{AccidentalsAnswer}
-use Rattle.exports.specs.Written.{asNumbers, accidentalsNumbers}
-use Rattle.exports.proofs.Coding.{coded, fills-refused, fills-as}
+use Rattle.codes.specs.Numbers.{asNumbers, accidentalsNumbers}
+use Rattle.codes.proofs.Coding.{coded, fills-refused, fills-as}
 use borrow.Author.Needs.{needs}
-use Rattle.exports.proofs.codes.accidentals.Statement.{statement}
-use Rattle.exports.proofs.codes.accidentals.Tie as tie
+use Rattle.codes.proofs.accidentals.Statement.{statement}
+use Rattle.codes.proofs.accidentals.Tie as tie
 
 enum-known-answer : tie.Need-enum-known-answer
 enum-known-answer c = search needs

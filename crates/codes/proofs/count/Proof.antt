@@ -6,10 +6,10 @@ use mir.ValLaws.{toZ-pos}
 use borrow.Author.Needs.{needs}
 use Rattle.answer.specs.declared.CountAnswer.{CountAnswer}
 use Rattle.answer.specs.Refusals.{countOutcome}
-use Rattle.exports.specs.Codes.{codeOf, SmallCount}
-use Rattle.exports.proofs.Coding.{coded}
-use Rattle.exports.proofs.codes.count.Statement.{statement}
-use Rattle.exports.proofs.codes.count.Tie as tie
+use Rattle.codes.specs.Codes.{codeOf, SmallCount}
+use Rattle.codes.proofs.Coding.{coded}
+use Rattle.codes.proofs.count.Statement.{statement}
+use Rattle.codes.proofs.count.Tie as tie
 
 enum-known-answer : tie.Need-enum-known-answer
 enum-known-answer c = search needs

@@ -2,11 +2,11 @@
 use mathlib.Core.Path.{refl, sym, ap}
 use Rattle.mos.specs.Answers.{walkOutcome}
 use Rattle.mos.specs.declared.WalkAnswer.{WalkAnswer}
-use Rattle.exports.specs.Written.{asNumbers, walkNumbers}
-use Rattle.exports.proofs.Coding.{coded, fills-refused, fills-nothing, fills-as}
+use Rattle.codes.specs.Numbers.{asNumbers, walkNumbers}
+use Rattle.codes.proofs.Coding.{coded, fills-refused, fills-nothing, fills-as}
 use borrow.Author.Needs.{needs}
-use Rattle.exports.proofs.codes.walk.Statement.{statement}
-use Rattle.exports.proofs.codes.walk.Tie as tie
+use Rattle.codes.proofs.walk.Statement.{statement}
+use Rattle.codes.proofs.walk.Tie as tie
 
 enum-known-answer : tie.Need-enum-known-answer
 enum-known-answer c = search needs

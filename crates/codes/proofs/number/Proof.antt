@@ -6,10 +6,10 @@ use mir.ValLaws.{toZ-pos}
 use borrow.Author.Needs.{needs}
 use Rattle.answer.specs.declared.NumberAnswer.{NumberAnswer}
 use Rattle.answer.specs.Refusals.{numberOutcome}
-use Rattle.exports.specs.Codes.{codeOf}
-use Rattle.exports.proofs.Coding.{coded}
-use Rattle.exports.proofs.codes.number.Statement.{statement}
-use Rattle.exports.proofs.codes.number.Tie as tie
+use Rattle.codes.specs.Codes.{codeOf}
+use Rattle.codes.proofs.Coding.{coded}
+use Rattle.codes.proofs.number.Statement.{statement}
+use Rattle.codes.proofs.number.Tie as tie
 
 enum-known-answer : tie.Need-enum-known-answer
 enum-known-answer c = search needs

@@ -6,10 +6,9 @@ use lib.Dec.{leb}
 use lib.IntN.{ℤ, pos, negℤ}
 use lib.ListN.{length, drop}
 use Rattle.answer.specs.Outcome.{Outcome, given, refused, ask, andThen}
-use Rattle.answer.specs.Lent.{counted, written}
+use Rattle.answer.specs.Lent.{heldIn, counted, written}
 use Rattle.answer.specs.declared.CountAnswer.{CountAnswer}
 use Rattle.answer.specs.declared.CountAnswer.the-variants as Count
-use Rattle.layout.specs.Answers.{inRoom}
 
 -- A value is itself; a refusal ("the first no gives its number and nothing else") is minus that number.
 abbrev pub codeOf : Outcome ℕ → ℤ
@@ -19,8 +18,8 @@ codeOf (refused n) = negℤ (pos n)
 -- The promise of a call that fills a lent slice: after its own questions comes question 10, "Does the output slice hold the whole
 -- output?"; the code is the number of elements written, or the refusal; "a refusal writes to no buffer".
 pub record Fills (outcome : Outcome (List ℕ)) (code : ℤ) (before after : List ℕ) : Type 0 where
-  pub answered : code ≡ codeOf (counted (inRoom (length before) outcome))
-  pub content : after ≡ written (inRoom (length before) outcome) before
+  pub answered : code ≡ codeOf (counted (andThen outcome (heldIn (length before))))
+  pub content : after ≡ written (andThen outcome (heldIn (length before))) before
 
 -- The same of a call that writes one signed number.
 abbrev pub oneHeld : ℕ → ℤ → Outcome ℤ

@@ -1,4 +1,9 @@
-// The library's answers, turned into what C is answered with: parts, and no entry points.
+// What C is answered with, made from the library's answers.
+//
+// Holds the turning of an answer into one signed number, and of a pattern or spellings into numbers at the front of a lent slice.
+// All of them are parts, and no entry points: the calls of `exports` are made of them.
+// specs/: Codes says what a code means and what a lent slice then holds, Numbers which numbers stand for an answer.
+// Nothing is assumed.
 use answer::CountAnswer;
 use answer::NumberAnswer;
 use answer::Refusal;
@@ -13,8 +18,8 @@ ghost use Rattle.answer.specs.Refusals.{numberOf, numberOutcome, countOutcome};
 ghost use Rattle.mos.specs.Answers.{mosOutcome, walkOutcome};
 ghost use Rattle.mos.specs.Walks.{fields};
 ghost use Rattle.pergen.specs.Answers.{accidentalsOutcome};
-ghost use Rattle.exports.specs.Codes.{codeOf, SmallCount, Fills};
-ghost use Rattle.exports.specs.Written.{asNumbers, walkNumbers, accidentalsNumbers};
+ghost use Rattle.codes.specs.Codes.{codeOf, SmallCount, Fills};
+ghost use Rattle.codes.specs.Numbers.{asNumbers, walkNumbers, accidentalsNumbers};
 
 // A refusal is minus its question's number.
 pub fn refused(question: Refusal) -> i64
