@@ -4,7 +4,7 @@
  *
  * What a call returns
  *   0 or more: the answer, or how many elements were written to the front of the slice that was lent.
- *   below 0:   minus the number of the first question that was answered with no. Nothing was written.
+ *   below 0:   minus the number of the first question that was answered with no. No slice was written to.
  * Each call asks the questions that stand at it, in that order:
  *   VN_CHAIN         1  Is the chain code 0 to 5?
  *   VN_PERIOD        2  Is the octave, the period or the denominator at least 1?
@@ -20,8 +20,9 @@
  *   VN_BOOK_PAIRS   11  Does a book hold its count, at least 1, and that many pairs?
  *   VN_BOOK_COVER   12  Do the pairs cover the text?
  *   VN_BOOK_KEY     13  Is the key below the book's count?
- *   VN_LINE         14  Is the key table's line well formed?
+ *   VN_LINE         14  Is the key table's line well formed? (The table prints this number; no call returns it.)
  *   VN_SPELLING     15  Is it a spelling: a letter of the chain, sharps or flats but not both, stars below the cycles?
+ * A refusal is compared as in vn_layout(chain, octave, tritave, out, len) == -VN_PATTERN.
  *
  * What a caller owes
  *   A slice is a pointer to its first element and the number of its elements. All of them are readable, and those of an
@@ -124,7 +125,7 @@ int64_t vn_layout(uint16_t chain, uint16_t octave, uint16_t tritave, uint16_t *o
 /* Writes the scale's name in ASCII, at most 12 bytes, without a 0 at the end. Asks 1, 2, 3, 4, 10. */
 int64_t vn_scale_name(uint16_t chain, uint16_t octave, uint16_t tritave, uint8_t *out, size_t len);
 
-/* How many bytes a key's name has: at most 13,109. Asks 1, 2, 3, 4. */
+/* How many bytes a key's name has: at most 39,325. Asks 1, 2, 3, 4. */
 int64_t vn_note_name_len(uint16_t chain, uint16_t octave, uint16_t tritave, uint16_t key);
 
 /* Writes a key's name in UTF-8, without a 0 at the end. Asks 1, 2, 3, 4, 10. */
@@ -164,7 +165,7 @@ int64_t vn_book(uint16_t chain, uint16_t octave, uint16_t tritave, uint8_t *out,
 int64_t vn_book_find(const uint8_t *book, size_t book_len, uint32_t key, uint32_t *out, size_t len);
 
 /* Writes what the key table program prints for a line of input, such as "1 12 19\n": a line for each key, or
- * "refused", a space, the number and a line feed. Asks 10 alone; 131,072 bytes are always enough. */
+ * "refused", a space, the number and a line feed. The longest output has 110,841 bytes. Asks 10 alone. */
 int64_t vn_key_table(const uint8_t *line, size_t line_len, uint8_t *out, size_t len);
 
 #ifdef __cplusplus

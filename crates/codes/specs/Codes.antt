@@ -21,18 +21,23 @@ pub record Fills (outcome : Outcome (List ℕ)) (code : ℤ) (before after : Lis
   pub answered : code ≡ codeOf (counted (andThen outcome (heldIn (length before))))
   pub content : after ≡ written (andThen outcome (heldIn (length before))) before
 
--- The same of a call that writes one signed number.
+-- ---- the same of a call that writes one signed number
+
+-- Question 10: does the slice, of `room` elements, hold it?
 abbrev pub oneHeld : ℕ → ℤ → Outcome ℤ
 oneHeld room z = ask 10 (leb 1 room) (given z)
 
+-- How many elements were written.
 abbrev pub oneCounted : Outcome ℤ → Outcome ℕ
 oneCounted (given z) = given 1
 oneCounted (refused n) = refused n
 
+-- "elements past the output keep their contents"
 abbrev pub oneWritten : Outcome ℤ → List ℤ → List ℤ
 oneWritten (given z) before = z ∷ drop 1 before
 oneWritten (refused n) before = before
 
+-- The call's promise.
 pub record FillsOne (outcome : Outcome ℤ) (code : ℤ) (before after : List ℤ) : Type 0 where
   pub answered : code ≡ codeOf (oneCounted (andThen outcome (oneHeld (length before))))
   pub content : after ≡ oneWritten (andThen outcome (oneHeld (length before))) before

@@ -10,7 +10,6 @@ use Rattle.layout.specs.declared.IsomorphicLayout.{IsomorphicLayout}
 use Rattle.layout.specs.Layouts.{Layout, layoutOutcome, lettersOf}
 use Rattle.layout.specs.Names.{keyOf}
 use Rattle.mos.specs.declared.Mos.{Mos}
-use Rattle.mos.specs.Patterns.{pick}
 use Rattle.mos.specs.Walks.{children, firstWith, fields}
 use Rattle.mos.specs.Answers.{genesisOutcome}
 use Rattle.pergen.specs.declared.AccidentalsFormat.{AccidentalsFormat}
@@ -26,12 +25,15 @@ use Rattle.pergen.specs.Spelling.{starsOf}
 
 -- ---- the records that a call's numbers make
 
+-- A period and a generator.
 abbrev pub pergen : ℕ → ℕ → PerGen
 pergen P G = record { period = P; generator = G }
 
+-- A free format: how many symbols, and the origin.
 abbrev pub format : ℕ → ℕ → AccidentalsFormat
 format N origin = record { «num_symbols» = N; «genchain_origin» = origin }
 
+-- A chain code, an octave and a tritave.
 abbrev pub layout : ℕ → ℕ → ℕ → IsomorphicLayout
 layout code octave tritave = record { genchain = code; octave = octave; tritave = tritave }
 
@@ -81,6 +83,7 @@ layoutOutput code octave tritave =
 unfoldable pub isSpelling : (N n letter sharps flats stars : ℕ) → Bool
 isSpelling N n letter sharps flats stars = ltb letter N && ltb stars n && (eqb sharps 0 || eqb flats 0)
 
+-- One of two kinds of signs.
 abbrev pub pickSigns : Bool → Signs → Signs → Signs
 pickSigns true a b = a
 pickSigns false a b = b
@@ -90,8 +93,8 @@ unfoldable pub spelling : (letter sharps flats stars : ℕ) → Spelling
 spelling letter sharps flats stars =
     record { index = letter; signs = pickSigns (eqb flats 0) (Sharps sharps) (Flats flats); stars = stars }
 
--- What is no spelling sounds no key: no question of document 01 is about it, so it has the next number, 15.
--- "it sounds key (G × place + stars) mod P of the octave"
+-- "it sounds key (G × place + stars) mod P of the octave". What is no spelling sounds none: document 01 has no question about it,
+-- so it is refused with a number of its own, 15, the one after the last question's.
 unfoldable pub soundedIn : (code octave : ℕ) → Layout → (letter sharps flats stars : ℕ) → Outcome ℕ
 unfolding isSpelling spelling keyOf cycles
 soundedIn code octave l letter sharps flats stars =

@@ -1,6 +1,5 @@
 -- A count that fits stays itself, and a refusal is `refused`'s.
 use mathlib.Core.Path.{sym, ap, _∙_, subst}
-use native.Mathlib.Omega.{arith}
 use mir.Syntax.{w64}
 use mir.ValLaws.{toZ-pos}
 use borrow.Author.Needs.{needs}

@@ -1,6 +1,5 @@
 -- A 16-bit number stays itself, and a refusal is `refused`'s.
 use mathlib.Core.Path.{sym, ap, _∙_}
-use native.Mathlib.Omega.{arith}
 use mir.Syntax.{w64}
 use mir.ValLaws.{toZ-pos}
 use borrow.Author.Needs.{needs}
