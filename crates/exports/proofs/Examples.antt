@@ -1,0 +1,24 @@
+-- The worked examples, by computation.
+use mathlib.Core.Path.{refl}
+use Rattle.mos.specs.Answers.{ofPattern, coprimeOutcome}
+use Rattle.mos.specs.Patterns.{childOf}
+use Rattle.pergen.specs.Answers.{getGeneration, getAccidentals}
+use Rattle.exports.specs.Written.{pergenOutput, findOutput, layoutOutput, soundedOutcome}
+use Rattle.exports.specs.Examples.{ExamplesHold}
+
+pub examples-hold : ExamplesHold
+unfolding pergenOutput getGeneration getAccidentals ofPattern childOf coprimeOutcome findOutput layoutOutput soundedOutcome
+examples-hold = record {
+  pergens = refl;
+  no-period = refl;
+  with-cycle = refl;
+  without-cycle = refl;
+  spelled = refl;
+  child = refl;
+  no-child = refl;
+  coprime = refl;
+  found = refl;
+  none-found = refl;
+  layouts = refl;
+  spellings = refl;
+}

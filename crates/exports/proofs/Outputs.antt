@@ -1,0 +1,143 @@
+-- What each call writes, from what the library answered.
+use Prim.Native.Nat.{ℕ, _≤_, _<_, _^_}
+use mathlib.Core.Path.{_≡_, refl, sym, ap, ap₂, _∙_, subst}
+use mathlib.Core.Bool.{Bool, true}
+use mathlib.Core.Option.{Option}
+use mathlib.Core.List.{List, [], _∷_, _++_}
+use native.Mathlib.Omega.{arith}
+use lib.Dec.{leb}
+use lib.IntN.{ℤ}
+use lib.ListN.{length}
+use borrow.Author.Tests.{leb-true}
+use mir.Syntax.{w16}
+use mir.Val.{SFits, toZ, ofZ}
+use Rattle.answer.specs.Outcome.{Outcome, given, refused, ask, andThen}
+use Rattle.answer.specs.Lent.{heldIn}
+use Rattle.answer.proofs.Asked.{given-same, asked-yes, asked-rest, ask-then}
+use Rattle.answer.proofs.Questions.{ask-none, ask-some}
+use Rattle.genchain.specs.Chains.{chainOf, rowOf}
+use Rattle.layers.specs.Answers.{layersOutcome}
+use Rattle.layers.specs.Layers.{layersOf}
+use Rattle.layout.specs.Answers.{inRoom, getNoteName}
+use Rattle.layout.specs.Layouts.{Layout, layoutOutcome}
+use Rattle.layout.specs.Names.{nameIn, noteName}
+use Rattle.layout.specs.declared.IsomorphicLayout.{IsomorphicLayout}
+use Rattle.layout_book.specs.LayoutBooks.{bookIn, getBook}
+use Rattle.layout_book.proofs.Spelled.{name-short}
+use Rattle.layout_book.proofs.Spellers.{speller-of}
+use Rattle.layout_book.proofs.Theorems.{offsets-fit}
+use Rattle.math.proofs.Signed.{read-back}
+use Rattle.mos.specs.Answers.{ofPattern, genesisOutcome, listingOutcome}
+use Rattle.mos.specs.Patterns.{isPattern, genesis, keyAt}
+use Rattle.mos.specs.Walks.{children, firstWith, fields, listed}
+use Rattle.mos.specs.declared.Mos.{Mos}
+use Rattle.mos.proofs.Theorems.{made-patterns}
+use Rattle.pergen.specs.Parts.{solvedOf}
+use Rattle.pergen.specs.Spelling.{starsOf}
+use Rattle.pergen.specs.declared.Generation.{Generation}
+use Rattle.pergen.specs.declared.euclid.Solved.{Solved}
+use Rattle.codes.specs.Numbers.{asNumbers, walkNumbers}
+use Rattle.exports.specs.Written.{pergenNumbers, pergenOutput, presence, generationNumbers, findOutput, layoutNumbers, layoutOutput}
+
+-- ---- pergens
+
+abbrev solvedNumbers : Solved → List ℕ
+solvedNumbers s = s .«num_cycles» ∷ s .«reduced_period» ∷ s .«generator_inverse» ∷ []
+
+solved-numbers : (P G : ℕ) (s : Solved) → s ≡ solvedOf P G → solvedNumbers s ≡ pergenNumbers P G
+unfolding pergenNumbers solvedOf
+solved-numbers P G s is = ap solvedNumbers is
+
+pub pergen-refused : (P G : ℕ) → P ≡ 0 → refused 2 ≡ pergenOutput P G
+unfolding pergenOutput
+pergen-refused P G none = sym (ask-none 2 P _ none)
+
+pub pergen-given : (P G : ℕ) (s : Solved) → (P ≡ 0 → ⊥) → s ≡ solvedOf P G → given (solvedNumbers s) ≡ pergenOutput P G
+unfolding pergenOutput
+pergen-given P G s some is = ap given (solved-numbers P G s is) ∙ sym (ask-some 2 P _ some)
+
+pub generation-given : {o : Outcome Generation} (g : Generation) (p s : ℕ) → given g ≡ o → p ≡ presence (g .cycle) → s ≡ starsOf (g .cycle)
+    → given (g .degree ∷ p ∷ s ∷ []) ≡ asNumbers generationNumbers o
+generation-given g p s e q r =
+    ap₂ (λ (x y : ℕ). given (g .degree ∷ x ∷ y ∷ [])) q r ∙ ap (asNumbers generationNumbers) e
+
+-- ---- step patterns
+
+module _ (P G steps : ℕ) where
+  abbrev walked : Mos → Outcome (List ℕ)
+  walked m = given (walkNumbers (firstWith steps (children m)))
+
+  pub find-refused : (n : ℕ) → refused n ≡ genesisOutcome P G → refused n ≡ findOutput P G steps
+  unfolding findOutput
+  find-refused n e = ap (λ (o : Outcome Mos). andThen o walked) e
+
+  -- a genesis is a pattern
+  genesis-pattern : (m : Mos) → P ≤ 65535 → given m ≡ genesisOutcome P G → isPattern m ≡ true
+  unfolding genesisOutcome
+  genesis-pattern m small e =
+      subst (λ (x : Mos). isPattern x ≡ true) (given-same (asked-rest 2 (leb 1 P) _ (sym e)))
+      (made-patterns .of-genesis P G (leb-true 1 P (asked-yes 2 (leb 1 P) _ (sym e))) small)
+
+  pub find-given : (m : Mos) (w : Outcome (Option Mos)) → P ≤ 65535 → given m ≡ genesisOutcome P G
+      → w ≡ ofPattern m (firstWith steps (children m)) → asNumbers walkNumbers w ≡ findOutput P G steps
+  unfolding findOutput ofPattern
+  find-given m w small e q =
+      ap (asNumbers walkNumbers)
+      (q ∙ ap (λ (b : Bool). ask 7 b (given (firstWith steps (children m)))) (genesis-pattern m small e))
+      ∙ ap (λ (o : Outcome Mos). andThen o walked) e
+
+pub listing-in-room : (room : ℕ) (m : Mos) (patterns : List Mos) → inRoom room (ofPattern m (listed patterns)) ≡ listingOutcome m patterns room
+unfolding ofPattern listingOutcome
+listing-in-room room m patterns = ask-then 7 (isPattern m) (given (listed patterns)) (heldIn room)
+
+pub layers-in-room : (room : ℕ) (m : Mos) → inRoom room (ofPattern m (layersOf m)) ≡ layersOutcome m room
+unfolding ofPattern layersOutcome
+layers-in-room room m = ask-then 7 (isPattern m) (given (layersOf m)) (heldIn room)
+
+-- a key's place is two signed numbers, which come as they are read back
+pub key-read-back : (m : Mos) (p s : ℤ) → SFits w16 p → SFits w16 s
+    → ofPattern m (keyAt m (toZ w16 (ofZ w16 p)) (toZ w16 (ofZ w16 s))) ≡ ofPattern m (keyAt m p s)
+key-read-back m p s f g = ap₂ (λ (x y : ℤ). ofPattern m (keyAt m x y)) (read-back w16 p f) (read-back w16 s g)
+
+-- ---- layouts
+
+module _ (code octave tritave : ℕ) where
+  abbrev laidOut : Layout → Outcome (List ℕ)
+  laidOut l = given (layoutNumbers octave l)
+
+  pub layout-refused : (n : ℕ) → refused n ≡ layoutOutcome code octave tritave → refused n ≡ layoutOutput code octave tritave
+  unfolding layoutOutput
+  layout-refused n e = ap (λ (o : Outcome Layout). andThen o laidOut) e
+
+  pub layout-given : (l : Layout) (s : Solved) → given l ≡ layoutOutcome code octave tritave → s ≡ solvedOf octave (l .generator)
+      → given (l .generator ∷ (solvedNumbers s ++ fields (l .pattern))) ≡ layoutOutput code octave tritave
+  unfolding layoutOutput layoutNumbers
+  layout-given l s e is =
+      ap (λ (x : List ℕ). given (l .generator ∷ (x ++ fields (l .pattern)))) (solved-numbers octave (l .generator) s is)
+      ∙ ap (λ (o : Outcome Layout). andThen o laidOut) e
+
+-- ---- names and books are short enough to be counted
+
+fits-given : (o : Outcome Layout) (f : Layout → List ℕ) → ((l : Layout) → o ≡ given l → length (f l) < 2 ^ 63)
+    → (text : List ℕ) → andThen o (λ (l : Layout). given (f l)) ≡ given text → length text < 2 ^ 63
+fits-given (given l) f h text e = subst (λ (t : List ℕ). length t < 2 ^ 63) (given-same e) (h l refl)
+fits-given (refused n) f h text e = absurd (let z : _≡_ {A = ℕ} 0 1 = cc in omega arith)
+
+module _ (r : IsomorphicLayout) (small : r .octave ≤ 65535) where
+  name-fits : (key : ℕ) (l : Layout) → layoutOutcome (r .genchain) (r .octave) (r .tritave) ≡ given l
+      → length (nameIn (r .genchain) (r .octave) l key) < 2 ^ 63
+  name-fits key l e =
+      let w
+      = speller-of (r .genchain) (r .octave) (r .tritave) l e (rowOf (chainOf (r .genchain))) (solvedOf (r .octave) (l .generator)) refl refl small in
+      subst (λ (t : List ℕ). length t < 2 ^ 63) (w .names key) (omega (arith, name-short _ (w .sound) key))
+
+  pub names-fit : (key : ℕ) (text : List ℕ) → getNoteName r key ≡ given text → length text < 2 ^ 63
+  unfolding getNoteName noteName
+  names-fit key = fits-given _ (λ (l : Layout). nameIn (r .genchain) (r .octave) l key) (name-fits key)
+
+  book-fits : (l : Layout) → layoutOutcome (r .genchain) (r .octave) (r .tritave) ≡ given l → length (bookIn (r .genchain) (r .octave) l) < 2 ^ 63
+  book-fits l e = omega (arith, offsets-fit (r .genchain) (r .octave) (r .tritave) l e small .whole)
+
+  pub books-fit : (text : List ℕ) → getBook r ≡ given text → length text < 2 ^ 63
+  unfolding getBook
+  books-fit = fits-given _ (λ (l : Layout). bookIn (r .genchain) (r .octave) l) book-fits

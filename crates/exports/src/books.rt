@@ -1,0 +1,65 @@
+// Books and key tables (document 01, "Lamps and book").
+use answer::Refusal;
+use book::FindAnswer;
+use layout::IsomorphicLayout;
+ghost use mathlib.Core.Path.{_≡_};
+ghost use Rattle.answer.specs.Lent.{counted};
+ghost use Rattle.answer.specs.Outcome.{given};
+ghost use Rattle.book.specs.Books.{findOutcome};
+ghost use Rattle.layout_book.specs.LayoutBooks.{getBook};
+ghost use Rattle.table.specs.Tables.{output};
+ghost use Rattle.codes.specs.Codes.{codeOf, Fills};
+ghost use Rattle.codes.specs.Numbers.{asNumbers};
+ghost use Rattle.exports.specs.Written.{layout, placeNumbers};
+
+// How many bytes a layout's book has (1, 2, 3, 4).
+#[no_mangle]
+pub extern "C" fn vn_book_len(chain: u16, octave: u16, tritave: u16) -> i64
+    ensures { λ r. ⌜ r ≡ codeOf (counted (getBook (layout chain octave tritave))) ⌝ }
+{
+    let layout = IsomorphicLayout {
+        genchain: chain,
+        octave,
+        tritave,
+    };
+    codes::count(layout_book::book_len(layout))
+}
+
+// The book of a layout's key names (1, 2, 3, 4, 10).
+#[no_mangle]
+pub extern "C" fn vn_book(chain: u16, octave: u16, tritave: u16, out: &mut [u8]) -> i64
+    ensures { λ r. ⌜ Fills (getBook (layout chain octave tritave)) r (now (out .entry)) (now (out .exit)) ⌝ }
+{
+    let layout = IsomorphicLayout {
+        genchain: chain,
+        octave,
+        tritave,
+    };
+    codes::count(layout_book::write_book(layout, out))
+}
+
+// Offset and length of a key's name in a book (11, 12, 13, 10).
+#[no_mangle]
+pub extern "C" fn vn_book_find(book: &[u8], key: u32, out: &mut [u32]) -> i64
+    ensures { λ r. ⌜ Fills (asNumbers placeNumbers (findOutcome (now (book .entry)) key)) r (now (out .entry)) (now (out .exit)) ⌝ }
+{
+    match book::find(book, key) {
+        FindAnswer::Refused(question) => codes::refused(question),
+        FindAnswer::Found(place) => {
+            if out.len() < 2 {
+                return codes::refused(Refusal::Room);
+            }
+            out[0] = place.offset;
+            out[1] = place.length;
+            2
+        }
+    }
+}
+
+// What the key table program prints for a line (10).
+#[no_mangle]
+pub extern "C" fn vn_key_table(line: &[u8], out: &mut [u8]) -> i64
+    ensures { λ r. ⌜ Fills (given (output (now (line .entry)))) r (now (out .entry)) (now (out .exit)) ⌝ }
+{
+    codes::count(table::respond(line, out))
+}

@@ -1,0 +1,175 @@
+/* Vetchnoon: keyboard layouts of generator chains, as a C library.
+ *
+ * Link libexports.a. Nothing is allocated, kept between calls or shared: every call may be made from any thread.
+ *
+ * What a call returns
+ *   0 or more: the answer, or how many elements were written to the front of the slice that was lent.
+ *   below 0:   minus the number of the first question that was answered with no. No slice was written to.
+ * Each call asks the questions that stand at it, in that order:
+ *   VN_CHAIN         1  Is the chain code 0 to 5?
+ *   VN_PERIOD        2  Is the octave, the period or the denominator at least 1?
+ *   VN_GENERATOR     3  Does the chain's generator come out whole and not negative, every subtraction included, and for
+ *                       code 3 is 2 x octave at most 65,535?
+ *   VN_PATTERN       4  Does the walk of step patterns meet one with as many steps as the chain has letters?
+ *   VN_SYMBOLS       5  Is a free format's symbol count at least 1?
+ *   VN_ORIGIN        6  Is its origin below that count?
+ *   VN_SIZE          7  Are both products and the size of a given step pattern at most 65,535?
+ *   VN_COPRIME_SIZE  8  Is the size after coprime at most 65,535?
+ *   VN_LAMP_LAYER    9  Is every sharp and flat layer number of the lamp strip below 100?
+ *   VN_ROOM         10  Does the output slice hold the whole output?
+ *   VN_BOOK_PAIRS   11  Does a book hold its count, at least 1, and that many pairs?
+ *   VN_BOOK_COVER   12  Do the pairs cover the text?
+ *   VN_BOOK_KEY     13  Is the key below the book's count?
+ *   VN_LINE         14  Is the key table's line well formed? (The table prints this number; no call returns it.)
+ *   VN_SPELLING     15  Is it a spelling: a letter of the chain, sharps or flats but not both, stars below the cycles?
+ * A refusal is compared as in vn_layout(chain, octave, tritave, out, len) == -VN_PATTERN.
+ *
+ * What a caller owes
+ *   A slice is a pointer to its first element and the number of its elements. All of them are readable, and those of an
+ *   output slice writable. The pointer is aligned and not null, even where the number is 0. An output slice overlaps no
+ *   other slice of the call. Elements past the output keep their contents.
+ */
+#ifndef VETCHNOON_H
+#define VETCHNOON_H
+
+#include <stddef.h>
+#include <stdint.h>
+
+#ifdef __cplusplus
+extern "C" {
+#endif
+
+#define VN_CHAIN 1
+#define VN_PERIOD 2
+#define VN_GENERATOR 3
+#define VN_PATTERN 4
+#define VN_SYMBOLS 5
+#define VN_ORIGIN 6
+#define VN_SIZE 7
+#define VN_COPRIME_SIZE 8
+#define VN_LAMP_LAYER 9
+#define VN_ROOM 10
+#define VN_BOOK_PAIRS 11
+#define VN_BOOK_COVER 12
+#define VN_BOOK_KEY 13
+#define VN_LINE 14
+#define VN_SPELLING 15
+
+/* ---- numbers */
+
+/* The greatest common divisor; 0 and 0 give 1. Never refused. */
+int64_t vn_gcd(uint16_t x, uint16_t y);
+
+/* The remainder of numer on division by denom, never negative: of -4 by 12 it is 8. Asks 2. */
+int64_t vn_rem(int32_t numer, uint16_t denom);
+
+/* ---- pergens: a period and a generator, which may exceed the period */
+
+/* Writes 3 numbers: cycles, reduced period, inverse. Asks 2, 10. */
+int64_t vn_pergen(uint16_t period, uint16_t generator, uint16_t *out, size_t len);
+
+/* Writes 3 numbers of a key: its degree, 1 if a cycle is present and else 0, the cycle (0 where it is absent).
+ * Asks 2, 10. */
+int64_t vn_generation(uint16_t period, uint16_t generator, uint16_t key, uint16_t *out, size_t len);
+
+/* Writes 4 numbers of a key in a free format: sharp index, sharp count, flat index, flat count. Asks 2, 5, 6, 10. */
+int64_t vn_accidentals(uint16_t period, uint16_t generator, uint16_t symbols, uint16_t origin, uint16_t key,
+                       uint16_t *out, size_t len);
+
+/* ---- step patterns: primary and secondary count, primary and secondary step */
+
+/* Writes the 4 numbers of the child; 0 elements where there is none. Asks 7, 10. */
+int64_t vn_mos_child(uint16_t primary_count, uint16_t secondary_count, uint16_t primary_step, uint16_t secondary_step,
+                     uint16_t *out, size_t len);
+
+/* Writes the 4 numbers of the parent; 0 elements where there is none. Asks 7, 10. */
+int64_t vn_mos_parent(uint16_t primary_count, uint16_t secondary_count, uint16_t primary_step, uint16_t secondary_step,
+                      uint16_t *out, size_t len);
+
+/* Writes the 4 numbers of the pattern that the walk of parents ends with. Asks 7, 10. */
+int64_t vn_mos_genesis(uint16_t primary_count, uint16_t secondary_count, uint16_t primary_step, uint16_t secondary_step,
+                       uint16_t *out, size_t len);
+
+/* Writes the 4 numbers of the pattern after coprime. Asks 7, 8, 10. */
+int64_t vn_mos_coprime(uint16_t primary_count, uint16_t secondary_count, uint16_t primary_step, uint16_t secondary_step,
+                       uint16_t *out, size_t len);
+
+/* Writes the 4 numbers of the first pattern with so many steps on the walk of children from the genesis of period and
+ * generator; 0 elements where there is none. Asks 2, 10. */
+int64_t vn_mos_find(uint16_t period, uint16_t generator, uint16_t steps, uint16_t *out, size_t len);
+
+/* Writes the whole walk of children, the given pattern first, 4 numbers a pattern; it has at most 65,535 patterns.
+ * Asks 7, 10. */
+int64_t vn_mos_children(uint16_t primary_count, uint16_t secondary_count, uint16_t primary_step, uint16_t secondary_step,
+                        uint16_t *out, size_t len);
+
+/* Writes the whole walk of parents, the given pattern first, 4 numbers a pattern; it has at most 65,535 patterns.
+ * Asks 7, 10. */
+int64_t vn_mos_parents(uint16_t primary_count, uint16_t secondary_count, uint16_t primary_step, uint16_t secondary_step,
+                       uint16_t *out, size_t len);
+
+/* Writes each layer's number, from 0, as often as the layer's size: as many numbers as the reduced size. Asks 7, 10. */
+int64_t vn_mos_layers(uint16_t primary_count, uint16_t secondary_count, uint16_t primary_step, uint16_t secondary_step,
+                      uint16_t *out, size_t len);
+
+/* Writes 1 number, the key p primary and s secondary steps from the origin. Asks 7, 10. */
+int64_t vn_mos_key(uint16_t primary_count, uint16_t secondary_count, uint16_t primary_step, uint16_t secondary_step,
+                   int16_t p, int16_t s, int64_t *out, size_t len);
+
+/* ---- layouts: a chain code from 0 to 5, and the step counts of octave and tritave. Each call asks 1, 2, 3, 4 first. */
+
+/* Writes 8 numbers: generator, cycles, reduced period, inverse, and the pattern's counts and steps, primary first.
+ * Asks 1, 2, 3, 4, 10. */
+int64_t vn_layout(uint16_t chain, uint16_t octave, uint16_t tritave, uint16_t *out, size_t len);
+
+/* Writes the scale's name in ASCII, at most 12 bytes, without a 0 at the end. Asks 1, 2, 3, 4, 10. */
+int64_t vn_scale_name(uint16_t chain, uint16_t octave, uint16_t tritave, uint8_t *out, size_t len);
+
+/* How many bytes a key's name has: at most 39,325. Asks 1, 2, 3, 4. */
+int64_t vn_note_name_len(uint16_t chain, uint16_t octave, uint16_t tritave, uint16_t key);
+
+/* Writes a key's name in UTF-8, without a 0 at the end. Asks 1, 2, 3, 4, 10. */
+int64_t vn_note_name(uint16_t chain, uint16_t octave, uint16_t tritave, uint16_t key, uint8_t *out, size_t len);
+
+/* Writes 4 numbers of a key: sharp index, sharp count, flat index, flat count; an index is counted along the chain's
+ * letters, from 0. Asks 1, 2, 3, 4, 10. */
+int64_t vn_layout_accidentals(uint16_t chain, uint16_t octave, uint16_t tritave, uint16_t key, uint16_t *out,
+                              size_t len);
+
+/* The key of the octave that a spelling sounds: a letter, by its index along the chain from 0, a number of sharps or of
+ * flats (the other is 0; both may be), and stars below the cycles. Asks 1, 2, 3, 4, 15. */
+int64_t vn_sounded_key(uint16_t chain, uint16_t octave, uint16_t tritave, uint16_t letter, uint32_t sharps,
+                       uint32_t flats, uint16_t stars);
+
+/* How many layer numbers there are: T. Asks 1, 2, 3, 4. */
+int64_t vn_layer_count(uint16_t chain, uint16_t octave, uint16_t tritave);
+
+/* Writes the layer number of each key of the octave, of two octaves at sharpness 0. Asks 1, 2, 3, 4, 10. */
+int64_t vn_layout_layers(uint16_t chain, uint16_t octave, uint16_t tritave, uint16_t *out, size_t len);
+
+/* Writes the lamp code of each key of the octave: home 0, natural 1, sharp k 2 + k, flat k 102 + k, enharmonic 255.
+ * Asks 1, 2, 3, 4, 9, 10. */
+int64_t vn_lamp_strip(uint16_t chain, uint16_t octave, uint16_t tritave, uint8_t *out, size_t len);
+
+/* ---- books of key names, and key tables */
+
+/* How many bytes the book of a layout's key names has. Asks 1, 2, 3, 4. */
+int64_t vn_book_len(uint16_t chain, uint16_t octave, uint16_t tritave);
+
+/* Writes the book: a count, an offset and a length for each key of the octave (4 bytes each, least first), then the
+ * names. Asks 1, 2, 3, 4, 10. */
+int64_t vn_book(uint16_t chain, uint16_t octave, uint16_t tritave, uint8_t *out, size_t len);
+
+/* Writes 2 numbers: at which offset of the book, and in how many bytes, a key's name stands. Any bytes are answered.
+ * Asks 11, 12, 13, 10. */
+int64_t vn_book_find(const uint8_t *book, size_t book_len, uint32_t key, uint32_t *out, size_t len);
+
+/* Writes what the key table program prints for a line of input, such as "1 12 19\n": a line for each key, or
+ * "refused", a space, the number and a line feed. The longest output has 110,841 bytes. Asks 10 alone. */
+int64_t vn_key_table(const uint8_t *line, size_t line_len, uint8_t *out, size_t len);
+
+#ifdef __cplusplus
+}
+#endif
+
+#endif
