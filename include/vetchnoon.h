@@ -98,13 +98,13 @@ int64_t vn_mos_coprime(uint16_t primary_count, uint16_t secondary_count, uint16_
  * generator; 0 elements where there is none. Asks 2, 10. */
 int64_t vn_mos_find(uint16_t period, uint16_t generator, uint16_t steps, uint16_t *out, size_t len);
 
-/* Writes the whole walk of children, the given pattern first, 4 numbers a pattern; it has at most 65,535 patterns.
- * Asks 7, 10. */
+/* Writes the whole walk of children, the given pattern first, 4 numbers a pattern. There are at most
+ * primary_step + secondary_step + 1 patterns. Asks 7, 10. */
 int64_t vn_mos_children(uint16_t primary_count, uint16_t secondary_count, uint16_t primary_step, uint16_t secondary_step,
                         uint16_t *out, size_t len);
 
-/* Writes the whole walk of parents, the given pattern first, 4 numbers a pattern; it has at most 65,535 patterns.
- * Asks 7, 10. */
+/* Writes the whole walk of parents, the given pattern first, 4 numbers a pattern. There are at most
+ * primary_count + secondary_count + 1 patterns. Asks 7, 10. */
 int64_t vn_mos_parents(uint16_t primary_count, uint16_t secondary_count, uint16_t primary_step, uint16_t secondary_step,
                        uint16_t *out, size_t len);
 
@@ -161,11 +161,11 @@ int64_t vn_book_len(uint16_t chain, uint16_t octave, uint16_t tritave);
 int64_t vn_book(uint16_t chain, uint16_t octave, uint16_t tritave, uint8_t *out, size_t len);
 
 /* Writes 2 numbers: at which offset of the book, and in how many bytes, a key's name stands. Any bytes are answered.
- * Asks 11, 12, 13, 10. */
+ * Asks 10, 11, 12, 13. */
 int64_t vn_book_find(const uint8_t *book, size_t book_len, uint32_t key, uint32_t *out, size_t len);
 
 /* Writes what the key table program prints for a line of input, such as "1 12 19\n": a line for each key, or
- * "refused", a space, the number and a line feed. The longest output has 110,841 bytes. Asks 10 alone. */
+ * "refused", a space, the number and a line feed. 403,596 bytes are always enough. Asks 10 alone. */
 int64_t vn_key_table(const uint8_t *line, size_t line_len, uint8_t *out, size_t len);
 
 #ifdef __cplusplus

@@ -5,7 +5,8 @@ use mathlib.Core.List.{List, [], _∷_, _++_}
 use lib.Dec.{eqb, ltb, leb}
 use Rattle.answer.specs.Outcome.{Outcome, given, ask, andThen}
 use Rattle.book.specs.declared.Place.{Place}
-use Rattle.codes.specs.Numbers.{walkNumbers}
+use Rattle.book.specs.Books.{findOutcome}
+use Rattle.codes.specs.Numbers.{asNumbers, walkNumbers}
 use Rattle.layout.specs.declared.IsomorphicLayout.{IsomorphicLayout}
 use Rattle.layout.specs.Layouts.{Layout, layoutOutcome, lettersOf}
 use Rattle.layout.specs.Names.{keyOf}
@@ -112,3 +113,7 @@ soundedOutcome code octave tritave letter sharps flats stars =
 -- "an offset and a length"
 abbrev pub placeNumbers : Place → List ℕ
 placeNumbers place = place .offset ∷ place .length ∷ []
+
+-- Question 10, of a slice with `room` elements: two numbers are written, whatever the book. Then 11 to 13, and the place of the name.
+abbrev pub pairOutput : ℕ → List ℕ → ℕ → Outcome (List ℕ)
+pairOutput room book key = ask 10 (leb 2 room) (asNumbers placeNumbers (findOutcome book key))

@@ -3,14 +3,13 @@ use answer::Refusal;
 use book::FindAnswer;
 use layout::IsomorphicLayout;
 ghost use mathlib.Core.Path.{_≡_};
+ghost use lib.ListN.{length};
 ghost use Rattle.answer.specs.Lent.{counted};
 ghost use Rattle.answer.specs.Outcome.{given};
-ghost use Rattle.book.specs.Books.{findOutcome};
 ghost use Rattle.layout_book.specs.LayoutBooks.{getBook};
 ghost use Rattle.table.specs.Tables.{output};
 ghost use Rattle.codes.specs.Codes.{codeOf, Fills};
-ghost use Rattle.codes.specs.Numbers.{asNumbers};
-ghost use Rattle.exports.specs.Written.{layout, placeNumbers};
+ghost use Rattle.exports.specs.Written.{layout, pairOutput};
 
 // How many bytes a layout's book has (1, 2, 3, 4).
 #[no_mangle]
@@ -38,17 +37,17 @@ pub extern "C" fn vn_book(chain: u16, octave: u16, tritave: u16, out: &mut [u8])
     codes::count(layout_book::write_book(layout, out))
 }
 
-// Offset and length of a key's name in a book (11, 12, 13, 10).
+// Offset and length of a key's name in a book (10, 11, 12, 13).
 #[no_mangle]
 pub extern "C" fn vn_book_find(book: &[u8], key: u32, out: &mut [u32]) -> i64
-    ensures { λ r. ⌜ Fills (asNumbers placeNumbers (findOutcome (now (book .entry)) key)) r (now (out .entry)) (now (out .exit)) ⌝ }
+    ensures { λ r. ⌜ Fills (pairOutput (length (now (out .entry))) (now (book .entry)) key) r (now (out .entry)) (now (out .exit)) ⌝ }
 {
+    if out.len() < 2 {
+        return codes::refused(Refusal::Room);
+    }
     match book::find(book, key) {
         FindAnswer::Refused(question) => codes::refused(question),
         FindAnswer::Found(place) => {
-            if out.len() < 2 {
-                return codes::refused(Refusal::Room);
-            }
             out[0] = place.offset;
             out[1] = place.length;
             2
