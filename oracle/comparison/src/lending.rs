@@ -52,30 +52,56 @@ const MORE: usize = 3;
 const SLICE_HOLDS_OUTPUT: u8 = 10;
 
 /// What the library gives into a slice of `room` elements, or what it did that no
-/// call may do.
+/// call may do. Question 10 comes last: into a slice that is one short the library
+/// refuses an output, and a refusal stays what it was.
 pub fn lent<T: Element>(
     room: usize,
     call: impl Fn(&mut [T]) -> Result<usize, Refused>,
 ) -> Result<Outcome<Vec<T>>, String> {
-    let exact = filled(room, Round::Exact, &call)?;
-    let longer = filled(room + MORE, Round::Longer, &call)?;
+    let exact = exact_and_longer(room, &call)?;
+    if room > 0 {
+        let expected = exact.as_ref().err().copied().unwrap_or(SLICE_HOLDS_OUTPUT);
+        one_short(room, expected, &call)?;
+    }
+    Ok(exact)
+}
+
+/// The same where the output has `room` elements whatever is asked, so that
+/// question 10 comes first.
+pub fn lent_after_room<T: Element>(
+    room: usize,
+    call: impl Fn(&mut [T]) -> Result<usize, Refused>,
+) -> Result<Outcome<Vec<T>>, String> {
+    let exact = exact_and_longer(room, &call)?;
+    one_short(room, SLICE_HOLDS_OUTPUT, &call)?;
+    Ok(exact)
+}
+
+fn exact_and_longer<T: Element>(
+    room: usize,
+    call: &impl Fn(&mut [T]) -> Result<usize, Refused>,
+) -> Result<Outcome<Vec<T>>, String> {
+    let exact = filled(room, Round::Exact, call)?;
+    let longer = filled(room + MORE, Round::Longer, call)?;
     if longer != exact {
         let (exact, longer) = (shown(&exact), shown(&longer));
         return Err(format!(
             "into {room} elements {exact}, into {MORE} more {longer}"
         ));
     }
-    if room > 0 {
-        let short = filled(room - 1, Round::Short, &call)?;
-        let expected = match exact {
-            Ok(_) => Err(SLICE_HOLDS_OUTPUT),
-            Err(number) => Err(number),
-        };
-        if short != expected {
-            return Err(format!("into {} elements {}", room - 1, shown(&short)));
-        }
-    }
     Ok(exact)
+}
+
+fn one_short<T: Element>(
+    room: usize,
+    expected: u8,
+    call: &impl Fn(&mut [T]) -> Result<usize, Refused>,
+) -> Result<(), String> {
+    let short = filled(room - 1, Round::Short, call)?;
+    if short != Err(expected) {
+        return Err(format!("into {} elements {}", room - 1, shown(&short)));
+    }
+    Ok(())
 }
 
 /// One call with a slice of `length` elements.

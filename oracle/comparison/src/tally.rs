@@ -130,7 +130,36 @@ impl Tally {
         call: impl Fn(&mut [T]) -> Result<usize, Refused>,
     ) {
         let room = reading.as_ref().map_or(0, Vec::len);
-        match lending::lent(room, call) {
+        self.compare_lent(
+            question,
+            reading,
+            original,
+            class,
+            lending::lent(room, call),
+        );
+    }
+
+    /// Compares a call that writes `room` elements or none, and asks for room first.
+    pub fn compare_filling_after_room<T: Element>(
+        &mut self,
+        question: Question,
+        room: usize,
+        reading: Outcome<Vec<T>>,
+        call: impl Fn(&mut [T]) -> Result<usize, Refused>,
+    ) {
+        let library = lending::lent_after_room(room, call);
+        self.compare_lent(question, reading, Original::Silent, None, library);
+    }
+
+    fn compare_lent<T: Element>(
+        &mut self,
+        question: Question,
+        reading: Outcome<Vec<T>>,
+        original: Original<Vec<T>>,
+        class: Option<Class>,
+        library: Result<Outcome<Vec<T>>, String>,
+    ) {
+        match library {
             Ok(library) => {
                 let answers = Answers {
                     library,

@@ -6,9 +6,11 @@ use vetchnoon::Refused;
 use crate::question::Call;
 use crate::question::Question;
 use crate::reading::books;
-use crate::tally::Original;
 use crate::tally::Tally;
 use crate::tally::outcome;
+
+/// A lookup writes an offset and a length.
+const PAIR: usize = 2;
 
 /// Looks a key up, and compares the part of the book that the Rust package makes
 /// of offset and length; a part that is none would make it panic.
@@ -30,7 +32,7 @@ pub fn find(tally: &mut Tally, book: &[u8], key: u32) {
     }
     let reading = reading.map(|pair| pair.to_vec());
     let call = |out: &mut [u32]| find_into(book, key, out);
-    tally.compare_filling(question, reading, Original::Silent, None, call);
+    tally.compare_filling_after_room(question, PAIR, reading, call);
 }
 
 /// Every key of a book, some beyond, and the largest number.
