@@ -17,7 +17,7 @@ use layout::IsomorphicLayout;
 use layout::LayoutAnswer;
 use layout_layers::Layer;
 
-pub fn answer(kind: usize, n: [u16; 6]) {
+pub(crate) fn answer(kind: usize, n: [u16; 6]) {
     if kind == names::CHAIN {
         put_chain(n[0]);
         return;

@@ -5,67 +5,67 @@ ghost use Prim.Native.Nat.{_<_};
 use crate::words;
 
 // On whole numbers.
-pub const GCD: usize = 0;
+pub(crate) const GCD: usize = 0;
 
-pub const SIMPLIFY: usize = 1;
+pub(crate) const SIMPLIFY: usize = 1;
 
-pub const ODD: usize = 2;
+pub(crate) const ODD: usize = 2;
 // On free pergens.
-pub const PERGEN: usize = 3;
+pub(crate) const PERGEN: usize = 3;
 
-pub const GENERATION: usize = 4;
+pub(crate) const GENERATION: usize = 4;
 
-pub const ACCIDENTALS: usize = 5;
+pub(crate) const ACCIDENTALS: usize = 5;
 // On patterns.
-pub const NEW_GENESIS: usize = 6;
+pub(crate) const NEW_GENESIS: usize = 6;
 
-pub const NEW_COLLAPSED: usize = 7;
+pub(crate) const NEW_COLLAPSED: usize = 7;
 
-pub const PATTERN: usize = 8;
+pub(crate) const PATTERN: usize = 8;
 
-pub const CHILD: usize = 9;
+pub(crate) const CHILD: usize = 9;
 
-pub const PARENT: usize = 10;
+pub(crate) const PARENT: usize = 10;
 
-pub const GENESIS: usize = 11;
+pub(crate) const GENESIS: usize = 11;
 
-pub const DUAL: usize = 12;
+pub(crate) const DUAL: usize = 12;
 
-pub const MIRROR: usize = 13;
+pub(crate) const MIRROR: usize = 13;
 
-pub const COPRIME: usize = 14;
+pub(crate) const COPRIME: usize = 14;
 
-pub const CHILDREN: usize = 15;
+pub(crate) const CHILDREN: usize = 15;
 
-pub const PARENTS: usize = 16;
+pub(crate) const PARENTS: usize = 16;
 
-pub const LAYER_SIZES: usize = 17;
+pub(crate) const LAYER_SIZES: usize = 17;
 
-pub const LAYERS: usize = 18;
+pub(crate) const LAYERS: usize = 18;
 // On layouts.
-pub const CHAIN: usize = 19;
+pub(crate) const CHAIN: usize = 19;
 
-pub const LAYOUT: usize = 20;
+pub(crate) const LAYOUT: usize = 20;
 
-pub const NAMES: usize = 21;
+pub(crate) const NAMES: usize = 21;
 
-pub const KEY_LAYERS: usize = 22;
+pub(crate) const KEY_LAYERS: usize = 22;
 
-pub const LAMPS: usize = 23;
+pub(crate) const LAMPS: usize = 23;
 
-pub const SPELLING: usize = 24;
+pub(crate) const SPELLING: usize = 24;
 
-pub const NAME: usize = 25;
+pub(crate) const NAME: usize = 25;
 
-pub const LAST_PLAIN: usize = 25;
+pub(crate) const LAST_PLAIN: usize = 25;
 // With other numbers.
-pub const GET_KEY: usize = 26;
+pub(crate) const GET_KEY: usize = 26;
 
-pub const DIVIDE16: usize = 27;
+pub(crate) const DIVIDE16: usize = 27;
 
-pub const DIVIDE32: usize = 28;
+pub(crate) const DIVIDE32: usize = 28;
 
-pub const TABLE: usize = 29;
+pub(crate) const TABLE: usize = 29;
 
 // How many 16-bit numbers come behind each name up to `LAST_PLAIN`.
 const COUNTS: [usize; 26] = [
@@ -97,14 +97,14 @@ const COUNTS: [usize; 26] = [
     4,
 ];
 
-pub fn count_of(kind: usize) -> usize
+pub(crate) fn count_of(kind: usize) -> usize
     requires { ⌜ kind < 26 ⌝ }
 {
     COUNTS[kind]
 }
 
 // The place of the name that a line has up to `end`, or a place behind the last.
-pub fn kind_of(line: &[u8], end: usize) -> usize {
+pub(crate) fn kind_of(line: &[u8], end: usize) -> usize {
     let names =
         b"gcd simplify odd pergen generation accidentals new_genesis new_collapsed pattern child parent genesis dual mirror coprime children parents layer_sizes layers chain layout names key_layers lamps spelling name get_key divide16 divide32 table ";
     place_in(names, line, end)

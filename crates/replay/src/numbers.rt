@@ -15,7 +15,7 @@ use math::DividedU16Answer;
 use math::DividedU32Answer;
 use math::Fraction;
 
-pub fn answer(kind: usize, n: [u16; 6]) {
+pub(crate) fn answer(kind: usize, n: [u16; 6]) {
     if kind == names::SIMPLIFY {
         put_fraction(math::simplify_u16(n[0], n[1]));
         return;
@@ -34,7 +34,7 @@ fn put_fraction(fraction: Fraction) {
 }
 
 // Whether the line asks for a division; if so, it is answered.
-pub fn divide16(line: &[u8], at: usize) -> bool {
+pub(crate) fn divide16(line: &[u8], at: usize) -> bool {
     let Long::Read(numer, next) = words::long_after(line, at) else {
         return false;
     };
@@ -58,7 +58,7 @@ fn put_divided16(answer: DividedU16Answer) {
 }
 
 // Whether the line asks for a division; if so, it is answered.
-pub fn divide32(line: &[u8], at: usize) -> bool {
+pub(crate) fn divide32(line: &[u8], at: usize) -> bool {
     let Long::Read(numer, next) = words::long_after(line, at) else {
         return false;
     };

@@ -21,7 +21,7 @@ use mos::SharpnessAnswer;
 use mos::TotalAnswer;
 use mos::WalkAnswer;
 
-pub fn answer(kind: usize, n: [u16; 6]) {
+pub(crate) fn answer(kind: usize, n: [u16; 6]) {
     if kind == names::NEW_GENESIS {
         put_made(Mos::new_genesis(n[0], n[1]));
         return;
@@ -84,7 +84,7 @@ fn put_pattern(m: Mos) {
 }
 
 // The rest of a line: a pattern, or a refusal.
-pub fn put_made(answer: MosAnswer) {
+pub(crate) fn put_made(answer: MosAnswer) {
     match answer {
         MosAnswer::Given(m) => put_pattern(m),
         MosAnswer::Refused(q) => print::refused(q),
@@ -151,7 +151,7 @@ fn write_list(kind: usize, m: Mos, out: &mut [u16]) -> CountAnswer {
 }
 
 // Whether the line asks for a key; if so, it is answered.
-pub fn get_key(line: &[u8], at: usize) -> bool {
+pub(crate) fn get_key(line: &[u8], at: usize) -> bool {
     let asked = words::numbers_after(line, at, 4);
     if asked.read != 4 {
         return false;

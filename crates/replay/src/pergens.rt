@@ -16,7 +16,7 @@ use pergen::GenerationAnswer;
 use pergen::PerGen;
 use pergen::PerGenAnswer;
 
-pub fn answer(kind: usize, n: [u16; 6]) {
+pub(crate) fn answer(kind: usize, n: [u16; 6]) {
     if kind == names::PERGEN {
         put_pergen(PerGen::new(n[0], n[1]));
         print::end_line();
@@ -38,7 +38,7 @@ pub fn answer(kind: usize, n: [u16; 6]) {
 }
 
 // Period, generator, cycles, reduced period and inverse, or a refusal, within a line.
-pub fn put_pergen(answer: PerGenAnswer) {
+pub(crate) fn put_pergen(answer: PerGenAnswer) {
     match answer {
         PerGenAnswer::Refused(q) => print::refusal(q),
         PerGenAnswer::Given(pergen) => put_numbers(pergen),
@@ -76,7 +76,7 @@ fn put_cycle(cycle: Cycle) {
 }
 
 // A key's two spellings, or a refusal, alone on the line.
-pub fn put_spelled(answer: AccidentalsAnswer) {
+pub(crate) fn put_spelled(answer: AccidentalsAnswer) {
     match answer {
         AccidentalsAnswer::Refused(q) => print::refused(q),
         AccidentalsAnswer::Given(accidentals) => put_accidentals(accidentals),

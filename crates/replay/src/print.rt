@@ -6,40 +6,40 @@ use libc::STDOUT_FILENO;
 ghost use mathlib.Core.Path.{_≡_};
 ghost use lib.ListN.{length};
 
-pub fn text(bytes: &[u8]) {
+pub(crate) fn text(bytes: &[u8]) {
     io::write_all(STDOUT_FILENO, bytes);
 }
 
-pub fn space() {
+pub(crate) fn space() {
     text(b" ");
 }
 
-pub fn end_line() {
+pub(crate) fn end_line() {
     text(b"\n");
 }
 
-pub fn number(n: u64) {
+pub(crate) fn number(n: u64) {
     io::print_decimal(STDOUT_FILENO, n);
 }
 
-pub fn short(n: u16) {
+pub(crate) fn short(n: u16) {
     number(n as u64);
 }
 
 // The last number of a line.
-pub fn line(n: u16) {
+pub(crate) fn line(n: u16) {
     short(n);
     end_line();
 }
 
 // A number behind another word of the line.
-pub fn next_number(n: u64) {
+pub(crate) fn next_number(n: u64) {
     space();
     number(n);
 }
 
 // A number that may be below 0: a minus, and then the number 1 above its mirror image.
-pub fn signed(n: i64) {
+pub(crate) fn signed(n: i64) {
     if n < 0 {
         text(b"-");
         let mirror = (-1 - n) as u64;
@@ -49,24 +49,24 @@ pub fn signed(n: i64) {
     number(n as u64);
 }
 
-pub fn signed32(n: i32) {
+pub(crate) fn signed32(n: i32) {
     signed(n as i64);
 }
 
 // A refusal within a line.
-pub fn refusal(q: Refusal) {
+pub(crate) fn refusal(q: Refusal) {
     text(b"refused ");
     number(q.number() as u64);
 }
 
 // A refusal alone on its line.
-pub fn refused(q: Refusal) {
+pub(crate) fn refused(q: Refusal) {
     refusal(q);
     end_line();
 }
 
 // An answer behind another word of the line.
-pub fn next_answer(answer: NumberAnswer) {
+pub(crate) fn next_answer(answer: NumberAnswer) {
     space();
     match answer {
         NumberAnswer::Given(n) => number(n as u64),
@@ -75,7 +75,7 @@ pub fn next_answer(answer: NumberAnswer) {
 }
 
 // As many bytes of a slice as were written to its front, or the refusal to write them. The slice holds what was written.
-pub fn written(bytes: &[u8], answer: CountAnswer) {
+pub(crate) fn written(bytes: &[u8], answer: CountAnswer) {
     match answer {
         CountAnswer::Given(count) => {
             if count <= bytes.len() {
@@ -87,14 +87,14 @@ pub fn written(bytes: &[u8], answer: CountAnswer) {
 }
 
 // Room for a list of 4,096 numbers; a longer one is refused with 10. The `ensures` is what lending the array needs.
-pub fn list_room() -> [u16; 4096]
+pub(crate) fn list_room() -> [u16; 4096]
     ensures { λ r. ⌜ 4096 ≡ length r ⌝ }
 {
     [0; 4096]
 }
 
 // As many numbers of a slice as were written to its front, `-` where that is none, or the refusal to write them.
-pub fn list(numbers: &[u16], answer: CountAnswer) {
+pub(crate) fn list(numbers: &[u16], answer: CountAnswer) {
     match answer {
         CountAnswer::Given(count) => front(numbers, count),
         CountAnswer::Refused(q) => refusal(q),

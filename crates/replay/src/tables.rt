@@ -4,7 +4,7 @@
 use crate::print;
 
 // Whether the line asks this; if so, it is answered.
-pub fn answer(line: &[u8], at: usize) -> bool {
+pub(crate) fn answer(line: &[u8], at: usize) -> bool {
     if line.len() <= at {
         return false;
     }

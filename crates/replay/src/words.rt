@@ -3,25 +3,25 @@ ghost use Prim.Native.Nat.{_≤_};
 ghost use lib.ListN.{length};
 
 // A number of 16 bits and the place behind it, or no such number.
-pub enum Natural {
+pub(crate) enum Natural {
     Read(u16, usize),
     Nothing,
 }
 
 // A number of 32 bits and the place behind it, or no such number.
-pub enum Wide {
+pub(crate) enum Wide {
     Read(u32, usize),
     Nothing,
 }
 
 // A number of 16 signed bits and the place behind it, or no such number.
-pub enum Short {
+pub(crate) enum Short {
     Read(i16, usize),
     Nothing,
 }
 
 // A number of 32 signed bits and the place behind it, or no such number.
-pub enum Long {
+pub(crate) enum Long {
     Read(i32, usize),
     Nothing,
 }
@@ -41,15 +41,15 @@ enum Signed {
 
 // The numbers behind a question's name: how many were read, into the first places of `values`; the place behind them; and
 // whether the line holds as many as were wanted and no more.
-pub struct Numbers {
-    pub values: [u16; 6],
-    pub read: usize,
-    pub end: usize,
-    pub whole: bool,
+pub(crate) struct Numbers {
+    pub(crate) values: [u16; 6],
+    pub(crate) read: usize,
+    pub(crate) end: usize,
+    pub(crate) whole: bool,
 }
 
 // Whether there is a byte at a place, and it is the one asked for.
-pub fn is_at(line: &[u8], at: usize, byte: u8) -> bool {
+pub(crate) fn is_at(line: &[u8], at: usize, byte: u8) -> bool {
     if line.len() <= at {
         return false;
     }
@@ -57,7 +57,7 @@ pub fn is_at(line: &[u8], at: usize, byte: u8) -> bool {
 }
 
 // Where the first word ends: at a space, at the line feed, or at the end.
-pub fn word_end(line: &[u8]) -> usize
+pub(crate) fn word_end(line: &[u8]) -> usize
     ensures { λ r. ⌜ r ≤ length (now (line .entry)) ⌝ }
 {
     let mut at: usize = 0;
@@ -104,7 +104,7 @@ fn digits_read(value: u64, from: usize, at: usize) -> Digits {
 }
 
 // The number of 16 bits behind a space at a place.
-pub fn natural_after(line: &[u8], at: usize) -> Natural {
+pub(crate) fn natural_after(line: &[u8], at: usize) -> Natural {
     if line.len() <= at {
         return Natural::Nothing;
     }
@@ -123,7 +123,7 @@ pub fn natural_after(line: &[u8], at: usize) -> Natural {
 }
 
 // The number of 32 bits behind a space at a place.
-pub fn wide_after(line: &[u8], at: usize) -> Wide {
+pub(crate) fn wide_after(line: &[u8], at: usize) -> Wide {
     if line.len() <= at {
         return Wide::Nothing;
     }
@@ -176,7 +176,7 @@ fn below_zero(digits: Digits) -> Signed {
 }
 
 // The number of 16 signed bits behind a space at a place.
-pub fn short_after(line: &[u8], at: usize) -> Short {
+pub(crate) fn short_after(line: &[u8], at: usize) -> Short {
     match signed_after(line, at) {
         Signed::Nothing => Short::Nothing,
         Signed::Positive(value, next) => {
@@ -196,7 +196,7 @@ pub fn short_after(line: &[u8], at: usize) -> Short {
 }
 
 // The number of 32 signed bits behind a space at a place.
-pub fn long_after(line: &[u8], at: usize) -> Long {
+pub(crate) fn long_after(line: &[u8], at: usize) -> Long {
     match signed_after(line, at) {
         Signed::Nothing => Long::Nothing,
         Signed::Positive(value, next) => {
@@ -216,7 +216,7 @@ pub fn long_after(line: &[u8], at: usize) -> Long {
 }
 
 // The numbers of a line behind its name, `count` of them and at most 6.
-pub fn numbers_after(line: &[u8], from: usize, count: usize) -> Numbers {
+pub(crate) fn numbers_after(line: &[u8], from: usize, count: usize) -> Numbers {
     let mut values: [u16; 6] = [0; 6];
     let mut at = from;
     let mut i: usize = 0;
