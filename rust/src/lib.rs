@@ -18,7 +18,7 @@ use std::fmt;
 
 mod c;
 
-/// The number of the first question that has the answer no.
+/// The number of the first question that has the answer no; 15 where what was given is no spelling.
 #[derive(Clone, Copy, Debug, PartialEq, Eq, PartialOrd, Ord, Hash)]
 pub struct Refused(pub u8);
 
@@ -127,7 +127,7 @@ pub fn note_name_len(chain: u16, octave: u16, tritave: u16, key: u16) -> Result<
     value(unsafe { c::vn_note_name_len(chain, octave, tritave, key) })
 }
 
-/// The key of the octave that a spelling sounds (1, 2, 3, 4).
+/// The key of the octave that a spelling sounds (1, 2, 3, 4, and 15 where it is no spelling).
 pub fn sounded_key(
     chain: u16,
     octave: u16,
