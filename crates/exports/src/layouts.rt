@@ -62,7 +62,7 @@ pub extern "C" fn vn_scale_name(chain: u16, octave: u16, tritave: u16, out: &mut
         octave,
         tritave,
     };
-    codes::count(layout.get_scale_name(out))
+    codes::count(scale_names::get_scale_name(layout, out))
 }
 
 // How many bytes a key's name has (1, 2, 3, 4).
@@ -170,7 +170,7 @@ fn sounded(row: ChainRow, octave: u16, generator: u16, spelling: Spelling) -> i6
         period: octave,
         generator,
     };
-    codes::number(pergen.get_sounded_key(format, spelling))
+    codes::number(sounding::get_sounded_key(pergen, format, spelling))
 }
 
 // The key of the octave that a spelling sounds (1, 2, 3, 4, and 15 where it is no spelling).

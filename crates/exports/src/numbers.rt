@@ -90,5 +90,5 @@ pub extern "C" fn vn_accidentals(
         num_symbols: symbols,
         genchain_origin: origin,
     };
-    codes::accidentals(out, pergen.get_accidentals(format, key))
+    codes::accidentals(out, spelling::get_accidentals(pergen, format, key))
 }

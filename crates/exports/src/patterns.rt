@@ -68,7 +68,7 @@ pub extern "C" fn vn_mos_genesis(
         primary_step,
         secondary_step,
     };
-    codes::pattern(out, mos.genesis())
+    codes::pattern(out, walks::genesis(mos))
 }
 
 // The pattern with a secondary step close by that reaches every key (7, 8, 10).
@@ -98,7 +98,7 @@ pub extern "C" fn vn_mos_find(period: u16, generator: u16, steps: u16, out: &mut
 {
     match Mos::new_genesis(period, generator) {
         MosAnswer::Refused(question) => codes::refused(question),
-        MosAnswer::Given(genesis) => codes::walk(out, genesis.find_child(steps as u32)),
+        MosAnswer::Given(genesis) => codes::walk(out, walks::find_child(genesis, steps as u32)),
     }
 }
 
@@ -119,7 +119,7 @@ pub extern "C" fn vn_mos_children(
         primary_step,
         secondary_step,
     };
-    codes::count(mos.children(out))
+    codes::count(listings::children(mos, out))
 }
 
 // The whole walk of parents, four numbers a pattern (7, 10).
@@ -139,7 +139,7 @@ pub extern "C" fn vn_mos_parents(
         primary_step,
         secondary_step,
     };
-    codes::count(mos.parents(out))
+    codes::count(listings::parents(mos, out))
 }
 
 // Each layer's number as often as its size (7, 10).

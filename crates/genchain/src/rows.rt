@@ -1,7 +1,6 @@
-// The table of the chains and their names: parts, and no entry points. Callers have asked question 1, and 10 before they write.
+// The table of the chains: parts, and no entry points. Callers have asked question 1, and 10 before they write.
 //
 // The table is made anew at every read, so read a chain's row once for a call, and hand the row on.
-use crate::texts;
 ghost use mathlib.Core.Path.{_≡_};
 ghost use Prim.Native.Nat.{_<_};
 ghost use lib.ListN.{length};
@@ -69,31 +68,4 @@ pub fn put_letters(out: &mut [u16], row: ChainRow) -> usize
         place += 1;
     }
     place
-}
-
-// How many bytes a chain's name has.
-pub fn name_length(code: u16) -> usize
-    requires { ⌜ code < 6 ⌝ }
-    ensures { λ r. ⌜ r ≡ length (chainOf code .name) ⌝ }
-{
-    match code {
-        3 => 12,
-        0 | 5 => 9,
-        _ => 11,
-    }
-}
-
-// A chain's name at the front of a slice; how many bytes it has.
-pub fn put_name(out: &mut [u8], code: u16) -> usize
-    requires { ⌜ (code < 6) × Room (now out) 0 (chainOf code .name) ⌝ }
-    ensures { λ r. ⌜ Wrote (now (out .entry)) 0 (chainOf code .name) (now (out .exit)) r ⌝ }
-{
-    match code {
-        0 => texts::put_text(out, 0, b"Mavila[9]"),
-        1 => texts::put_text(out, 0, b"Meantone[7]"),
-        2 => texts::put_text(out, 0, b"Meantone[5]"),
-        3 => texts::put_text(out, 0, b"Porcupine[8]"),
-        4 => texts::put_text(out, 0, b"Tetracot[7]"),
-        _ => texts::put_text(out, 0, b"Hanson[7]"),
-    }
 }

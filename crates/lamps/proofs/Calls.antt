@@ -1,10 +1,9 @@
 -- From the plan to what the calls answer: one law for each way in which a call ends.
-use Prim.Native.Nat.{ℕ, _+_, _*_, _%_, _≤_, _<_}
-use mathlib.Core.Path.{_≡_, refl, sym, ap, ap₂, subst, _∙_}
+use Prim.Native.Nat.{ℕ, _%_, _≤_, _<_}
+use mathlib.Core.Path.{_≡_, refl, sym, ap, _∙_}
 use mathlib.Core.Bool.{Bool, true, false}
 use mathlib.Core.List.{List}
-use native.Mathlib.Omega.{arith}
-use lib.ListN.{length, set}
+use lib.ListN.{length}
 use lib.Dec.{leb}
 use borrow.Author.Tests.{le-leb, lt-leb}
 use Rattle.answer.specs.Outcome.{Outcome, given, refused, ask, andThen}
@@ -16,11 +15,11 @@ use Rattle.layout.specs.Answers.{inRoom}
 use Rattle.layout.proofs.Calls.{of-refused, of-given, parts-of, filled-as, refused-in-room}
 use Rattle.layout_layers.specs.declared.parts.Plan.{Plan}
 use Rattle.layout_layers.specs.KeyLayers.{countIn}
-use Rattle.layout_layers.specs.Parts.{PlanOf, planNumber, layersOfPlan}
+use Rattle.layout_layers.specs.Parts.{PlanOf, planNumber, totalOf}
 use Rattle.layout_layers.proofs.PlanLaws.{count-is}
 use Rattle.lamps.specs.Lamps.{lampIn, stripIn, hasLampsIn}
 use Rattle.lamps.specs.Answers.{getStrip, getLamp}
-use Rattle.lamps.specs.Parts.{codeOf, planCodes}
+use Rattle.lamps.specs.Parts.{codeOf, planStrip}
 use Rattle.lamps.proofs.StripLaws.{lamps-by-count-at, strip-is, lamp-is, lamp-home}
 use Rattle.lamps.proofs.Theorems.{strips-are-whole}
 
@@ -41,7 +40,7 @@ pub strip-not-written : (r : IsomorphicLayout) (n : ℕ) → refused n ≡ getSt
 strip-not-written r n e xs = filled-refused n xs (refused-in-room (length xs) n (getStrip r) e) refl
 
 module _ (r : IsomorphicLayout) (l : Layout) (e : given l ≡ asked r) (p : Plan) (k : PlanOf (r .genchain) (r .octave) l p)
-    (T : ℕ) (is : T ≡ layersOfPlan p * p .solved .«num_cycles») where
+    (T : ℕ) (is : T ≡ totalOf p) where
   total : T ≡ countIn (r .octave) l
   total = is ∙ count-is (r .genchain) (r .octave) l p k
 
@@ -70,14 +69,14 @@ module _ (r : IsomorphicLayout) (l : Layout) (e : given l ≡ asked r) (p : Plan
     unfolding getStrip
     strip-of-layout = ap (λ (b : Bool). ask 9 b (given (stripIn (r .genchain) (r .octave) l))) (sym yes) ∙ of-given r _ l e
 
-    pub strip-given : given (set (planCodes p T) 0 0) ≡ getStrip r
+    pub strip-given : given (planStrip p T) ≡ getStrip r
     strip-given =
         ap given (strip-is (r .genchain) (r .octave) l p k (parts-of r l e .positive) T total) ∙ strip-of-layout
 
     pub strip-counted : given (r .octave) ≡ counted (getStrip r)
     strip-counted = ap given (sym (strips-are-whole (r .genchain) (r .octave) l)) ∙ ap counted strip-of-layout
 
-    pub strip-written : {a : Outcome ℕ} {xs ys : List ℕ} → Filled (heldIn (length xs) (set (planCodes p T) 0 0)) a xs ys
+    pub strip-written : {a : Outcome ℕ} {xs ys : List ℕ} → Filled (heldIn (length xs) (planStrip p T)) a xs ys
         → Filled (inRoom (length xs) (getStrip r)) a xs ys
     strip-written {xs = xs} f = filled-as (ap (λ (o : Outcome (List ℕ)). andThen o (heldIn (length xs))) strip-given) f
 

@@ -1,40 +1,33 @@
 -- Codes and strips: T at most 202 leaves sharp and flat layers below 100, T above 202 has a key in sharp layer 100, and a plan's codes with home are the strip.
-use Prim.Native.Nat.{ℕ, zero, suc, _+_, _*_, _-_, _/_, _%_, _≤_, _<_}
-use mathlib.Core.Path.{_≡_, refl, sym, ap, ap₂, subst, _∙_}
+use Prim.Native.Nat.{ℕ, zero, suc, _+_, _*_, _-_, _/_, _≤_, _<_}
+use mathlib.Core.Path.{_≡_, refl, sym, ap, ap₂, _∙_}
 use mathlib.Core.Bool.{Bool, true, false, _&&_, and-false}
 use mathlib.Core.List.{List, [], _∷_, _++_}
-use native.Mathlib.Nat.{mod-lt, mod-eq-of-lt, div-eq-of-lt, mul-comm, mul-pos, one-mul}
+use native.Mathlib.Nat.{mod-lt, mod-eq-of-lt, div-eq-of-lt, mul-pos}
 use native.Mathlib.Omega.{arith}
-use lib.Arith.{digits-div, digits-mod}
 use lib.ListN.{length, set, drop, length-set}
 use lib.Seq.{set-append-left}
 use lib.Dec.{eqb, ltb, leb}
-use borrow.Author.Tests.{eq-eqb, ne-eqb, eqb-true, eqb-false, lt-ltb, le-ltb, ltb-true, ltb-false, leb-true, leb-false, lt-leb, le-leb}
-use Rattle.answer.specs.Outcome.{Outcome, given, refused}
-use Rattle.answer.specs.Lent.{heldIn, counted, written, Filled}
-use Rattle.answer.specs.Writing.{Room, Wrote, joined}
-use Rattle.answer.proofs.Lent.{held, not-held, filled-refused}
-use Rattle.answer.proofs.Writing.{wrote-front}
-use Rattle.answer.proofs.Joined.{joined-same, joined-blocks, joined-first, length-joined-each}
+use borrow.Author.Tests.{eq-eqb, ne-eqb, eqb-true, eqb-false, lt-ltb, ltb-true, ltb-false, leb-true, leb-false}
+use Rattle.answer.specs.Writing.{joined}
+use Rattle.answer.proofs.Joined.{joined-same, joined-first}
 use Rattle.genchain.specs.Chains.{chainOf}
 use Rattle.mos.specs.Patterns.{pick}
-use Rattle.pergen.specs.declared.euclid.Solved.{Solved}
-use Rattle.pergen.specs.Pergen.{cycles, reduced, cycle}
-use Rattle.pergen.specs.Parts.{solvedOf}
-use Rattle.pergen.proofs.Inverse.{period-is, cycles-positive}
+use Rattle.pergen.specs.Pergen.{cycles, cycle}
 use Rattle.layers.specs.Layers.{layerSizes}
 use Rattle.layout.specs.Layouts.{Layout, lettersOf, Accepted}
 use Rattle.layout.proofs.Finding.{Parts, accepted}
 use Rattle.layout_layers.specs.declared.Layer.{Layer}
 use Rattle.layout_layers.specs.declared.Layer.the-variants.{Natural, Sharp, Enharmonic, Flat}
 use Rattle.layout_layers.specs.declared.parts.Plan.{Plan}
-use Rattle.layout_layers.specs.KeyLayers.{equalized, layerNumber, layerCount, kindOf, numberIn, countIn}
-use Rattle.layout_layers.specs.Parts.{Sound, PlanOf, layersOfPlan, turnLayer, planNumber}
-use Rattle.layout_layers.proofs.PlanLaws.{number-is, kind-sharp, turn-below, some-keys}
+use Rattle.layout_layers.specs.KeyLayers.{equalized, layerCount, kindOf, numberIn, countIn}
+use Rattle.layout_layers.specs.Parts.{keysOf, Spread, InTurns, listedNumber, totalOf, Sound, PlanOf, turnLayer, planNumber, Fronted}
+use Rattle.layout_layers.proofs.SpreadLaws.{length-listed, spread-as, spread-front}
+use Rattle.layout_layers.proofs.ChainLaws.{some-places}
+use Rattle.layout_layers.proofs.PlanLaws.{number-is, number-listed, keys-are, kind-natural, kind-sharp, kind-enharmonic, kind-flat, turn-below}
 use Rattle.layout_layers.proofs.Theorems.{counts-fit, each-number-is-met, first-keys}
 use Rattle.lamps.specs.Lamps.{lampCode, kindAt, lampOf, stripOf, lampable, every, hasLamps, lampIn, stripIn, hasLampsIn}
-use Rattle.lamps.specs.Parts.{codeOf, codes, turnCodes, planCodes}
-use Rattle.lamps.specs.Theorems.{LampsByCount}
+use Rattle.lamps.specs.Parts.{codeOf, planCodes, planStrip}
 
 -- ---- codes
 
@@ -51,83 +44,65 @@ few-layers T j h = by (eqb j 0) (ltb (2 * j) T) (eqb (2 * j) T) refl refl
     by false false false e f =
         lt-ltb (T - j - 1) 100 (omega (arith, ltb-false (2 * j) T e, eqb-false (2 * j) T f))
 
--- the code of each kind
-module _ (T j : ℕ) (k : Layer) (is : k ≡ kindOf T j) where
-  pub code-of : lampCode k ≡ codeOf T j
-  unfolding codeOf
-  code-of = ap lampCode is
+-- the codes, by what the code tests
+module _ (T j : ℕ) (in-range : j < T) where
+  pub code-low : 2 * j < T → j + 1 ≡ codeOf T j
+  unfolding codeOf lampCode
+  code-low h = by (eqb j 0) refl
+    where
+      by : (b : Bool) → eqb j 0 ≡ b → j + 1 ≡ lampCode (kindOf T j)
+      by true t =
+          let none : j ≡ 0 = eqb-true j 0 t in
+          (let q : j + 1 ≡ 1 = omega (arith, none) in q) ∙ ap lampCode (kind-natural T j none)
+      by false t =
+          let some = eqb-false j 0 t in
+          (let q : j + 1 ≡ 2 + (j - 1) = omega (arith, some) in q) ∙ ap lampCode (kind-sharp T j some h)
 
-  pub sharp-small : (i : ℕ) → k ≡ Sharp i → T ≤ 202 → i < 100
-  sharp-small i e h = ltb-true i 100 (ap lampable (sym e ∙ is) ∙ few-layers T j h)
+  pub code-half : 2 * j ≡ T → 255 ≡ codeOf T j
+  unfolding codeOf lampCode
+  code-half e = ap lampCode (kind-enharmonic T j (λ none. omega (arith, none)) e)
 
-  pub flat-small : (i : ℕ) → k ≡ Flat i → T ≤ 202 → i < 100
-  flat-small i e h = ltb-true i 100 (ap lampable (sym e ∙ is) ∙ few-layers T j h)
+  pub code-high : T < 2 * j → 101 + (T - j) ≡ codeOf T j
+  unfolding codeOf lampCode
+  code-high h =
+      (let q : 101 + (T - j) ≡ 102 + (T - j - 1) = omega arith in q) ∙ ap lampCode (kind-flat T j (λ none. omega (arith, none)) h refl)
 
-  pub code-natural : k ≡ Natural → 1 ≡ codeOf T j
-  unfolding lampCode
-  code-natural e = ap lampCode (sym e) ∙ code-of
+pub length-plan-codes : (p : Plan) (T : ℕ) → length (planCodes p T) ≡ keysOf (p .chain)
+length-plan-codes p T = length-listed (λ i. codeOf T (planNumber p i)) (keysOf (p .chain))
 
-  pub code-sharp : (i : ℕ) → k ≡ Sharp i → 2 + i ≡ codeOf T j
-  unfolding lampCode
-  code-sharp i e = ap lampCode (sym e) ∙ code-of
-
-  pub code-enharmonic : (i : ℕ) → k ≡ Enharmonic i → 255 ≡ codeOf T j
-  unfolding lampCode
-  code-enharmonic i e = ap lampCode (sym e) ∙ code-of
-
-  pub code-flat : (i : ℕ) → k ≡ Flat i → 102 + i ≡ codeOf T j
-  unfolding lampCode
-  code-flat i e = ap lampCode (sym e) ∙ code-of
-
-pub length-codes : (T base count : ℕ) → length (codes T base count) ≡ count
-length-codes T base count = length-joined-each (λ c. codeOf T (base + c) ∷ []) 1 (λ c. refl) count ∙ one-mul count
-
-pub length-plan-codes : (p : Plan) (T : ℕ) → length (planCodes p T) ≡ p .solved .«reduced_period» * p .solved .«num_cycles»
-length-plan-codes p T =
-    length-joined-each (turnCodes p T) (p .solved .«num_cycles») (λ q. length-codes T (turnLayer p q * p .solved .«num_cycles») (p .solved .«num_cycles»)) (p .solved .«reduced_period»)
-    ∙ mul-comm (p .solved .«num_cycles») (p .solved .«reduced_period»)
-
-pub length-home : (p : Plan) (T : ℕ) → p .solved .«reduced_period» * p .solved .«num_cycles» ≡ length (set (planCodes p T) 0 0)
-length-home p T = sym (length-set (planCodes p T) 0 0 ∙ length-plan-codes p T)
+pub length-strip : (p : Plan) (T : ℕ) → keysOf (p .chain) ≡ length (planStrip p T)
+length-strip p T = sym (length-set (planCodes p T) 0 0 ∙ length-plan-codes p T)
 
 -- a key's number is below T
-pub number-below : (p : Plan) → Sound p → (i j T : ℕ) → j ≡ planNumber p i → T ≡ layersOfPlan p * p .solved .«num_cycles» → j < T
+pub number-below : (p : Plan) → Sound p → (i j T : ℕ) → j ≡ planNumber p i → T ≡ totalOf p → j < T
 number-below p sound i j T e is =
-    let n = p .solved .«num_cycles» in
-    omega (
-      arith,
-      turn-below p sound (i / n) (p .solved .«generator_inverse» * (i / n) % p .solved .«reduced_period»),
-      mod-lt i (sound .walkable .some-cycles),
-    )
+    let n = p .chain .«num_cycles» in
+    omega (arith, turn-below p sound (i / n), mod-lt i (sound .unbroken .some-cycles))
+
+pub turn-most : (p : Plan) → Sound p → (T turn layer : ℕ) → T ≡ totalOf p → layer ≡ turnLayer p turn
+    → layer * p .chain .«num_cycles» + p .chain .«num_cycles» ≤ T
+turn-most p sound T turn layer is e = omega (arith, ap (λ (k : ℕ). k * p .chain .«num_cycles») e, turn-below p sound turn)
 
 -- ---- home, stored over the code of key 0
 
-module _ (p : Plan) (T : ℕ) (sound : Sound p) (xs : List ℕ) where
-  abbrev keys : ℕ
-  keys = p .solved .«reduced_period» * p .solved .«num_cycles»
+module _ (p : Plan) (T : ℕ) (sound : Sound p) (xs : List ℕ) (room : keysOf (p .chain) ≤ length xs) where
+  pub some-codes : 0 < keysOf (p .chain)
+  some-codes = mul-pos (some-places (p .chain) (sound .unbroken)) (sound .unbroken .some-cycles)
 
-  pub some-codes : 0 < keys
-  some-codes = mul-pos (some-keys p sound) (sound .walkable .some-cycles)
-
-  pub codes-room : keys ≤ length xs → Room xs 0 (planCodes p T)
-  codes-room h = omega (arith, length-plan-codes p T)
-
-  pub strip-too-long : length xs < keys → Filled (heldIn (length xs) (set (planCodes p T) 0 0)) (refused 10) xs xs
-  strip-too-long h =
-      filled-refused 10 xs (not-held (length xs) (set (planCodes p T) 0 0) (omega (arith, length-home p T))) refl
-
-  pub strip-held : keys ≤ length xs → {ys : List ℕ} {next : ℕ} → Wrote xs 0 (planCodes p T) ys next
-      → Filled (heldIn (length xs) (set (planCodes p T) 0 0)) (given keys) xs (set ys 0 0)
-  strip-held h {ys} w =
+  pub home-over : {ys : List ℕ} → Spread (InTurns (p .chain .«num_cycles») (p .chain .«reduced_period»)) (λ i. codeOf T (planNumber p i)) xs ys
+      → Fronted (planStrip p T) xs (set ys 0 0)
+  home-over s =
       let text = planCodes p T in
-      let e : heldIn (length xs) (set text 0 0) ≡ given (set text 0 0) = held (length xs) (set text 0 0) (omega (arith, length-home p T)) in
-      record {
-        answered = ap given (length-home p T) ∙ sym (ap counted e);
-        content = ap (λ (l : List ℕ). set l 0 0) (wrote-front (omega (arith, length-plan-codes p T)) w)
-            ∙ set-append-left text (drop (length text) xs) 0 0 (omega (arith, length-plan-codes p T, some-codes))
-            ∙ ap (λ (k : ℕ). set text 0 0 ++ drop k xs) (sym (length-set text 0 0))
-            ∙ sym (ap (λ (o : Outcome (List ℕ)). written o xs) e);
-      }
+      ap (λ (l : List ℕ). set l 0 0)
+      (spread-front (p .chain .«num_cycles») (p .chain .«reduced_period») (λ i. codeOf T (planNumber p i)) (sound .unbroken .some-cycles) room s)
+      ∙ set-append-left text (drop (length text) xs) 0 0 (omega (arith, length-plan-codes p T, some-codes))
+      ∙ ap (λ (k : ℕ). set text 0 0 ++ drop k xs) (sym (length-set text 0 0))
+
+-- the codes of the layers, of a scale that is not equalized
+pub codes-listed : (p : Plan) (T : ℕ) {xs ys : List ℕ} → p .equalized ≡ false
+    → Spread (InTurns (p .chain .«num_cycles») (p .chain .«reduced_period»)) (λ i. codeOf T (listedNumber (p .runs) (p .chain) i)) xs ys
+    → Spread (InTurns (p .chain .«num_cycles») (p .chain .«reduced_period»)) (λ i. codeOf T (planNumber p i)) xs ys
+codes-listed p T other s = spread-as (λ i t. ap (codeOf T) (number-listed p other i)) s
 
 -- ---- question 9
 
@@ -209,30 +184,18 @@ home-first f (suc n) =
     ∙ sym (joined-first (λ i. pick (eqb i 0) 0 (f i) ∷ []) n)
 
 module _ (code P : ℕ) (l : Layout) (p : Plan) (k : PlanOf code P l p) (some : 0 < P) (T : ℕ) (is : T ≡ countIn P l) where
-  pub period-of : p .solved .«reduced_period» * p .solved .«num_cycles» ≡ P
-  unfolding solvedOf
-  period-of =
-      ap (λ (s : Solved). s .«reduced_period» * s .«num_cycles») (k .solved-is) ∙ sym (period-is P (l .generator) some)
-
   -- the code of a key, by the plan
   pub code-at : (i : ℕ) → codeOf T (planNumber p i) ≡ lampCode (kindAt P (l .generator) (lettersOf code) (chainOf code .start) (l .pattern) i)
   unfolding codeOf kindAt
   code-at i = ap₂ (λ (t j : ℕ). lampCode (kindOf t j)) is (number-is code P l p k i)
 
-  pub strip-is : set (planCodes p T) 0 0 ≡ stripIn code P l
+  pub strip-is : planStrip p T ≡ stripIn code P l
   unfolding stripOf lampOf
   strip-is =
-      let n = p .solved .«num_cycles» in
-      let R = p .solved .«reduced_period» in
       let f : ℕ → ℕ = λ i. lampCode (kindAt P (l .generator) (lettersOf code) (chainOf code .start) (l .pattern) i) in
-      let each : (q : ℕ) → q < R → turnCodes p T q ≡ joined (λ c. f (q * n + c) ∷ []) n
-      = λ q h. joined-same (λ c. codeOf T (turnLayer p q * n + c) ∷ []) (λ c. f (q * n + c) ∷ []) n
-      (λ c b. ap (λ (x : ℕ). x ∷ [])
-      (ap₂ (λ (x y : ℕ). codeOf T (turnLayer p x * n + y)) (sym (digits-div q b)) (sym (digits-mod q b)) ∙ code-at (q * n + c))) in
       ap (λ (xs : List ℕ). set xs 0 0)
-      (joined-same (turnCodes p T) (λ q. joined (λ c. f (q * n + c) ∷ []) n) R each
-      ∙ joined-blocks (λ i. f i ∷ []) n R
-      ∙ ap (joined (λ i. f i ∷ [])) period-of)
+      (joined-same (λ i. codeOf T (planNumber p i) ∷ []) (λ i. f i ∷ []) (keysOf (p .chain)) (λ i h. ap (λ (x : ℕ). x ∷ []) (code-at i))
+      ∙ ap (joined (λ i. f i ∷ [])) (keys-are code P l p k some))
       ∙ home-first f P
 
   pub lamp-is : (i : ℕ) → (i ≡ 0 → ⊥) → codeOf T (planNumber p i) ≡ lampIn code P l i

@@ -11,6 +11,7 @@ use answer::NumberAnswer;
 use answer::Refusal;
 use layout::IsomorphicLayout;
 use layout::parts::FoundAnswer;
+use pergen::euclid;
 ghost use mathlib.Core.Path.{_≡_};
 ghost use lib.ListN.{length};
 ghost use Rattle.answer.specs.Lent.{counted, Filled};
@@ -67,9 +68,9 @@ pub fn lamp(layout: IsomorphicLayout, key: u16) -> NumberAnswer
             if place == 0 {
                 return NumberAnswer::Given(0);
             }
-            NumberAnswer::Given(
-                parts::code(total, layout_layers::parts::number_of(plan, place)) as u16,
-            )
+            let solved = euclid::solve(layout.octave, found.generator);
+            let number = layout_layers::parts::number_of(plan, solved.generator_inverse, place);
+            NumberAnswer::Given(parts::code(total, number) as u16)
         }
     }
 }

@@ -2,7 +2,7 @@
 use Prim.Native.Nat.{ℕ, _+_, _*_, _/_, _<_, _≤_, _∣_}
 use mathlib.Core.Path.{_≡_, refl, ap, ap₂, sym, _∙_}
 use mathlib.Core.Bool.{true}
-use native.Mathlib.Nat.{div-eq-of-eq-mul-left, add-mul, mul-assoc, div-mul-cancel, div-le-self, mul-le-mul-left}
+use native.Mathlib.Nat.{div-eq-of-eq-mul-left, add-mul, mul-assoc, div-mul-cancel, div-le-self, div-one, mul-le-mul-left}
 use native.Mathlib.Omega.{arith}
 use Rattle.math.specs.Gcd.{gcdOrOne}
 use Rattle.math.proofs.Gcd.{gcd-or-one-positive, gcd-or-one-left, gcd-or-one-right}
@@ -51,18 +51,33 @@ enough-layers m =
     let y = secondary m / cyclesOf m in
     omega (arith, reduced-is m, all-sum (primaries m) (secondaries m) x y, all-within (primaries m) (secondaries m) x y)
 
--- the divided steps, with the divisor that the code has, stay a pattern
-pub divided-fits : (m : Mos) (g : ℕ) → g ≡ gcdOrOne (primary m) (secondary m) → isPattern m ≡ true
-    → primaries m * (primary m / g) + secondaries m * (secondary m / g) ≤ 65535
-divided-fits m g e f =
-    let h : primaries m * (primary m / g) ≤ primaries m * primary m = mul-le-mul-left (primaries m) (div-le-self (primary m) g) in
-    let k : secondaries m * (secondary m / g) ≤ secondaries m * secondary m = mul-le-mul-left (secondaries m) (div-le-self (secondary m) g) in
-    omega (arith, size-is m, pattern-fits m f)
+-- dividing by 1
+pub divided-by-one : (x g : ℕ) → g ≡ 1 → x ≡ x / g
+divided-by-one x g e = sym (ap (λ (n : ℕ). x / n) e ∙ div-one x)
 
--- the same layers, said with that divisor
-pub cycles-layers : (m : Mos) (g : ℕ) → g ≡ gcdOrOne (primary m) (secondary m)
-    → allSizes (primaries m) (secondaries m) (primary m / g) (secondary m / g)
-    ≡ allSizes (primaries m) (secondaries m) (primary m / cyclesOf m) (secondary m / cyclesOf m)
+-- the divisor that the code has
+pub code-cycles : (m : Mos) (g : ℕ) → g ≡ gcdOrOne (primary m) (secondary m) → g ≡ cyclesOf m
 unfolding cyclesOf
-cycles-layers m g e =
-    ap (λ (n : ℕ). allSizes (primaries m) (secondaries m) (primary m / n) (secondary m / n)) e
+code-cycles m g e = e
+
+pub cycles-above : (m : Mos) → 0 < cyclesOf m
+unfolding cyclesOf
+cycles-above m = gcd-or-one-positive (primary m) (secondary m)
+
+module _ (m : Mos) (g : ℕ) (is : g ≡ cyclesOf m) where
+  pub divisor-above : 0 < g
+  divisor-above = rw is (cycles-above m)
+
+  module _ (x y : ℕ) (ex : x ≡ primary m / g) (ey : y ≡ secondary m / g) where
+    -- the divided steps stay a pattern
+    pub divided-fits : isPattern m ≡ true → primaries m * x + secondaries m * y ≤ 65535
+    divided-fits f =
+        let h : primaries m * x ≤ primaries m * primary m = mul-le-mul-left (primaries m) (omega (arith, div-le-self (primary m) g)) in
+        let k : secondaries m * y ≤ secondaries m * secondary m = mul-le-mul-left (secondaries m) (omega (arith, div-le-self (secondary m) g)) in
+        omega (arith, size-is m, pattern-fits m f)
+
+    -- the same layers, said with that divisor
+    pub cycles-layers : allSizes (primaries m) (secondaries m) x y
+        ≡ allSizes (primaries m) (secondaries m) (primary m / cyclesOf m) (secondary m / cyclesOf m)
+    cycles-layers =
+        ap₂ (allSizes (primaries m) (secondaries m)) (ex ∙ ap (λ (n : ℕ). primary m / n) is) (ey ∙ ap (λ (n : ℕ). secondary m / n) is)

@@ -66,7 +66,7 @@ pub fn get_layers(mos: Mos, out: &mut [u16]) -> CountAnswer
         if out.len() < len {
             return CountAnswer::Refused(Refusal::Room);
         }
-        parts::put_all_layers(out, parts::runs_in(mos));
+        parts::put_all_layers(out, parts::runs_over(mos, cycles));
         return CountAnswer::Given(len);
     }
     CountAnswer::Refused(Refusal::Size)

@@ -6,7 +6,7 @@ use crate::Runs;
 use mos::Mos;
 ghost use mathlib.Core.Path.{_≡_};
 ghost use mathlib.Core.Bool.{true};
-ghost use Prim.Native.Nat.{min, _+_, _*_, _-_, _/_, _≤_};
+ghost use Prim.Native.Nat.{min, _+_, _*_, _-_, _/_, _≤_, _<_};
 ghost use lib.ListN.{length, replicate};
 ghost use Rattle.answer.specs.Writing.{Room, Wrote};
 ghost use Rattle.mos.specs.Patterns.{isPattern, primaries, secondaries, primary, secondary, cyclesOf};
@@ -57,18 +57,33 @@ fn runs_of(a: u16, b: u16, x: u16, y: u16) -> Runs
     }
 }
 
+// A quotient by the number of cycles, mostly 1: then nothing is divided.
+pub fn divided(x: u16, cycles: u16) -> u16
+    requires { ⌜ 0 < cycles ⌝ }
+    ensures { λ r. ⌜ r ≡ x / cycles ⌝ }
+{
+    if cycles == 1 {
+        return x;
+    }
+    x / cycles
+}
+
+// The layers of a pattern whose steps have the greatest common divisor `cycles`.
+pub fn runs_over(m: Mos, cycles: u16) -> Runs
+    requires { ⌜ (isPattern m ≡ true) × (cycles ≡ cyclesOf m) ⌝ }
+    ensures { λ r. ⌜ runSizes r ≡ allSizes (primaries m) (secondaries m) (primary m / cyclesOf m) (secondary m / cyclesOf m) ⌝ }
+{
+    let x = divided(m.primary_step, cycles);
+    let y = divided(m.secondary_step, cycles);
+    runs_of(m.num_primary_steps, m.num_secondary_steps, x, y)
+}
+
 // The layers of a pattern.
 pub fn runs_in(m: Mos) -> Runs
     requires { ⌜ isPattern m ≡ true ⌝ }
     ensures { λ r. ⌜ runSizes r ≡ allSizes (primaries m) (secondaries m) (primary m / cyclesOf m) (secondary m / cyclesOf m) ⌝ }
 {
-    let cycles = math::gcd_u16(m.primary_step, m.secondary_step);
-    runs_of(
-        m.num_primary_steps,
-        m.num_secondary_steps,
-        m.primary_step / cycles,
-        m.secondary_step / cycles,
-    )
+    runs_over(m, math::gcd_u16(m.primary_step, m.secondary_step))
 }
 
 // A number as often as `count` says; the place after the last.

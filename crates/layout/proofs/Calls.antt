@@ -21,14 +21,11 @@ use Rattle.layout.specs.Layouts.{Layout, lettersOf, layoutOutcome, accid
 use Rattle.layout.specs.ScaleNames.{scaleName}
 use Rattle.layout.specs.Answers.{ofLayout, createOutcome, getGenchain, getPergen, getMos, getAccidentals, getScaleName, getNoteName, inRoom}
 use Rattle.layout.specs.Names.{nameIn, noteName}
-use Rattle.layout.specs.Parts.{scaleRowOf, textIn}
 use Rattle.layout.specs.declared.IsomorphicLayout.{IsomorphicLayout}
-use Rattle.layout.specs.declared.scales.ScaleRow.{ScaleRow}
 use Rattle.layout.proofs.Finding.{Parts, accepted}
-use Rattle.layout.proofs.ScaleTable.{text-small, text-in-row, row-length, row-text-length}
 
 -- questions 1 to 4 of a record's numbers
-abbrev asked : IsomorphicLayout → Outcome Layout
+abbrev pub asked : IsomorphicLayout → Outcome Layout
 asked r = layoutOutcome (r .genchain) (r .octave) (r .tritave)
 
 module _ {A : Type 0} (r : IsomorphicLayout) (next : Layout → Outcome A) where
@@ -131,28 +128,6 @@ module _ (r : IsomorphicLayout) (l : Layout) (e : given l ≡ asked r) where
   pub scale-given : given (scaleName (r .genchain) (l .pattern)) ≡ getScaleName r
   unfolding getScaleName
   scale-given = of-given r _ l e
-
-  -- the row that holds the scale's name
-  module _ (row : ScaleRow) (is : row ≡ scaleRowOf (scaleName (r .genchain) (l .pattern))) where
-    small : length (scaleName (r .genchain) (l .pattern)) ≤ 12
-    small = text-small (r .genchain) (l .pattern) (parts-of r l e .chain)
-
-    pub scale-row-good : (length (row .text) ≡ 12) × (row .length ≤ 12)
-    scale-row-good =
-        subst (λ (x : ScaleRow). (length (x .text) ≡ 12) × (x .length ≤ 12)) (sym is)
-        (row-text-length (scaleName (r .genchain) (l .pattern)), subst (λ (k : ℕ). k ≤ 12) (sym (row-length (scaleName (r .genchain) (l .pattern)))) small)
-
-    pub scale-text : textIn row ≡ scaleName (r .genchain) (l .pattern)
-    scale-text = ap textIn is ∙ text-in-row (scaleName (r .genchain) (l .pattern)) small
-
-    pub scale-count : given (row .length) ≡ counted (getScaleName r)
-    scale-count =
-        ap (λ (x : ScaleRow). given (x .length)) is
-        ∙ ap given (row-length (scaleName (r .genchain) (l .pattern)))
-        ∙ ap counted scale-given
-
-    pub scale-in-room : (room : ℕ) → heldIn room (textIn row) ≡ inRoom room (getScaleName r)
-    scale-in-room room = ap (heldIn room) scale-text ∙ ap (λ (o : Outcome (List ℕ)). andThen o (heldIn room)) scale-given
 
 -- a text that is held, said otherwise
 pub filled-as : {o p : Outcome (List ℕ)} {a : Outcome ℕ} {xs ys : List ℕ} → o ≡ p → Filled o a xs ys → Filled p a xs ys

@@ -1,7 +1,6 @@
 pub mod Finding
 pub mod Keys
 pub mod PatternShape
-pub mod ScaleTable
 pub mod Calls
 pub mod Naming
 pub mod Examples

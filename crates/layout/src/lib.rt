@@ -1,12 +1,11 @@
 // Layouts of the six chains, after `IsomorphicLayout` and `Genchain::create_layout` in src/layout.rs of the original.
 //
-// Holds making a layout from a chain code, an octave and a tritave, its pergen, pattern and scale name, and the spellings
-// and names of its keys (document 01, "The six chains", "Pergen and spelling", "Step patterns").
-// specs/: Layouts, ScaleNames and Names define, Answers says what each call answers, Theorems what a reader of key names
-// may rely on. A layout holds only the three numbers that a caller chose; each call asks questions 1 to 4 of them again.
+// Holds making a layout from a chain code, an octave and a tritave, its pergen and pattern, and the spellings and names of its
+// keys (document 01, "The six chains", "Pergen and spelling", "Step patterns"). `scale_names` has the name of its scale.
+// specs/: Layouts, ScaleNames and Names define, Answers says what each call answers, there too, Theorems what a reader of key
+// names may rely on. A layout holds only the three numbers that a caller chose; each call asks questions 1 to 4 of them again.
 // Every public function here answers every input. Nothing is assumed.
 pub mod parts;
-pub mod scales;
 
 use answer::CountAnswer;
 use answer::NumberAnswer;
@@ -30,7 +29,6 @@ ghost use Rattle.layout.specs.Answers.{
   getPergen,
   getMos,
   getAccidentals,
-  getScaleName,
   getNoteName,
   inRoom,
   answerOutcome,
@@ -117,32 +115,6 @@ impl IsomorphicLayout {
                 found.generator,
                 key,
             )),
-        }
-    }
-
-    // How many bytes the scale's name has (1, 2, 3, 4).
-    pub fn scale_name_len(self) -> CountAnswer
-        ensures { λ r. ⌜ countOutcome r ≡ counted (getScaleName self) ⌝ }
-    {
-        match parts::search(self) {
-            FoundAnswer::Refused(q) => CountAnswer::Refused(q),
-            FoundAnswer::Given(found) => {
-                let row = scales::scale_row(self.genchain, found.pattern);
-                CountAnswer::Given(row.length as usize)
-            }
-        }
-    }
-
-    // The scale's name, as "diatonic" (1, 2, 3, 4, 10).
-    pub fn get_scale_name(self, out: &mut [u8]) -> CountAnswer
-        ensures { λ r. ⌜ Filled (inRoom (length (now (out .entry))) (getScaleName self)) (countOutcome r) (now (out .entry)) (now (out .exit)) ⌝ }
-    {
-        match parts::search(self) {
-            FoundAnswer::Refused(q) => CountAnswer::Refused(q),
-            FoundAnswer::Given(found) => scales::write_scale(
-                scales::scale_row(self.genchain, found.pattern),
-                out,
-            ),
         }
     }
 

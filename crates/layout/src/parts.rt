@@ -11,10 +11,9 @@ use notes::plans::NamePlan;
 use notes::texts;
 use pergen::Accidentals;
 use pergen::AccidentalsFormat;
-use pergen::coordinates;
 use pergen::euclid;
 ghost use mathlib.Core.Path.{_≡_};
-ghost use Prim.Native.Nat.{_<_};
+ghost use Prim.Native.Nat.{_<_, _%_};
 ghost use lib.ListN.{length};
 ghost use Rattle.answer.specs.Lent.{heldIn, Filled};
 ghost use Rattle.answer.specs.Refusals.{countOutcome};
@@ -38,20 +37,26 @@ pub enum FoundAnswer {
     Refused(Refusal),
 }
 
+// The generator within the octave: few are not below it, and these alone are divided.
+pub fn within_octave(octave: u16, generator: u16) -> u16
+    requires { ⌜ 0 < octave ⌝ }
+    ensures { λ r. ⌜ r ≡ generator % octave ⌝ }
+{
+    if generator < octave {
+        return generator;
+    }
+    generator % octave
+}
+
 // The pattern with so many steps on the walk from the generator's genesis (4).
 pub fn with_pattern(octave: u16, generator: u16, num_letters: u16) -> FoundAnswer
     requires { ⌜ 0 < octave ⌝ }
     ensures { λ r. ⌜ foundOutcome r ≡ withPattern generator (firstWith «num_letters» (children (genesis octave generator))) ⌝ }
 {
-    let step = generator % octave;
-    let genesis = Mos {
-        num_primary_steps: 1,
-        num_secondary_steps: 1,
-        primary_step: step,
-        secondary_step: octave - step,
-    };
+    let step = within_octave(octave, generator);
     let mut found: [u16; 4] = [0, 0, 0, 0];
-    if mos::walks::seek(genesis, num_letters as u32, &mut found) {
+    // from the genesis: both counts 1, and the steps
+    if walks::parts::seek(1, 1, step, octave - step, num_letters as u32, &mut found) {
         return FoundAnswer::Given(Found {
             generator,
             pattern: Mos {
@@ -70,7 +75,7 @@ pub fn find(layout: IsomorphicLayout, num_letters: u16) -> FoundAnswer
     requires { ⌜ «num_letters» ≡ lettersOf (layout .genchain) ⌝ }
     ensures { λ r. ⌜ foundOutcome r ≡ layoutOutcome (layout .genchain) (layout .octave) (layout .tritave) ⌝ }
 {
-    match genchain::generator(layout.genchain, layout.octave, layout.tritave) {
+    match generators::generator(layout.genchain, layout.octave, layout.tritave) {
         NumberAnswer::Refused(q) => FoundAnswer::Refused(q),
         NumberAnswer::Given(generator) => with_pattern(layout.octave, generator, num_letters),
     }
@@ -99,7 +104,7 @@ pub fn accidentals(row: ChainRow, octave: u16, generator: u16, key: u16) -> Acci
         num_symbols: row.num_letters,
         genchain_origin: row.start,
     };
-    coordinates::accidentals(solved.reduced_period, format, generation)
+    spelling::parts::accidentals(solved.reduced_period, format, generation)
 }
 
 // The plan of a key's name. The style goes by the steps: sharp first where the primary is at least the secondary.

@@ -1,7 +1,16 @@
+pub mod Turning
+pub mod Rounds
 pub mod Spelled
+pub mod BareNames
+pub mod LettersRead
+pub mod Reciprocal
+pub mod BareLengths
+pub mod PlacesAlong
+pub mod NamesLength
 pub mod Spellers
 pub mod Due
 pub mod SideBySide
+pub mod Turns
 pub mod BookCalls
 pub mod Theorems
 pub mod Examples

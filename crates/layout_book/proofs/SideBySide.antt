@@ -1,6 +1,6 @@
 -- Two texts that grow side by side in one slice, the second behind the place where the first will end: stores at places apart change order.
-use Prim.Native.Nat.{ℕ, zero, suc, _+_, _≤_, _<_}
-use mathlib.Core.Path.{_≡_, refl, sym, ap, _∙_, subst}
+use Prim.Native.Nat.{ℕ, suc, _+_, _≤_, _<_}
+use mathlib.Core.Path.{_≡_, refl, ap, _∙_, subst}
 use mathlib.Core.List.{List, [], _∷_, _++_}
 use native.Mathlib.Omega.{arith}
 use lib.ListN.{length, set}
@@ -8,6 +8,7 @@ use lib.Seq.{sets, set-comm}
 use Rattle.answer.specs.Writing.{Room, Wrote, joined}
 use Rattle.answer.proofs.Writing.{then, wrote-length}
 use Rattle.answer.proofs.Joined.{joined-start, joined-step, joined-room}
+use Rattle.layout_book.specs.Parts.{Beside}
 
 -- one store before a run of stores, or after it
 store-apart : (u l : List ℕ) (i j a : ℕ) → i < j → set (sets l j u) i a ≡ sets (set l i a) j u
@@ -20,12 +21,6 @@ sets-apart : (t u l : List ℕ) (i j : ℕ) → i + length t ≤ j → sets (set
 sets-apart [] u l i j h = refl
 sets-apart (a ∷ t) u l i j h =
     ap (λ (k : List ℕ). sets k (suc i) t) (store-apart u l i j a (omega arith)) ∙ sets-apart t u (set l i a) (suc i) j (omega arith)
-
--- `front` stands from `at` on and `text` from `behind` on; the next places are `place` and `next`
-pub record Beside (before : List ℕ) (at : ℕ) (front : List ℕ) (behind : ℕ) (text after : List ℕ) (place next : ℕ) : Type 0 where
-  pub middle : List ℕ
-  pub first : Wrote before at front middle place
-  pub second : Wrote middle behind text after next
 
 pub beside-length : {xs front text ys : List ℕ} {at behind place next : ℕ} → Beside xs at front behind text ys place next → length ys ≡ length xs
 beside-length b = wrote-length (b .second) ∙ wrote-length (b .first)
@@ -55,6 +50,18 @@ module _ (f g : ℕ → List ℕ) (xs : List ℕ) (at behind : ℕ) where
             end = both .end;
           };
         }
+
+-- more of each, side by side again
+pub beside-then : {xs f g ys u v zs : List ℕ} {at behind place next after end : ℕ} → Beside xs at f behind g ys place next → Beside ys place u next v zs after end
+    → place + length u ≤ behind → Beside xs at (f ++ u) behind (g ++ v) zs after end
+beside-then {xs} {f} {g} {ys} {u} {v} {zs} {at} {behind} {place} {next} {after} {end} b c h =
+    let moved : c .middle ≡ sets (sets (b .middle) place u) behind g
+    = c .first .content ∙ ap (λ (l : List ℕ). sets l place u) (b .second .content) ∙ sets-apart u g (b .middle) place behind h in
+    record {
+      middle = sets (b .middle) place u;
+      first = then {t = f} {u = u} (b .first) (record { content = refl; end = c .first .end });
+      second = then {t = g} (record { content = moved; end = b .second .end }) (c .second);
+    }
 
 -- where the first ends the second begins
 pub beside-whole : {xs front text ys : List ℕ} {at behind place next : ℕ} → Beside xs at front behind text ys place next → behind ≡ place

@@ -8,12 +8,10 @@ use mathlib.Core.List.{List, [], _∷_, _++_}
 use lib.Dec.{ltb}
 use borrow.Author.Tests.{lt-ltb, le-ltb}
 use lib.ListN.{length, replicate, length-append}
-use Rattle.answer.specs.Writing.{joined}
-use Rattle.answer.proofs.Joined.{joined-none, length-joined-more}
 use Rattle.genchain.specs.Chains.{lettersIn}
 use Rattle.genchain.proofs.TableRows.{row-good, row-count}
 use Rattle.notes.specs.Names.{pickText, letterText, letterAt, signsText, spellingText, inParentheses, spellingsText, printed, nameText}
-use Rattle.notes.specs.Parts.{planText, Planned, Measured}
+use Rattle.notes.specs.Parts.{planText, Planned}
 use Rattle.notes.specs.declared.plans.NamePlan.{NamePlan}
 use Rattle.notes.proofs.Printing.{Printed, one, two, printed-view}
 use Rattle.notes.proofs.ShortNames.{names-are-short}
@@ -91,7 +89,7 @@ name-not-empty letters sf a =
 
 -- ---- signs and stars
 
-quotient-small : (x N : ℕ) → 5 ≤ N → x < 65535 → x / N ≤ 13106
+pub quotient-small : (x N : ℕ) → 5 ≤ N → x < 65535 → x / N ≤ 13106
 quotient-small x N h l =
     let q : x / N < 13107 = div-lt-iff-lt-mul {k = N} {x = x} {y = 13107} (omega arith) .1 (omega arith) in omega arith
 
@@ -126,15 +124,15 @@ module _ (s : Speller) (h : Sound s) where
   abbrev cycles : ℕ
   cycles = s .solved .«num_cycles»
 
-  five : 5 ≤ s .row .«num_letters»
+  pub five : 5 ≤ s .row .«num_letters»
   five = omega (arith, row-good _ (h .table) .at-least-five, row-count _ (h .table))
 
-  few-degrees : degrees ≤ 65535
+  pub few-degrees : degrees ≤ 65535
   few-degrees =
       let q : degrees * 1 ≤ degrees * cycles = mul-le-mul {n₂ = degrees} {m₂ = cycles} (le-refl degrees) (omega (arith, h .walkable .some-cycles)) in
       omega (arith, mul-one degrees, h .fits)
 
-  few-cycles : cycles ≤ 13107
+  pub few-cycles : cycles ≤ 13107
   few-cycles =
       let q : 5 * cycles ≤ degrees * cycles = mul-le-mul {n₂ = degrees} {m₂ = cycles} (omega (arith, five, h .enough)) (le-refl cycles) in
       omega (arith, h .fits)
@@ -178,23 +176,3 @@ module _ (s : Speller) (h : Sound s) where
     pub name-planned : (p : NamePlan) → Planned (lettersIn (s .row)) (s .«sharp_first») (spelledAt s step) p → planText p ≡ nameOf s k
     unfolding nameOf
     name-planned p planned = planned .text ∙ ap (nameText (lettersIn (s .row)) (s .«sharp_first»)) spelled-at
-
-    pub name-measured : (p : NamePlan) (n : ℕ) → Planned (lettersIn (s .row)) (s .«sharp_first») (spelledAt s step) p → Measured p n
-        → n ≡ length (nameOf s k)
-    name-measured p n planned m = m .length-is ∙ ap length (name-planned p planned)
-
--- ---- the sum of the lengths
-
-pub record Summed (s : Speller) (k n : ℕ) : Type 0 where
-  pub is : n ≡ length (joined (nameOf s) k)
-  pub small : n ≤ 39325 * k
-
-pub summed-none : (s : Speller) → Summed s 0 0
-summed-none s = record { is = sym (ap length (joined-none (nameOf s))); small = omega arith }
-
-pub summed-more : (s : Speller) → Sound s → (k n m : ℕ) → Summed s k n → m ≡ length (nameOf s k) → Summed s (k + 1) (n + m)
-summed-more s h k n m w e =
-    record {
-      is = ap₂ (λ (x y : ℕ). x + y) (w .is) e ∙ sym (length-joined-more (nameOf s) k);
-      small = omega (arith, w .small, name-short s h k);
-    }

@@ -1,5 +1,5 @@
 -- The speller of an accepted layout has the layout's names, and can be followed.
-use Prim.Native.Nat.{ℕ, _≤_}
+use Prim.Native.Nat.{ℕ, _*_, _/_, _≤_}
 use native.Mathlib.Omega.{arith}
 use mathlib.Core.Path.{_≡_, refl, sym, ap, _∙_}
 use mathlib.Core.List.{List}
@@ -13,7 +13,7 @@ use Rattle.layout.proofs.Finding.{accepted, count-found}
 use Rattle.layout.proofs.Naming.{enough-keys}
 use Rattle.notes.specs.Names.{nameText}
 use Rattle.pergen.specs.declared.euclid.Solved.{Solved}
-use Rattle.pergen.specs.Pergen.{degree, cycle, cycleOf}
+use Rattle.pergen.specs.Pergen.{cycles, degree, cycle, cycleOf}
 use Rattle.pergen.specs.Spelling.{keyAccidentals}
 use Rattle.pergen.specs.Parts.{solvedOf}
 use Rattle.pergen.proofs.Inverse.{numbers}
@@ -52,9 +52,15 @@ module _ (code octave tritave : ℕ) (l : Layout) (e : Accepted code octave trit
         record {
           table = table-row code row (a .chain) is;
           walkable = walkable octave (l .generator) (a .positive) solved by;
+          partner = l .generator / cycles octave (l .generator);
+          partner-is = rw by (numbers octave (l .generator) (a .positive) .one);
           enough = enough-degrees;
           fits = rw by (omega (arith, numbers octave (l .generator) (a .positive) .period));
         }
 
+    whole-octave : octave ≡ solved .«reduced_period» * solved .«num_cycles»
+    unfolding solvedOf
+    whole-octave = rw by (numbers octave (l .generator) (accepted code octave tritave l e .positive) .period)
+
     pub speller-of : octave ≤ 65535 → SpellerOf code octave l (made row solved)
-    speller-of small = record { sound = speller-sound small; names = speller-names }
+    speller-of small = record { sound = speller-sound small; octave-is = whole-octave; names = speller-names }

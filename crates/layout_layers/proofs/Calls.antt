@@ -1,20 +1,21 @@
 -- From the plan to what the calls answer: one law for each way in which a call ends.
-use Prim.Native.Nat.{ℕ, _*_, _≤_, _<_}
+use Prim.Native.Nat.{ℕ, _≤_, _<_}
 use mathlib.Core.Path.{_≡_, refl, sym, ap, _∙_}
 use mathlib.Core.List.{List}
 use native.Mathlib.Omega.{arith}
 use lib.ListN.{length}
 use Rattle.answer.specs.Outcome.{Outcome, given, refused, andThen}
-use Rattle.answer.specs.Lent.{heldIn, counted, Filled}
-use Rattle.answer.specs.Writing.{Room, Wrote, joined}
-use Rattle.answer.proofs.Lent.{held, not-held, filled-refused, filled-given}
+use Rattle.answer.specs.Lent.{heldIn, counted, written, Filled}
+use Rattle.answer.proofs.Lent.{held, not-held, filled-refused}
+use Rattle.pergen.specs.declared.euclid.Solved.{Solved}
+use Rattle.pergen.specs.Parts.{solvedOf}
 use Rattle.layout.specs.declared.IsomorphicLayout.{IsomorphicLayout}
 use Rattle.layout.specs.Layouts.{Layout, layoutOutcome}
 use Rattle.layout.specs.Answers.{inRoom}
 use Rattle.layout.proofs.Calls.{of-refused, of-given, parts-of, filled-as, refused-in-room}
 use Rattle.layout_layers.specs.declared.parts.Plan.{Plan}
 use Rattle.layout_layers.specs.Answers.{getLayers, getLayerCount, getLayer}
-use Rattle.layout_layers.specs.Parts.{PlanOf, planNumber, turnNumbers, turnsOf, planLayers, layersOfPlan}
+use Rattle.layout_layers.specs.Parts.{PlanOf, inverseOf, planNumber, totalOf, Fronted, planLayers}
 use Rattle.layout_layers.proofs.PlanLaws.{number-is, count-is, layers-are}
 
 abbrev asked : IsomorphicLayout → Outcome Layout
@@ -41,13 +42,17 @@ module _ (r : IsomorphicLayout) (l : Layout) (e : given l ≡ asked r) (p : Plan
   unfolding getLayers
   layers-given = ap given (layers-are (r .genchain) (r .octave) l p k (parts-of r l e .positive)) ∙ of-given r _ l e
 
-  pub count-given : (T : ℕ) → T ≡ layersOfPlan p * p .solved .«num_cycles» → given T ≡ getLayerCount r
+  pub count-given : (T : ℕ) → T ≡ totalOf p → given T ≡ getLayerCount r
   unfolding getLayerCount
   count-given T q = ap given (q ∙ count-is (r .genchain) (r .octave) l p k) ∙ of-given r _ l e
 
   pub layer-given : (key j : ℕ) → j ≡ planNumber p key → given j ≡ getLayer r key
   unfolding getLayer
   layer-given key j q = ap given (q ∙ number-is (r .genchain) (r .octave) l p k key) ∙ of-given r _ l e
+
+  pub inverse-given : (s : Solved) → s ≡ solvedOf (r .octave) (l .generator) → s .«generator_inverse» ≡ inverseOf (p .chain)
+  unfolding solvedOf
+  inverse-given s q = ap (λ (x : Solved). x .«generator_inverse») q ∙ sym (k .inverse-is)
 
   pub length-given : (m : ℕ) → m ≡ length (planLayers p) → given m ≡ counted (getLayers r)
   length-given m q = ap given q ∙ ap counted layers-given
@@ -64,9 +69,10 @@ module _ (text xs : List ℕ) (n : ℕ) (is : n ≡ length text) where
   pub text-room : n ≤ length xs → length text ≤ length xs
   text-room h = omega arith
 
-  pub text-held : n ≤ length xs → {ys : List ℕ} {next : ℕ} → Wrote xs 0 text ys next → Filled (heldIn (length xs) text) (given n) xs ys
-  text-held h w = filled-given (held (length xs) text (text-room h)) (ap given is) (text-room h) w
-
--- the scale degrees of a plan have the room that its entries have
-pub turns-room : (p : Plan) (xs : List ℕ) (turns n : ℕ) → turns ≡ turnsOf p → n ≡ length (planLayers p) → n ≤ length xs → Room xs 0 (joined (turnNumbers p) turns)
-turns-room p xs turns n e is h = omega (arith, ap (λ (k : ℕ). length (joined (turnNumbers p) k)) e)
+  pub text-held : n ≤ length xs → {ys : List ℕ} → Fronted text xs ys → Filled (heldIn (length xs) text) (given n) xs ys
+  text-held h f =
+      let e = held (length xs) text (text-room h) in
+      record {
+        answered = ap given is ∙ sym (ap counted e);
+        content = f ∙ sym (ap (λ (o : Outcome (List ℕ)). written o xs) e);
+      }

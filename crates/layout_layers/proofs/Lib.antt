@@ -1,5 +1,7 @@
 pub mod RunPlaces
-pub mod BandLaws
+pub mod SpreadLaws
+pub mod ChainLaws
+pub mod Advance
 pub mod PlanLaws
 pub mod Calls
 pub mod Theorems

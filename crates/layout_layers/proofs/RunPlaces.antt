@@ -1,19 +1,22 @@
 -- The element at a place of the list of layers: in the run that holds the place, the place divided by the run's size.
 use Prim.Native.Nat.{ℕ, zero, suc, _+_, _*_, _-_, _/_, _≤_, _<_}
-use mathlib.Core.Path.{_≡_, refl, sym, ap, ap₂, subst, _∙_}
+use mathlib.Core.Path.{_≡_, refl, sym, ap, _∙_}
 use mathlib.Core.Bool.{Bool, true, false}
 use mathlib.Core.List.{List, [], _∷_, _++_}
-use native.Mathlib.Nat.{zero-add, add-zero, suc-mul, zero-mul, mul-comm, mul-zero, div-eq-of-lt, div-eq-sub-div, div-le-self, pos-of-ne-zero}
+use native.Mathlib.Nat.{zero-add, add-zero, suc-mul, zero-mul, mul-comm, div-eq-of-lt, div-eq-sub-div, div-le-self, pos-of-ne-zero}
 use native.Mathlib.Omega.{arith}
-use lib.ListN.{length, getD, replicate, length-append, length-replicate, getD-replicate, List·getD-append}
+use lib.ListN.{length, getD, replicate, length-replicate, getD-replicate, List·getD-append}
 use lib.Seq.{getD-append-add}
 use lib.Dec.{ltb}
 use borrow.Author.Tests.{ltb-true, ltb-false}
 use Rattle.answer.specs.Writing.{joined}
-use Rattle.answer.proofs.Joined.{joined-more, joined-add, joined-none}
+use Rattle.answer.proofs.Joined.{joined-more, joined-add, length-joined-le}
 use Rattle.layers.specs.Layers.{dropEmpty, numbered}
 use Rattle.layers.specs.Theorems.{sum}
-use Rattle.layers.proofs.Sizes.{sum-append, sum-replicate, sum-drop, sum-joined-more, drop-append, drop-all, few, numbered-append, length-numbered}
+use Rattle.layers.proofs.Sizes.{sum-append, sum-replicate, sum-drop, sum-joined-more, sum-joined-le, drop-append, drop-all, drop-joined, few, count-more, numbered-append, length-numbered}
+use Rattle.layers.specs.declared.Runs.{Runs}
+use Rattle.layers.specs.Parts.{runAt, runSizes}
+use Rattle.layout_layers.specs.Parts.{runLayer}
 
 -- ---- in a list of numbered layers
 
@@ -84,11 +87,7 @@ numbered-met j (suc size ∷ zs) (suc a) h =
 -- ---- after i runs
 
 module _ (f : ℕ → List ℕ) (i place left : ℕ) (passed : place ≡ left + sum (joined f i)) where
-  -- the place is past the next run too
-  pub run-passed : sum (f i) ≤ left → place ≡ left - sum (f i) + sum (joined f (i + 1))
-  run-passed h = omega (arith, sum-joined-more f i)
-
-  -- or it is in the next run
+  -- the place is in the next run
   pub run-holds : (count : ℕ) → i < count → left < sum (f i)
       → getD (numbered 0 (dropEmpty (joined f count))) place 0 ≡ getD (numbered (length (dropEmpty (joined f i))) (dropEmpty (f i))) left 0
   run-holds count h l =
@@ -129,3 +128,66 @@ module _ (f : ℕ → List ℕ) (i place left times size number : ℕ) (is : f i
   -- no more layers than places
   pub run-small : number + left / size ≤ place
   run-small = omega (arith, few (joined f i), div-le-self left size)
+
+-- ---- in eight runs
+
+module _ (runs : Runs) where
+  abbrev runOf : ℕ → List ℕ
+  runOf = runAt (runs .sizes) (runs .times)
+
+  module _ (i : ℕ) (h : i < 8) where
+    abbrev size : ℕ
+    size = getD (runs .sizes) i 0
+
+    abbrev times : ℕ
+    times = getD (runs .times) i 0
+
+    -- the run is within the whole
+    pub run-within : sum (joined runOf i) + times * size ≤ sum (runSizes runs)
+    run-within = omega (arith, sum-joined-more runOf i, sum-joined-le runOf (i + 1) 8 (omega arith), sum-replicate times size)
+
+    pub run-span : sum (joined runOf (i + 1)) ≡ sum (joined runOf i) + times * size
+    run-span = omega (arith, sum-joined-more runOf i, sum-replicate times size)
+
+    pub span-fits : sum (runSizes runs) ≤ 65535 → size * times ≤ 65535
+    span-fits b = omega (arith, run-within, mul-comm times size)
+
+    -- its layers are among all
+    pub layers-within : length (dropEmpty (joined runOf i)) + length (dropEmpty (replicate times size)) ≤ length (dropEmpty (runSizes runs))
+    layers-within =
+        omega (
+          arith,
+          count-more runOf i {count = length (dropEmpty (joined runOf i))} {run = length (dropEmpty (replicate times size))} refl refl,
+          ap length (drop-joined runOf (i + 1)),
+          ap length (drop-joined runOf 8),
+          length-joined-le (λ k. dropEmpty (runOf k)) (i + 1) 8 (omega arith),
+        )
+
+    pub count-within : (first more : ℕ) → first ≡ length (dropEmpty (joined runOf i)) → more ≡ length (dropEmpty (replicate times size)) → first + more ≤ sum (runSizes runs)
+    count-within first more e q = omega (arith, layers-within, few (runSizes runs))
+
+    module _ (place left first : ℕ) (passed : place ≡ left + sum (joined runOf i)) (counted : first ≡ length (dropEmpty (joined runOf i))) where
+      -- a place of this run
+      module _ (inside : left < size * times) where
+        pub here-size : 0 < size
+        here-size = run-size runOf i place left times size first refl passed counted inside
+
+        pub here-small : first + left / size ≤ place
+        here-small = run-small runOf i place left times size first refl passed counted inside
+
+        pub here-found : first + left / size ≡ runLayer runs place
+        unfolding runLayer
+        here-found = run-found runOf i place left times size first refl passed counted inside 8 h
+
+      -- a place behind it
+      pub past-run : size * times ≤ left → place ≡ left - size * times + sum (joined runOf (i + 1))
+      past-run b = omega (arith, run-span, mul-comm times size)
+
+      pub past-count : (more : ℕ) → more ≡ length (dropEmpty (replicate times size)) → first + more ≡ length (dropEmpty (joined runOf (i + 1)))
+      past-count more e = count-more runOf i counted e
+
+  -- no place is behind all runs
+  pub none-behind : (place left i : ℕ) → place ≡ left + sum (joined runOf i) → place < sum (runSizes runs) → i ≤ 8 → 8 ≤ i → ⊥
+  none-behind place left i passed on a b =
+      let e : i ≡ 8 = omega arith in
+      omega (arith, ap (λ (k : ℕ). sum (joined runOf k)) e)

@@ -1,58 +1,122 @@
 -- What the parts behind the calls promise: the definitions of KeyLayers, by the numbers that the code carries.
-use Prim.Native.Nat.{ℕ, _+_, _*_, _/_, _%_, _≤_, _<_}
+use Prim.Native.Nat.{ℕ, _+_, _*_, _-_, _/_, _%_, _≤_, _<_}
 use mathlib.Core.Path.{_≡_}
-use mathlib.Core.List.{List, [], _∷_}
-use lib.ListN.{length, getD}
+use mathlib.Core.List.{List, [], _∷_, _++_}
+use lib.ListN.{length, getD, drop}
 use Rattle.answer.specs.Writing.{joined}
 use Rattle.genchain.specs.Chains.{chainOf}
 use Rattle.mos.specs.Patterns.{pick, primaries, secondaries, primary, secondary, cyclesOf}
-use Rattle.pergen.specs.declared.euclid.Solved.{Solved}
-use Rattle.pergen.specs.Pergen.{cycles}
-use Rattle.pergen.specs.Parts.{solvedOf, Walkable}
+use Rattle.pergen.specs.Pergen.{cycles, reduced, inverse}
 use Rattle.layers.specs.declared.Runs.{Runs}
 use Rattle.layers.specs.Layers.{allSizes, dropEmpty, numbered}
-use Rattle.layers.specs.Parts.{runAt, runSizes}
+use Rattle.layers.specs.Parts.{runSizes}
 use Rattle.layers.specs.Theorems.{sum}
 use Rattle.layout.specs.Layouts.{Layout, lettersOf}
-use Rattle.layout_layers.specs.declared.parts.Bands.{Bands}
+use Rattle.layout_layers.specs.declared.chain.Chain.{Chain}
+use Rattle.layout_layers.specs.declared.chain.Spot.{Spot}
 use Rattle.layout_layers.specs.declared.parts.Plan.{Plan}
 use Rattle.layout_layers.specs.KeyLayers.{equalized, alternating}
+
+-- ---- the chain
+
+-- "The inverse" of document 01, from what the chain holds: how many places on the next scale degree is.
+unfoldable pub inverseOf : Chain → ℕ
+inverseOf c = inverse (c .«reduced_period») (c .advance)
+
+-- The place of scale degree `turn`: "(start + degree) mod R".
+unfoldable pub placeOf : Chain → ℕ → ℕ
+placeOf c turn = (c .start + inverseOf c * turn % c .«reduced_period») % c .«reduced_period»
+
+-- How many keys the octave has.
+abbrev pub keysOf : Chain → ℕ
+keysOf c = c .«reduced_period» * c .«num_cycles»
+
+-- A chain that can be walked: one place on is one advance on.
+pub record Unbroken (c : Chain) : Type 0 where
+  pub some-cycles : 0 < c .«num_cycles»
+  pub start-below : c .start < c .«reduced_period»
+  pub advance-below : c .advance < c .«reduced_period»
+  pub one : inverseOf c * c .advance % c .«reduced_period» ≡ 1 % c .«reduced_period»
+
+-- A spot of the walk holds the scale degree of its place; behind the last place comes the first again.
+pub record SpotAt (c : Chain) (s : Spot) : Type 0 where
+  pub turn-below : s .turn < c .«reduced_period»
+  pub leads : placeOf c (s .turn) ≡ s .place % c .«reduced_period»
+
+-- ---- stores that are not in a row
+
+-- The elements that `Told` tells of hold what `element` says; all others are as before.
+pub record Spread (Told : ℕ → Type 0) (element : ℕ → ℕ) (before after : List ℕ) : Type 0 where
+  pub kept : length after ≡ length before
+  pub stored : (i : ℕ) → Told i → getD after i 0 ≡ element i
+  pub same : (i : ℕ) → (Told i → ⊥) → getD after i 0 ≡ getD before i 0
+
+-- The keys of one scale degree, of n cycles.
+abbrev pub InTurn : (n turn : ℕ) → ℕ → Type 0
+InTurn n turn i = i / n ≡ turn
+
+-- The keys of the scale degrees below `turns`.
+abbrev pub InTurns : (n turns : ℕ) → ℕ → Type 0
+InTurns n turns i = i / n < turns
+
+-- The keys whose places on the chain are p and more, and below q.
+abbrev pub OnChain : Chain → (p q : ℕ) → ℕ → Type 0
+OnChain c p q i =
+    (i / c .«num_cycles» < c .«reduced_period») × (p ≤ placeOf c (i / c .«num_cycles»)) × (placeOf c (i / c .«num_cycles») < q)
+
+-- From one spot to another `count` places on, the keys between have their elements.
+pub record Walk (c : Chain) (from to : Spot) (count : ℕ) (element : ℕ → ℕ) (before after : List ℕ) : Type 0 where
+  pub spread : Spread (OnChain c (from .place) (from .place + count)) element before after
+  pub arrived : SpotAt c to
+  pub place-is : to .place ≡ from .place + count
+
+-- Where a walk may go on: `count` more places are on the chain, and all keys in the slice.
+pub record Ahead (c : Chain) (s : Spot) (count : ℕ) (out : List ℕ) : Type 0 where
+  pub unbroken : Unbroken c
+  pub at : SpotAt c s
+  pub on-chain : s .place + count ≤ c .«reduced_period»
+  pub held : keysOf c ≤ length out
+
+-- ---- layers on the chain
 
 -- The element at a place of the list of layers that eight runs make.
 unfoldable pub runLayer : Runs → ℕ → ℕ
 runLayer runs place = getD (numbered 0 (dropEmpty (runSizes runs))) place 0
 
--- Each run's place on the list of layers, and the number of its first layer.
-pub record BandsOf (runs : Runs) (bands : Bands) : Type 0 where
-  pub begins-are : (i : ℕ) → i < 8 → getD (bands .begins) i 0 ≡ sum (joined (runAt (runs .sizes) (runs .times)) i)
-  pub firsts-are : (i : ℕ) → i < 8 → getD (bands .firsts) i 0 ≡ length (dropEmpty (joined (runAt (runs .sizes) (runs .times)) i))
+-- Key i's number in a run of layers of one size that begins at a place with layer `first`.
+abbrev pub runNumber : (c : Chain) (place size first : ℕ) → ℕ → ℕ
+runNumber c place size first i =
+    (first + (placeOf c (i / c .«num_cycles») - place) / size) * c .«num_cycles» + i % c .«num_cycles»
 
--- The run r begins at a place or before it, and the next one behind it.
-pub record RunAt (begins : List ℕ) (place r : ℕ) : Type 0 where
-  pub below : r < 8
-  pub begun : getD begins r 0 ≤ place
-  pub next-behind : r + 1 < 8 → place < getD begins (r + 1) 0
+-- Key i's number, by the layer at its place.
+abbrev pub listedNumber : Runs → Chain → ℕ → ℕ
+listedNumber runs c i = runLayer runs (placeOf c (i / c .«num_cycles»)) * c .«num_cycles» + i % c .«num_cycles»
 
 -- How many layers of one cycle a plan has.
 abbrev pub layersOfPlan : Plan → ℕ
 layersOfPlan p = pick (p .equalized) 2 (length (dropEmpty (runSizes (p .runs))))
 
+-- How many numbers there are: document 01's T.
+abbrev pub totalOf : Plan → ℕ
+totalOf p = layersOfPlan p * p .chain .«num_cycles»
+
 -- A plan that can be followed: divisors are above 0, places are on the list, and the numbers fit 16 bits.
 pub record Sound (p : Plan) : Type 0 where
-  pub walkable : Walkable (p .solved)
-  pub start-below : p .start < p .solved .«reduced_period»
-  pub runs-fill : sum (runSizes (p .runs)) ≡ p .solved .«reduced_period»
+  pub unbroken : Unbroken (p .chain)
+  pub runs-fill : sum (runSizes (p .runs)) ≡ p .chain .«reduced_period»
   pub some-letters : 0 < p .letters
   pub few-secondaries : p .secondaries ≤ 9
   pub near-offset : p .offset ≤ 524280
-  pub layers-fit : layersOfPlan p * p .solved .«num_cycles» ≤ 65535
-  pub bands-are : BandsOf (p .runs) (p .bands)
+  pub layers-fit : totalOf p ≤ 65535
+  pub keys-fit : keysOf (p .chain) ≤ 65535
 
 -- The plan of a layout's layers.
 pub record PlanOf (code P : ℕ) (l : Layout) (p : Plan) : Type 0 where
   pub sound : Sound p
-  pub solved-is : p .solved ≡ solvedOf P (l .generator)
-  pub start-is : p .start ≡ chainOf code .start
+  pub cycles-are : p .chain .«num_cycles» ≡ cycles P (l .generator)
+  pub period-is : p .chain .«reduced_period» ≡ reduced P (l .generator)
+  pub inverse-is : inverseOf (p .chain) ≡ inverse P (l .generator)
+  pub start-is : p .chain .start ≡ chainOf code .start
   pub letters-are : p .letters ≡ lettersOf code
   pub secondaries-are : p .secondaries ≡ secondaries (l .pattern)
   pub offset-is : p .offset ≡ l .generator * chainOf code .start / cycles P (l .generator)
@@ -60,33 +124,28 @@ pub record PlanOf (code P : ℕ) (l : Layout) (p : Plan) : Type 0 where
   pub runs-are : runSizes (p .runs)
       ≡ allSizes (primaries (l .pattern)) (secondaries (l .pattern)) (primary (l .pattern) / cyclesOf (l .pattern)) (secondary (l .pattern) / cyclesOf (l .pattern))
 
--- The layer of scale degree `turn`, whose place on the chain is `degree` from the start.
-unfoldable pub planLayer : Plan → ℕ → ℕ → ℕ
-unfolding alternating runLayer
-planLayer p turn degree =
-    pick (p .equalized) (alternating (p .letters) (p .secondaries) (p .offset) turn)
-    (runLayer (p .runs) ((p .start + degree) % p .solved .«reduced_period»))
-
--- The same, from the scale degree alone.
-abbrev pub turnLayer : Plan → ℕ → ℕ
-turnLayer p turn = planLayer p turn (p .solved .«generator_inverse» * turn % p .solved .«reduced_period»)
+-- The layer of scale degree `turn`.
+unfoldable pub turnLayer : Plan → ℕ → ℕ
+unfolding alternating runLayer placeOf
+turnLayer p turn =
+    pick (p .equalized) (alternating (p .letters) (p .secondaries) (p .offset) turn) (runLayer (p .runs) (placeOf (p .chain) turn))
 
 -- Key i's number.
 abbrev pub planNumber : Plan → ℕ → ℕ
-planNumber p i = turnLayer p (i / p .solved .«num_cycles») * p .solved .«num_cycles» + i % p .solved .«num_cycles»
-
--- `count` numbers from `base` on.
-abbrev pub following : ℕ → ℕ → List ℕ
-following base count = joined (λ c. (base + c) ∷ []) count
-
--- The numbers of one scale degree, a number for each cycle.
-abbrev pub turnNumbers : Plan → ℕ → List ℕ
-turnNumbers p turn = following (turnLayer p turn * p .solved .«num_cycles») (p .solved .«num_cycles»)
+planNumber p i = turnLayer p (i / p .chain .«num_cycles») * p .chain .«num_cycles» + i % p .chain .«num_cycles»
 
 -- How many scale degrees the entries have.
 abbrev pub turnsOf : Plan → ℕ
-turnsOf p = pick (p .equalized) (2 * p .solved .«reduced_period») (p .solved .«reduced_period»)
+turnsOf p = pick (p .equalized) (2 * p .chain .«reduced_period») (p .chain .«reduced_period»)
+
+-- The elements of the keys below `count`.
+abbrev pub listed : (ℕ → ℕ) → ℕ → List ℕ
+listed element count = joined (λ i. element i ∷ []) count
+
+-- A text at the front of a slice whose other elements are as before.
+abbrev pub Fronted : List ℕ → List ℕ → List ℕ → Type 0
+Fronted text before after = after ≡ text ++ drop (length text) before
 
 -- All entries.
 abbrev pub planLayers : Plan → List ℕ
-planLayers p = joined (turnNumbers p) (turnsOf p)
+planLayers p = listed (planNumber p) (turnsOf p * p .chain .«num_cycles»)

@@ -3,13 +3,15 @@
 // Holds the layer number of each key, how many numbers there are, and what a number means: natural, sharp, enharmonic or
 // flat (document 01, "Step patterns", the last paragraph). A player colours the keys by them.
 // specs/: KeyLayers defines, Answers says what each call answers, Theorems and Examples state what holds.
-// `parts` holds the plan that whole-octave work goes by. Every public function here answers every input. Nothing is assumed.
+// `parts` holds the plan that whole-octave work goes by, `chain` the walk that it goes along. Every public function here answers every input. Nothing is assumed.
+pub mod chain;
 pub mod parts;
 
 use answer::CountAnswer;
 use answer::NumberAnswer;
 use layout::IsomorphicLayout;
 use layout::parts::FoundAnswer;
+use pergen::euclid;
 ghost use mathlib.Core.Path.{_≡_};
 ghost use lib.ListN.{length};
 ghost use Rattle.answer.specs.Lent.{counted, Filled};
@@ -68,10 +70,11 @@ pub fn get_layer(layout: IsomorphicLayout, key: u16) -> NumberAnswer
 {
     match layout::parts::search(layout) {
         FoundAnswer::Refused(q) => NumberAnswer::Refused(q),
-        FoundAnswer::Given(found) => NumberAnswer::Given(parts::number_of(
-            parts::plan_of(layout, found),
-            key,
-        )),
+        FoundAnswer::Given(found) => {
+            let solved = euclid::solve(layout.octave, found.generator);
+            let plan = parts::plan_of(layout, found);
+            NumberAnswer::Given(parts::number_of(plan, solved.generator_inverse, key))
+        }
     }
 }
 

@@ -1,22 +1,23 @@
 // The plan of a layout's layers: parts, and no entry points. Callers have asked questions 1 to 4, and 10 before they write.
 //
-// The keys go cycle by cycle: the layer is found once for all keys of a scale degree, and the degree is carried from one to the next.
+// The keys of a scale degree have one layer, and their numbers follow each other. Entries are written along the chain, layer by layer;
+// an equalized scale, whose layers alternate, is written degree by degree.
+use crate::chain;
+use crate::chain::Chain;
+use crate::chain::Spot;
 use answer::CountAnswer;
 use answer::Refusal;
 use genchain::rows;
 use layers::Runs;
+use layers::parts::divided;
 use layout::IsomorphicLayout;
 use layout::parts::Found;
-use pergen::euclid;
-use pergen::euclid::Solved;
-use pergen::stepping;
 ghost use mathlib.Core.Path.{_≡_};
+ghost use mathlib.Core.Bool.{true, false};
 ghost use Prim.Native.Nat.{_+_, _*_, _/_, _%_, _<_, _≤_};
-ghost use lib.ListN.{length, getD, replicate};
-ghost use Rattle.answer.specs.Writing.{Room, Wrote, joined};
+ghost use lib.ListN.{length, replicate};
 ghost use Rattle.answer.specs.Lent.{heldIn, Filled};
 ghost use Rattle.answer.specs.Refusals.{countOutcome};
-ghost use Rattle.mos.specs.Patterns.{pick};
 ghost use Rattle.layers.specs.Parts.{runSizes};
 ghost use Rattle.layers.specs.Theorems.{sum};
 ghost use Rattle.layers.specs.Layers.{dropEmpty};
@@ -24,33 +25,34 @@ ghost use Rattle.layout.specs.Layouts.{Accepted};
 ghost use Rattle.layout.specs.Parts.{layoutOf};
 ghost use Rattle.layout_layers.specs.KeyLayers.{alternating};
 ghost use Rattle.layout_layers.specs.Parts.{
-  BandsOf,
-  RunAt,
+  inverseOf,
+  placeOf,
+  keysOf,
+  Unbroken,
+  Spread,
+  InTurn,
+  InTurns,
+  Walk,
+  Ahead,
   runLayer,
-  layersOfPlan,
+  runNumber,
+  listedNumber,
+  totalOf,
   Sound,
   PlanOf,
-  planLayer,
+  turnLayer,
   planNumber,
-  following,
-  turnNumbers,
   turnsOf,
+  listed,
+  Fronted,
   planLayers,
 };
 
-// Where each run begins on the list of layers, and the number of its first layer.
-pub struct Bands {
-    pub begins: [u16; 8],
-    pub firsts: [u16; 8],
-}
-
 // What all keys of a layout have in common.
 pub struct Plan {
-    pub solved: Solved,
+    pub chain: Chain,
     pub runs: Runs,
-    pub bands: Bands,
     pub offset: u32,
-    pub start: u16,
     pub letters: u16,
     pub secondaries: u16,
     pub equalized: bool,
@@ -61,97 +63,53 @@ fn offset_of(generator: u16, start: u16, cycles: u16) -> u32
     requires { ⌜ (0 < cycles) × (start ≤ 8) ⌝ }
     ensures { λ r. ⌜ (r ≡ generator * start / cycles) × (r ≤ 524280) ⌝ }
 {
-    (generator as u32) * (start as u32) / (cycles as u32)
-}
-
-// How many layers a run has; none where they are empty.
-fn layers_in(size: u16, times: u16) -> u16
-    ensures { λ r. ⌜ r ≡ length (dropEmpty (replicate times size)) ⌝ }
-{
-    if size == 0 {
-        return 0;
+    let product = (generator as u32) * (start as u32);
+    if cycles == 1 {
+        return product;
     }
-    times
+    product / (cycles as u32)
 }
 
-// The bands of eight runs.
-fn bands_of(runs: Runs) -> Bands
-    requires { ⌜ sum (runSizes runs) ≤ 65535 ⌝ }
-    ensures { λ r. ⌜ BandsOf runs r ⌝ }
-{
-    let sizes = runs.sizes;
-    let times = runs.times;
-    let mut begins: [u16; 8] = [0, 0, 0, 0, 0, 0, 0, 0];
-    let mut firsts: [u16; 8] = [0, 0, 0, 0, 0, 0, 0, 0];
-    let mut begin: u16 = 0;
-    let mut first: u16 = 0;
-    let mut i: usize = 0;
-    while i < 8 {
-        let size = sizes[i];
-        let count = times[i];
-        begins[i] = begin;
-        firsts[i] = first;
-        begin += size * count;
-        first += layers_in(size, count);
-        i += 1;
-    }
-    Bands { begins, firsts }
-}
-
-// The plan of an accepted layout.
+// The plan of an accepted layout. The divisor of its pattern's steps is the number of cycles.
 pub fn plan_of(layout: IsomorphicLayout, found: Found) -> Plan
     requires { ⌜ Accepted (layout .genchain) (layout .octave) (layout .tritave) (layoutOf found) ⌝ }
     ensures { λ r. ⌜ PlanOf (layout .genchain) (layout .octave) (layoutOf found) r ⌝ }
 {
     let row = rows::row(layout.genchain);
-    let solved = euclid::solve(layout.octave, found.generator);
     let pattern = found.pattern;
-    let runs = layers::parts::runs_in(pattern);
-    let bands = bands_of(runs);
-    let offset = offset_of(found.generator, row.start, solved.num_cycles);
+    let num_cycles = math::gcd_u16(pattern.primary_step, pattern.secondary_step);
+    let runs = layers::parts::runs_over(pattern, num_cycles);
+    let reduced_period = divided(layout.octave, num_cycles);
+    let step = layout::parts::within_octave(layout.octave, found.generator);
+    let advance = divided(step, num_cycles);
+    let offset = offset_of(found.generator, row.start, num_cycles);
     Plan {
-        solved,
+        chain: Chain {
+            num_cycles,
+            reduced_period,
+            advance,
+            start: row.start,
+        },
         runs,
-        bands,
         offset,
-        start: row.start,
         letters: row.num_letters,
         secondaries: pattern.num_secondary_steps,
         equalized: pattern.primary_step == pattern.secondary_step,
     }
 }
 
-// The run that holds a place of the list: the last that begins there or before. Every run is looked at, so that nothing depends on
-// what the processor guesses.
-fn run_at(begins: [u16; 8], place: u16) -> usize
-    requires { ⌜ getD begins 0 0 ≡ 0 ⌝ }
-    ensures { λ r. ⌜ RunAt begins place r ⌝ }
+// How many layers a run has; none where they are empty.
+pub fn layers_in(size: u16, times: u16) -> u16
+    ensures { λ r. ⌜ r ≡ length (dropEmpty (replicate times size)) ⌝ }
 {
-    let mut run: usize = 0;
-    let mut i: usize = 1;
-    while i < 8 {
-        if begins[i] <= place {
-            run = i;
-        }
-        i += 1;
+    if 0 < size {
+        return times;
     }
-    run
-}
-
-// The layer at a place of the list: the place among the layers of its run.
-pub fn layer_at(runs: Runs, bands: Bands, place: u16) -> u16
-    requires { ⌜ BandsOf runs bands × (place < sum (runSizes runs)) ⌝ }
-    ensures { λ r. ⌜ r ≡ runLayer runs place ⌝ }
-{
-    let sizes = runs.sizes;
-    let begins = bands.begins;
-    let firsts = bands.firsts;
-    let run = run_at(begins, place);
-    firsts[run] + (place - begins[run]) / sizes[run]
+    0
 }
 
 // Which of two layers a scale degree has, in an equalized scale.
-fn alternate(letters: u16, secondaries: u16, offset: u32, turn: u32) -> u16
+pub fn alternate(letters: u16, secondaries: u16, offset: u32, turn: u32) -> u16
     requires { ⌜ (0 < letters) × (secondaries ≤ 9) × (offset ≤ 524280) × (turn ≤ 131070) ⌝ }
     ensures { λ r. ⌜ r ≡ alternating letters secondaries offset turn ⌝ }
 {
@@ -163,6 +121,30 @@ fn alternate(letters: u16, secondaries: u16, offset: u32, turn: u32) -> u16
         return 0;
     }
     1
+}
+
+// The layer at a place of the list: the place among the layers of its run.
+fn layer_at(runs: Runs, place: u16) -> u16
+    requires { ⌜ (place < sum (runSizes runs)) × (sum (runSizes runs) ≤ 65535) ⌝ }
+    ensures { λ r. ⌜ r ≡ runLayer runs place ⌝ }
+{
+    let sizes = runs.sizes;
+    let times = runs.times;
+    let mut left = place;
+    let mut first: u16 = 0;
+    let mut i: usize = 0;
+    while i < 8 {
+        let size = sizes[i];
+        let count = times[i];
+        let span = size * count;
+        if left < span {
+            return first + left / size;
+        }
+        left -= span;
+        first += layers_in(size, count);
+        i += 1;
+    }
+    first
 }
 
 // The place on the chain that a degree has, `start` places behind the first letter.
@@ -177,100 +159,148 @@ fn chain_place(start: u16, degree: u16, reduced_period: u16) -> u16
     degree - left
 }
 
-// The layer of a scale degree whose place on the chain is `degree` from the start.
-pub fn layer_of(plan: Plan, turn: u32, degree: u16) -> u16
-    requires { ⌜ Sound plan × (turn ≤ 131070) × (degree < plan .solved .«reduced_period») ⌝ }
-    ensures { λ r. ⌜ r ≡ planLayer plan turn degree ⌝ }
+// The layer of a scale degree.
+fn layer_of(plan: Plan, inverse: u16, turn: u16) -> u16
+    requires { ⌜ Sound plan × (inverse ≡ inverseOf (plan .chain)) ⌝ }
+    ensures { λ r. ⌜ r ≡ turnLayer plan turn ⌝ }
 {
     if plan.equalized {
-        return alternate(plan.letters, plan.secondaries, plan.offset, turn);
+        return alternate(plan.letters, plan.secondaries, plan.offset, turn as u32);
     }
-    let solved = plan.solved;
+    let chain = plan.chain;
     let runs = plan.runs;
-    let bands = plan.bands;
+    let degree = (inverse as u32) * (turn as u32) % (chain.reduced_period as u32);
     layer_at(
         runs,
-        bands,
-        chain_place(plan.start, degree, solved.reduced_period),
+        chain_place(chain.start, degree as u16, chain.reduced_period),
     )
 }
 
-// A key's number.
-pub fn number_of(plan: Plan, key: u16) -> u16
-    requires { ⌜ Sound plan ⌝ }
+// A key's number, with the inverse that no whole-octave work needs.
+pub fn number_of(plan: Plan, inverse: u16, key: u16) -> u16
+    requires { ⌜ Sound plan × (inverse ≡ inverseOf (plan .chain)) ⌝ }
     ensures { λ r. ⌜ r ≡ planNumber plan key ⌝ }
 {
-    let solved = plan.solved;
-    let turn = (key / solved.num_cycles) as u32;
-    let degree = (solved.generator_inverse as u32) * turn % (solved.reduced_period as u32);
-    let layer = layer_of(plan, turn, degree as u16);
-    layer * solved.num_cycles + key % solved.num_cycles
+    let chain = plan.chain;
+    let layer = layer_of(plan, inverse, key / chain.num_cycles);
+    layer * chain.num_cycles + key % chain.num_cycles
 }
 
 // How many numbers there are.
 pub fn total_of(plan: Plan) -> u16
     requires { ⌜ Sound plan ⌝ }
-    ensures { λ r. ⌜ r ≡ layersOfPlan plan * plan .solved .«num_cycles» ⌝ }
+    ensures { λ r. ⌜ r ≡ totalOf plan ⌝ }
 {
-    let solved = plan.solved;
+    let chain = plan.chain;
     if plan.equalized {
-        return 2 * solved.num_cycles;
+        return 2 * chain.num_cycles;
     }
     let runs = plan.runs;
-    (layers::parts::count_sizes(runs) * (solved.num_cycles as u32)) as u16
+    (layers::parts::count_sizes(runs) * (chain.num_cycles as u32)) as u16
 }
 
 // How many scale degrees the entries have.
 fn turns_of(plan: Plan) -> u32
     ensures { λ r. ⌜ (r ≡ turnsOf plan) × (r ≤ 131070) ⌝ }
 {
-    let solved = plan.solved;
+    let chain = plan.chain;
     if plan.equalized {
-        return 2 * (solved.reduced_period as u32);
+        return 2 * (chain.reduced_period as u32);
     }
-    solved.reduced_period as u32
+    chain.reduced_period as u32
 }
 
 // How many entries there are.
 pub fn entries(plan: Plan) -> usize
     ensures { λ r. ⌜ r ≡ length (planLayers plan) ⌝ }
 {
-    let solved = plan.solved;
-    (turns_of(plan) as usize) * (solved.num_cycles as usize)
+    let chain = plan.chain;
+    (turns_of(plan) as usize) * (chain.num_cycles as usize)
 }
 
-// As many numbers as `count` says, from `base` on; the place after the last.
-fn put_following(out: &mut [u16], at: usize, base: u16, count: u16) -> usize
-    requires { ⌜ Room (now out) at (following base count) × (base + count ≤ 65535) ⌝ }
-    ensures { λ r. ⌜ Wrote (now (out .entry)) at (following base count) (now (out .exit)) r ⌝ }
+// The numbers of one scale degree, a number for each cycle.
+fn put_turn(out: &mut [u16], cycles: u16, turn: u32, layer: u16)
+    requires { ⌜ (0 < cycles) × (turn * cycles + cycles ≤ length (now out)) × (layer * cycles + cycles ≤ 65535) ⌝ }
+    ensures { λ r. ⌜ Spread (InTurn cycles turn) (λ i. layer * cycles + i % cycles) (now (out .entry)) (now (out .exit)) ⌝ }
 {
-    let mut place = at;
+    if cycles == 1 {
+        out[turn as usize] = layer;
+        return;
+    }
+    let at = (turn as usize) * (cycles as usize);
+    let base = layer * cycles;
     let mut c: u16 = 0;
-    while c < count {
-        out[place] = base + c;
-        place += 1;
+    while c < cycles {
+        out[at + (c as usize)] = base + c;
         c += 1;
     }
-    place
 }
 
-// The numbers of the first scale degrees.
-fn put_turns(out: &mut [u16], plan: Plan, turns: u32) -> usize
-    requires { ⌜ Sound plan × (turns ≤ 131070) × Room (now out) 0 (joined (turnNumbers plan) turns) ⌝ }
-    ensures { λ r. ⌜ Wrote (now (out .entry)) 0 (joined (turnNumbers plan) turns) (now (out .exit)) r ⌝ }
+// One layer: its numbers, at as many places of the chain as its size says.
+fn put_layer(out: &mut [u16], chain: Chain, from: Spot, size: u16, layer: u16) -> Spot
+    requires { ⌜ Ahead chain from size (now out) × (layer * chain .«num_cycles» + chain .«num_cycles» ≤ 65535) ⌝ }
+    ensures { λ r. ⌜ Walk chain from r size (λ i. layer * chain .«num_cycles» + i % chain .«num_cycles») (now (out .entry)) (now (out .exit)) ⌝ }
 {
-    let solved = plan.solved;
-    let cycles = solved.num_cycles;
-    let mut at: usize = 0;
-    let mut degree: u16 = 0;
+    let mut spot = from;
+    let mut k: u16 = 0;
+    while k < size {
+        put_turn(out, chain.num_cycles, spot.turn, layer);
+        spot = chain::next_spot(chain, spot);
+        k += 1;
+    }
+    spot
+}
+
+// A run: as many layers of one size as `times` says, numbered from `first` on; none where they are empty.
+fn put_run(out: &mut [u16], chain: Chain, from: Spot, size: u16, times: u16, first: u16) -> Spot
+    requires { ⌜ Ahead chain from (times * size) (now out) × ((first + length (dropEmpty (replicate times size))) * chain .«num_cycles» ≤ 65535) ⌝ }
+    ensures { λ r. ⌜ Walk chain from r (times * size) (runNumber chain (from .place) size first) (now (out .entry)) (now (out .exit)) ⌝ }
+{
+    if size == 0 {
+        return from;
+    }
+    let mut spot = from;
+    let mut k: u16 = 0;
+    while k < times {
+        spot = put_layer(out, chain, spot, size, first + k);
+        k += 1;
+    }
+    spot
+}
+
+// All entries, along the chain.
+fn put_chain(out: &mut [u16], plan: Plan)
+    requires { ⌜ Sound plan × (plan .equalized ≡ false) × (keysOf (plan .chain) ≤ length (now out)) ⌝ }
+    ensures { λ r. ⌜ Spread (InTurns (plan .chain .«num_cycles») (plan .chain .«reduced_period»)) (listedNumber (plan .runs) (plan .chain)) (now (out .entry)) (now (out .exit)) ⌝ }
+{
+    let runs = plan.runs;
+    let sizes = runs.sizes;
+    let times = runs.times;
+    let chain = plan.chain;
+    let mut spot = chain::first_spot(chain);
+    let mut first: u16 = 0;
+    let mut i: usize = 0;
+    while i < 8 {
+        let size = sizes[i];
+        let count = times[i];
+        spot = put_run(out, chain, spot, size, count, first);
+        first += layers_in(size, count);
+        i += 1;
+    }
+}
+
+// The entries of the first scale degrees of an equalized scale.
+fn put_alternating(out: &mut [u16], plan: Plan, turns: u32)
+    requires { ⌜ Sound plan × (plan .equalized ≡ true) × (turns ≤ 131070) × (turns * plan .chain .«num_cycles» ≤ length (now out)) ⌝ }
+    ensures { λ r. ⌜ Spread (InTurns (plan .chain .«num_cycles») turns) (planNumber plan) (now (out .entry)) (now (out .exit)) ⌝ }
+{
+    let chain = plan.chain;
     let mut turn: u32 = 0;
     while turn < turns {
-        let layer = layer_of(plan, turn, degree);
-        at = put_following(out, at, layer * cycles, cycles);
-        degree = stepping::next_degree(solved, degree);
+        let layer = alternate(plan.letters, plan.secondaries, plan.offset, turn);
+        put_turn(out, chain.num_cycles, turn, layer);
         turn += 1;
     }
-    at
 }
 
 // All entries at the front of a slice that holds them (10).
@@ -282,6 +312,10 @@ pub fn write_layers(plan: Plan, out: &mut [u16]) -> CountAnswer
     if out.len() < count {
         return CountAnswer::Refused(Refusal::Room);
     }
-    put_turns(out, plan, turns_of(plan));
+    if plan.equalized {
+        put_alternating(out, plan, turns_of(plan));
+        return CountAnswer::Given(count);
+    }
+    put_chain(out, plan);
     CountAnswer::Given(count)
 }

@@ -1,10 +1,6 @@
 pub mod Sizes
 pub mod Descent
 pub mod Sequences
-pub mod Searches
-pub mod Listings
-pub mod Runs
-pub mod Leaping
 pub mod Passes
 pub mod CoprimeAnswers
 pub mod Keys

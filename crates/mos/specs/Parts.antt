@@ -1,14 +1,11 @@
 -- What the inner functions promise to the entry points.
-use Prim.Native.Nat.{ℕ, _+_, _≤_, _<_}
-use mathlib.Core.Path.{_≡_}
+use Prim.Native.Nat.{ℕ}
 use mathlib.Core.Bool.{Bool, true, false}
 use mathlib.Core.Option.{Option, none, some}
-use mathlib.Core.List.{List, _++_}
-use lib.ListN.{length, getD}
-use Rattle.answer.specs.Writing.{Wrote}
+use mathlib.Core.List.{List}
+use lib.ListN.{getD}
 use Rattle.mos.specs.declared.Mos.{Mos}
-use Rattle.mos.specs.Patterns.{mos, isPattern, stepsOf}
-use Rattle.mos.specs.Walks.{children, listed}
+use Rattle.mos.specs.Patterns.{mos}
 
 -- Is there one?
 abbrev pub isSome : Option Mos → Bool
@@ -23,17 +20,3 @@ readBack l = mos (getD l 0 0) (getD l 1 0) (getD l 2 0) (getD l 3 0)
 abbrev pub met : Bool → List ℕ → Option Mos
 met true l = some (readBack l)
 met false l = none
-
--- A walk from m has been listed up to a pattern `next` of it: `part` stands there, and with what is still to come it makes up the whole.
-pub record Listing (walk : Mos → List Mos) (left : Mos → ℕ) (m : Mos) (before : List ℕ) (at : ℕ) (next : Mos) (after : List ℕ) (place : ℕ) : Type 0 where
-  pub part : List ℕ
-  pub wrote : Wrote before at part after place
-  pub whole : part ++ listed (walk next) ≡ listed (walk m)
-  pub pattern : isPattern next ≡ true
-  pub falls : left next ≤ left m
-
--- `to` stands so many patterns after m on the walk of children, and its steps are shorter.
-pub record Leaps (m : Mos) (turns : ℕ) (to : Mos) : Type 0 where
-  pub counted : length (children m) ≡ length (children to) + turns
-  pub pattern : isPattern to ≡ true
-  pub falls : stepsOf to < stepsOf m

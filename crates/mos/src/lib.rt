@@ -1,21 +1,18 @@
 // Step patterns: the moment-of-symmetry scales of a period and a generator, after `Mos` of src/pergen.rs of the original.
 //
-// Holds the pattern with its child and parent, the walks (search, k-th child and parent, genesis, listings), sizes, sharpness,
-// cycles, `coprime` and keys (document 01, "Step patterns"). The modules hold the parts that the entry points are made of.
+// Holds the pattern with its child and parent, sizes, sharpness, cycles, `coprime` and keys (document 01, "Step patterns"). The
+// modules hold the parts that the entry points are made of. `walks` goes on to further children and parents, `listings` lists
+// them, `layers` has a pattern's layers.
 // Every entry point answers any four numbers; what is no pattern is refused (7).
-// specs/: Patterns, Walks and Coprime define, Answers says what each call answers, Theorems and Scale state what holds of
-// every pattern. Nothing is assumed; that the self calls of `walks` become loops is measured and not proved.
+// specs/: Patterns, Walks and Coprime define, Answers says what each call answers, here and in `walks` and `listings`, Theorems
+// and Scale state what holds of every pattern and every walk. Nothing is assumed.
 pub mod coprime;
 pub mod parts;
-pub mod walks;
 
-use answer::CountAnswer;
 use answer::NumberAnswer;
 use answer::Refusal;
 ghost use mathlib.Core.Path.{_≡_};
-ghost use lib.ListN.{length, getElem?};
-ghost use Rattle.answer.specs.Lent.{Filled};
-ghost use Rattle.answer.specs.Refusals.{numberOutcome, countOutcome};
+ghost use Rattle.answer.specs.Refusals.{numberOutcome};
 ghost use Rattle.mos.specs.Patterns.{
   collapsed,
   primaries,
@@ -33,13 +30,11 @@ ghost use Rattle.mos.specs.Patterns.{
   reducedSizeOf,
   keyAt,
 };
-ghost use Rattle.mos.specs.Walks.{children, parents, firstWith, genesisOf, listed};
 ghost use Rattle.mos.specs.Answers.{
   ofPattern,
   newOutcome,
   genesisOutcome,
   coprimeOutcome,
-  listingOutcome,
   mosOutcome,
   walkOutcome,
   totalOutcome,
@@ -156,126 +151,6 @@ impl Mos {
             return WalkAnswer::Nothing;
         }
         WalkAnswer::Refused(Refusal::Size)
-    }
-
-    // The first pattern of the walk of children with so many steps: as many as the chain has letters (7).
-    pub fn find_child(self, num_steps: u32) -> WalkAnswer
-        ensures { λ r. ⌜ walkOutcome r ≡ ofPattern self (firstWith «num_steps» (children self)) ⌝ }
-    {
-        if parts::is_pattern(self) {
-            let mut found: [u16; 4] = [0, 0, 0, 0];
-            if walks::seek(self, num_steps, &mut found) {
-                return WalkAnswer::Found(Mos {
-                    num_primary_steps: found[0],
-                    num_secondary_steps: found[1],
-                    primary_step: found[2],
-                    secondary_step: found[3],
-                });
-            }
-            return WalkAnswer::Nothing;
-        }
-        WalkAnswer::Refused(Refusal::Size)
-    }
-
-    // The k-th pattern of the walk of children, this one for 0 (7).
-    pub fn nth_child(self, k: u32) -> WalkAnswer
-        ensures { λ r. ⌜ walkOutcome r ≡ ofPattern self (getElem? (children self) k) ⌝ }
-    {
-        if parts::is_pattern(self) {
-            let mut found: [u16; 4] = [0, 0, 0, 0];
-            if walks::descend(self, k, &mut found) {
-                return WalkAnswer::Found(Mos {
-                    num_primary_steps: found[0],
-                    num_secondary_steps: found[1],
-                    primary_step: found[2],
-                    secondary_step: found[3],
-                });
-            }
-            return WalkAnswer::Nothing;
-        }
-        WalkAnswer::Refused(Refusal::Size)
-    }
-
-    // The k-th pattern of the walk of parents, this one for 0 (7).
-    pub fn nth_parent(self, k: u32) -> WalkAnswer
-        ensures { λ r. ⌜ walkOutcome r ≡ ofPattern self (getElem? (parents self) k) ⌝ }
-    {
-        if parts::is_pattern(self) {
-            let mut found: [u16; 4] = [0, 0, 0, 0];
-            if walks::ascend(self, k, &mut found) {
-                return WalkAnswer::Found(Mos {
-                    num_primary_steps: found[0],
-                    num_secondary_steps: found[1],
-                    primary_step: found[2],
-                    secondary_step: found[3],
-                });
-            }
-            return WalkAnswer::Nothing;
-        }
-        WalkAnswer::Refused(Refusal::Size)
-    }
-
-    // The pattern that this one's walk started from, which shows its generator (7).
-    pub fn genesis(self) -> MosAnswer
-        ensures { λ r. ⌜ mosOutcome r ≡ ofPattern self (genesisOf self) ⌝ }
-    {
-        if parts::is_pattern(self) {
-            let mut found: [u16; 4] = [0, 0, 0, 0];
-            walks::root(self, &mut found);
-            return MosAnswer::Given(Mos {
-                num_primary_steps: found[0],
-                num_secondary_steps: found[1],
-                primary_step: found[2],
-                secondary_step: found[3],
-            });
-        }
-        MosAnswer::Refused(Refusal::Size)
-    }
-
-    // How many numbers `children` writes (7).
-    pub fn children_len(self) -> CountAnswer
-        ensures { λ r. ⌜ countOutcome r ≡ ofPattern self (length (listed (children self))) ⌝ }
-    {
-        if parts::is_pattern(self) {
-            return CountAnswer::Given(walks::count_children(self) as usize * 4);
-        }
-        CountAnswer::Refused(Refusal::Size)
-    }
-
-    // How many numbers `parents` writes (7).
-    pub fn parents_len(self) -> CountAnswer
-        ensures { λ r. ⌜ countOutcome r ≡ ofPattern self (length (listed (parents self))) ⌝ }
-    {
-        if parts::is_pattern(self) {
-            return CountAnswer::Given(walks::count_parents(self) as usize * 4);
-        }
-        CountAnswer::Refused(Refusal::Size)
-    }
-
-    // All patterns of the walk of children, this one first, four numbers each: both counts, both steps (7, 10).
-    pub fn children(self, out: &mut [u16]) -> CountAnswer
-        ensures { λ r. ⌜ Filled (listingOutcome self (children self) (length (now (out .entry)))) (countOutcome r) (now (out .entry)) (now (out .exit)) ⌝ }
-    {
-        if parts::is_pattern(self) {
-            if walks::children_fit(self, out.len()) {
-                return CountAnswer::Given(walks::list_children(self, out, 0));
-            }
-            return CountAnswer::Refused(Refusal::Room);
-        }
-        CountAnswer::Refused(Refusal::Size)
-    }
-
-    // All patterns of the walk of parents, this one first, four numbers each: both counts, both steps (7, 10).
-    pub fn parents(self, out: &mut [u16]) -> CountAnswer
-        ensures { λ r. ⌜ Filled (listingOutcome self (parents self) (length (now (out .entry)))) (countOutcome r) (now (out .entry)) (now (out .exit)) ⌝ }
-    {
-        if parts::is_pattern(self) {
-            if walks::parents_fit(self, out.len()) {
-                return CountAnswer::Given(walks::list_parents(self, out, 0));
-            }
-            return CountAnswer::Refused(Refusal::Room);
-        }
-        CountAnswer::Refused(Refusal::Size)
     }
 
     // Counts and steps change places (7).

@@ -3,24 +3,11 @@
 // Parts, and no entry points: those with a `requires` ask for a pattern by question 7. An entry point first answers that question.
 use crate::Mos;
 ghost use mathlib.Core.Path.{_≡_};
-ghost use mathlib.Core.Bool.{true, _&&_};
+ghost use mathlib.Core.Bool.{true};
 ghost use mathlib.Core.Option.{some};
 ghost use Prim.Native.Nat.{_*_, _<_};
-ghost use lib.Dec.{ltb, leb};
-ghost use Rattle.mos.specs.Patterns.{
-  pick,
-  primaries,
-  secondaries,
-  primary,
-  secondary,
-  sizeOf,
-  isPattern,
-  countOf,
-  dualOf,
-  childOf,
-  parentOf,
-};
-ghost use Rattle.mos.specs.Parts.{isSome, Leaps};
+ghost use Rattle.mos.specs.Patterns.{sizeOf, isPattern, countOf, dualOf, childOf, parentOf};
+ghost use Rattle.mos.specs.Parts.{isSome};
 
 fn product(x: u16, y: u16) -> u64
     ensures { λ r. ⌜ (r ≡ x * y) × (r < 4294967296) ⌝ }
@@ -99,58 +86,6 @@ pub fn child_of(m: Mos) -> Mos
     }
 }
 
-// Is there a child, and does it shorten the primary step (else the secondary)?
-pub fn shortens(m: Mos, of_primary: bool) -> bool
-    ensures { λ r. ⌜ r ≡ (isSome (childOf m) && pick «of_primary» (ltb (secondary m) (primary m)) (leb (primary m) (secondary m))) ⌝ }
-{
-    if has_child(m) {
-        if of_primary {
-            return m.secondary_step < m.primary_step;
-        }
-        return m.primary_step <= m.secondary_step;
-    }
-    false
-}
-
-// So many patterns further on the walk of children.
-pub struct Leap {
-    pub turns: u16,
-    pub to: Mos,
-}
-
-// Over all children that shorten the same step.
-pub fn leap_from(m: Mos) -> Leap
-    requires { ⌜ (isPattern m ≡ true) × (isSome (childOf m) ≡ true) ⌝ }
-    ensures { λ r. ⌜ Leaps m (r .turns) (r .to) ⌝ }
-{
-    let a = m.num_primary_steps;
-    let b = m.num_secondary_steps;
-    let p = m.primary_step;
-    let s = m.secondary_step;
-    if s < p {
-        let turns = (p - 1) / s;
-        return Leap {
-            turns,
-            to: Mos {
-                num_primary_steps: a,
-                num_secondary_steps: b + turns * a,
-                primary_step: p - turns * s,
-                secondary_step: s,
-            },
-        };
-    }
-    let turns = (s - 1) / p;
-    Leap {
-        turns,
-        to: Mos {
-            num_primary_steps: a + turns * b,
-            num_secondary_steps: b,
-            primary_step: p,
-            secondary_step: s - turns * p,
-        },
-    }
-}
-
 // Is there a parent?
 pub fn has_parent(m: Mos) -> bool
     ensures { λ r. ⌜ r ≡ isSome (parentOf m) ⌝ }
@@ -164,11 +99,4 @@ pub fn parent_of(m: Mos) -> Mos
     ensures { λ r. ⌜ parentOf m ≡ some r ⌝ }
 {
     dual_of(child_of(dual_of(m)))
-}
-
-// Is there a parent, and does it take from the primary count (else the secondary)?
-pub fn lessens(m: Mos, of_primary: bool) -> bool
-    ensures { λ r. ⌜ r ≡ (isSome (parentOf m) && pick «of_primary» (ltb (secondaries m) (primaries m)) (leb (primaries m) (secondaries m))) ⌝ }
-{
-    shortens(dual_of(m), of_primary)
 }

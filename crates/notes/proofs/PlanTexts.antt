@@ -2,7 +2,7 @@
 use Prim.Native.Nat.{ℕ, _+_, _≤_, _<_}
 use mathlib.Core.Path.{_≡_, refl, sym, ap, _∙_, subst}
 use mathlib.Core.Bool.{Bool, true, false}
-use mathlib.Core.List.{List, [], _∷_, _++_}
+use mathlib.Core.List.{List, [], _∷_, _++_, append-nil}
 use native.Mathlib.Omega.{arith}
 use lib.ListN.{length, replicate}
 use Rattle.pergen.specs.Spelling.{starsOf, sharpSpelling, flatSpelling}
@@ -10,49 +10,54 @@ use Rattle.pergen.specs.declared.Cycle.{Cycle}
 use Rattle.pergen.specs.declared.Cycle.the-variants.{Absent, Number}
 use Rattle.pergen.specs.declared.Accidentals.{Accidentals}
 use Rattle.pergen.specs.declared.Spelling.{Spelling}
-use Rattle.notes.specs.Names.{pickText, letterText, letterAt, spellingText, letterAlone, inOrder, printed, inParentheses, spellingsText, nameText}
-use Rattle.notes.specs.Parts.{markText, twoText, bracketedText, bodyText, planText, sharpMark, flatMark, isPresent, onePlan, twoPlan, ShortLetters, Planned}
+use Rattle.notes.specs.Names.{pickText, letterText, letterAt, sharpSign, flatSign, spellingText, letterAlone, inOrder, printed, inParentheses, spellingsText, nameText}
+use Rattle.notes.specs.Parts.{markText, twoText, parenthesisText, bracketedText, bodyText, starredText, planText, marked, isPresent, onePlan, twoPlan, LettersOf, ShortLetters, Planned}
 use Rattle.notes.specs.declared.plans.Mark.{Mark}
 use Rattle.notes.specs.declared.plans.NamePlan.{NamePlan}
 use Rattle.notes.proofs.Printing.{printed-alone, printed-sharp, printed-flat, printed-both}
 
-parentheses : (c : Cycle) (text : List ℕ) → pickText (isPresent c) ((40 ∷ []) ++ text ++ (41 ∷ [])) text ≡ inParentheses c text
-parentheses Absent text = refl
+parentheses : (c : Cycle) (text : List ℕ) → parenthesisText (isPresent c) 40 ++ text ++ parenthesisText (isPresent c) 41 ≡ inParentheses c text
+parentheses Absent text = append-nil text
 parentheses (Number n) text = refl
 
 module _ (letters : List ℕ) (sf : Bool) (a : Accidentals) (stars : ℕ) (is-stars : stars ≡ starsOf (a .cycle)) where
   one-text : (m other : Mark) (s : Spelling) → printed sf a ≡ s ∷ [] → markText m ≡ spellingText letters sf s
       → planText (onePlan m other stars) ≡ nameText letters sf a
-  unfolding planText bodyText nameText
+  unfolding planText starredText bodyText nameText
   one-text m other s p e = rw (p, e, is-stars)
 
   two-text : (m n : Mark) (b : Bool) (s t : Spelling) → b ≡ isPresent (a .cycle) → printed sf a ≡ s ∷ t ∷ []
       → markText m ≡ spellingText letters sf s → markText n ≡ spellingText letters sf t
       → planText (twoPlan m n b stars) ≡ nameText letters sf a
-  unfolding planText bodyText bracketedText twoText nameText
+  unfolding planText starredText bodyText bracketedText twoText nameText
   two-text m n b s t k p e f =
       rw (p, e, f, is-stars, k)
       (ap (λ (x : List ℕ). x ++ replicate (starsOf (a .cycle)) 42)
       (parentheses (a .cycle) (spellingText letters sf s ++ (47 ∷ []) ++ spellingText letters sf t)))
 
-  module _ (sharp flat : Mark)
-      (is-sharp : (sharp ≡ sharpMark letters sf (a .«sharp_index») (a .«sharp_count»)) × (sharp .letter < 2048))
-      (is-flat : (flat ≡ flatMark letters sf (a .«flat_index») (a .«flat_count»)) × (flat .letter < 2048)) where
+  module _ (u v : ℕ) (short : (u < 2048) × (v < 2048)) (sharp flat : Mark)
+      (is-sharp : sharp ≡ marked u (sharpSign sf) (a .«sharp_count»))
+      (is-flat : flat ≡ marked v (flatSign sf) (a .«flat_count»))
+      (at : LettersOf letters a u v) where
     sharp-text : markText sharp ≡ spellingText letters sf (sharpSpelling a)
-    unfolding markText sharpMark spellingText sharpSpelling
-    sharp-text = ap markText (is-sharp .0)
+    unfolding markText spellingText sharpSpelling
+    sharp-text = ap markText (is-sharp ∙ ap (λ (x : ℕ). marked x (sharpSign sf) (a .«sharp_count»)) (at .sharp-is))
 
     flat-text : markText flat ≡ spellingText letters sf (flatSpelling a)
-    unfolding markText flatMark spellingText flatSpelling
-    flat-text = ap markText (is-flat .0)
+    unfolding markText spellingText flatSpelling
+    flat-text = ap markText (is-flat ∙ ap (λ (x : ℕ). marked x (flatSign sf) (a .«flat_count»)) (at .flat-is))
 
     sharp-signs : sharp .count ≡ a .«sharp_count»
-    unfolding sharpMark
-    sharp-signs = ap (λ (m : Mark). m .count) (is-sharp .0)
+    sharp-signs = ap (λ (m : Mark). m .count) is-sharp
 
     flat-signs : flat .count ≡ a .«flat_count»
-    unfolding flatMark
-    flat-signs = ap (λ (m : Mark). m .count) (is-flat .0)
+    flat-signs = ap (λ (m : Mark). m .count) is-flat
+
+    sharp-short : sharp .letter < 2048
+    sharp-short = rw is-sharp (short .0)
+
+    flat-short : flat .letter < 2048
+    flat-short = rw is-flat (short .1)
 
     -- sharp and flat, in this order
     sharp-then-flat : (both bracketed : Bool) (p : NamePlan)
@@ -63,7 +68,7 @@ module _ (letters : List ℕ) (sf : Bool) (a : Accidentals) (stars : ℕ) (is-st
         rw e
         (record {
           text = t;
-          short = record { first = is-sharp .1; second = is-flat .1 };
+          short = record { first = sharp-short; second = flat-short };
           signs = omega (arith, sharp-signs, flat-signs);
           stars = is-stars;
         })
@@ -76,7 +81,7 @@ module _ (letters : List ℕ) (sf : Bool) (a : Accidentals) (stars : ℕ) (is-st
         rw e
         (record {
           text = t;
-          short = record { first = is-flat .1; second = is-sharp .1 };
+          short = record { first = flat-short; second = sharp-short };
           signs = omega (arith, sharp-signs, flat-signs);
           stars = is-stars;
         })

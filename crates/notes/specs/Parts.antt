@@ -8,7 +8,7 @@ use Rattle.pergen.specs.Spelling.{starsOf}
 use Rattle.pergen.specs.declared.Cycle.{Cycle}
 use Rattle.pergen.specs.declared.Cycle.the-variants.{Absent, Number}
 use Rattle.pergen.specs.declared.Accidentals.{Accidentals}
-use Rattle.notes.specs.Names.{pickText, letterText, letterAt, sharpSign, flatSign, nameText}
+use Rattle.notes.specs.Names.{pickText, letterText, letterAt, nameText}
 use Rattle.notes.specs.declared.plans.Mark.{Mark}
 use Rattle.notes.specs.declared.plans.NamePlan.{NamePlan}
 
@@ -20,24 +20,27 @@ markText m = letterText (m .letter) ++ replicate (m .count) (m .sign)
 unfoldable pub twoText : NamePlan → List ℕ
 twoText p = markText (p .first) ++ (47 ∷ []) ++ markText (p .second)
 
+-- 40 is (, 41 is )
+abbrev pub parenthesisText : Bool → ℕ → List ℕ
+parenthesisText wanted byte = pickText wanted (byte ∷ []) []
+
 unfoldable pub bracketedText : NamePlan → List ℕ
-bracketedText p = (40 ∷ []) ++ twoText p ++ (41 ∷ [])
+bracketedText p = parenthesisText (p .bracketed) 40 ++ twoText p ++ parenthesisText (p .bracketed) 41
 
 unfoldable pub bodyText : NamePlan → List ℕ
-bodyText p = pickText (p .both) (pickText (p .bracketed) (bracketedText p) (twoText p)) (markText (p .first))
+bodyText p = pickText (p .both) (bracketedText p) (markText (p .first))
+
+-- With so many stars as a cycle asks for, and with the plan's own.
+unfoldable pub starredText : NamePlan → ℕ → List ℕ
+starredText p stars = bodyText p ++ replicate stars 42
 
 unfoldable pub planText : NamePlan → List ℕ
-planText p = bodyText p ++ replicate (p .stars) 42
+planText p = starredText p (p .stars)
 
 -- ---- the two spellings as marks
 
-unfoldable pub sharpMark : List ℕ → Bool → ℕ → ℕ → Mark
-sharpMark letters sharpFirst index count =
-    record { letter = letterAt letters index; sign = sharpSign sharpFirst; count = count }
-
-unfoldable pub flatMark : List ℕ → Bool → ℕ → ℕ → Mark
-flatMark letters sharpFirst index count =
-    record { letter = letterAt letters index; sign = flatSign sharpFirst; count = count }
+abbrev pub marked : ℕ → ℕ → ℕ → Mark
+marked letter sign count = record { letter = letter; sign = sign; count = count }
 
 -- A cycle is present.
 abbrev pub isPresent : Cycle → Bool
@@ -58,6 +61,11 @@ twoPlan first second bracketed stars =
 pub record ShortLetters (p : NamePlan) : Type 0 where
   pub first : p .first .letter < 2048
   pub second : p .second .letter < 2048
+
+-- The letters at the two indices.
+pub record LettersOf (letters : List ℕ) (a : Accidentals) (sharp flat : ℕ) : Type 0 where
+  pub sharp-is : sharp ≡ letterAt letters (a .«sharp_index»)
+  pub flat-is : flat ≡ letterAt letters (a .«flat_index»)
 
 -- A plan whose text is the name, with all signs and stars of the accidentals, printed or not.
 pub record Planned (letters : List ℕ) (sharpFirst : Bool) (a : Accidentals) (p : NamePlan) : Type 0 where

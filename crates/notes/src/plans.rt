@@ -4,16 +4,17 @@ use genchain::rows::ChainRow;
 use pergen::Accidentals;
 use pergen::Cycle;
 ghost use mathlib.Core.Path.{_≡_};
-ghost use Prim.Native.Nat.{_≤_, _<_};
+ghost use Prim.Native.Nat.{ℕ, _≤_, _<_};
+ghost use mathlib.Core.List.{List};
 ghost use lib.ListN.{length};
 ghost use Rattle.genchain.specs.Chains.{TableRow, lettersIn};
-ghost use Rattle.notes.specs.Names.{letterText, letterAt, letterAlone};
+ghost use Rattle.notes.specs.Names.{letterText, letterAt, letterAlone, sharpSign, flatSign};
 ghost use Rattle.notes.specs.Parts.{
-  sharpMark,
-  flatMark,
+  marked,
   isPresent,
   onePlan,
   twoPlan,
+  LettersOf,
   Planned,
   Measured,
   MarkMeasured,
@@ -49,11 +50,9 @@ fn letter_at(row: ChainRow, index: u16) -> u16
 }
 
 // The spelling with sharps.
-fn sharp_mark(row: ChainRow, index: u16, count: u16, sharp_first: bool) -> Mark
-    requires { ⌜ TableRow row ⌝ }
-    ensures { λ r. ⌜ (r ≡ sharpMark (lettersIn row) «sharp_first» index count) × (r .letter < 2048) ⌝ }
+fn sharp_mark(letter: u16, count: u16, sharp_first: bool) -> Mark
+    ensures { λ r. ⌜ r ≡ marked letter (sharpSign «sharp_first») count ⌝ }
 {
-    let letter = letter_at(row, index);
     if sharp_first {
         return Mark {
             letter,
@@ -69,11 +68,9 @@ fn sharp_mark(row: ChainRow, index: u16, count: u16, sharp_first: bool) -> Mark
 }
 
 // The spelling with flats.
-fn flat_mark(row: ChainRow, index: u16, count: u16, sharp_first: bool) -> Mark
-    requires { ⌜ TableRow row ⌝ }
-    ensures { λ r. ⌜ (r ≡ flatMark (lettersIn row) «sharp_first» index count) × (r .letter < 2048) ⌝ }
+fn flat_mark(letter: u16, count: u16, sharp_first: bool) -> Mark
+    ensures { λ r. ⌜ r ≡ marked letter (flatSign «sharp_first») count ⌝ }
 {
-    let letter = letter_at(row, index);
     if sharp_first {
         return Mark {
             letter,
@@ -137,15 +134,20 @@ fn two(first: Mark, second: Mark, bracketed: bool, stars: u16) -> NamePlan
     }
 }
 
-// The plan of a key's name. Where one spelling is printed, the other stands second.
-pub fn plan_name(row: ChainRow, accidentals: Accidentals, sharp_first: bool) -> NamePlan
-    requires { ⌜ TableRow row ⌝ }
-    ensures { λ r. ⌜ Planned (lettersIn row) «sharp_first» accidentals r ⌝ }
+// The plan of a key's name, by the letters at its two indices. Where one spelling is printed, the other stands second.
+pub fn plan_letters(
+    sharp_letter: u16,
+    flat_letter: u16,
+    accidentals: Accidentals,
+    sharp_first: bool,
+) -> NamePlan
+    requires { ⌜ («sharp_letter» < 2048) × («flat_letter» < 2048) ⌝ }
+    ensures { λ r. ⌜ ((letters : List ℕ) → LettersOf letters accidentals «sharp_letter» «flat_letter» → Planned letters «sharp_first» accidentals r) ⌝ }
 {
     let sharps = accidentals.sharp_count;
     let flats = accidentals.flat_count;
-    let sharp = sharp_mark(row, accidentals.sharp_index, sharps, sharp_first);
-    let flat = flat_mark(row, accidentals.flat_index, flats, sharp_first);
+    let sharp = sharp_mark(sharp_letter, sharps, sharp_first);
+    let flat = flat_mark(flat_letter, flats, sharp_first);
     let cycle = accidentals.cycle;
     let bracketed = is_present(cycle);
     let stars = cycle.stars();
@@ -165,7 +167,18 @@ pub fn plan_name(row: ChainRow, accidentals: Accidentals, sharp_first: bool) -> 
     two(flat, sharp, bracketed, stars)
 }
 
-fn letter_length(letter: u16) -> usize
+// The plan of a key's name.
+pub fn plan_name(row: ChainRow, accidentals: Accidentals, sharp_first: bool) -> NamePlan
+    requires { ⌜ TableRow row ⌝ }
+    ensures { λ r. ⌜ Planned (lettersIn row) «sharp_first» accidentals r ⌝ }
+{
+    let sharp = letter_at(row, accidentals.sharp_index);
+    let flat = letter_at(row, accidentals.flat_index);
+    plan_letters(sharp, flat, accidentals, sharp_first)
+}
+
+// How many bytes a letter has.
+pub fn letter_length(letter: u16) -> usize
     ensures { λ r. ⌜ (r ≡ length (letterText letter)) × (r ≤ 2) ⌝ }
 {
     if letter < 128 { 1 } else { 2 }

@@ -8,8 +8,10 @@ ghost use Rattle.notes.specs.Names.{letterText};
 ghost use Rattle.notes.specs.Parts.{
   markText,
   twoText,
+  parenthesisText,
   bracketedText,
   bodyText,
+  starredText,
   planText,
   ShortLetters,
 };
@@ -26,12 +28,16 @@ fn put_letter(out: &mut [u8], at: usize, letter: u16) -> usize
     writer::put_byte(out, next, (128 + letter % 64) as u8)
 }
 
+// A letter and its signs. One sign, the most frequent number in small octaves, is a store and not a run.
 fn put_mark(out: &mut [u8], at: usize, mark: Mark) -> usize
     requires { ⌜ (mark .letter < 2048) × Room (now out) at (markText mark) ⌝ }
     ensures { λ r. ⌜ Wrote (now (out .entry)) at (markText mark) (now (out .exit)) r ⌝ }
 {
     let letter = mark.letter;
     let next = put_letter(out, at, letter);
+    if mark.count == 1 {
+        return writer::put_byte(out, next, mark.sign);
+    }
     writer::put_run(out, next, mark.sign, mark.count)
 }
 
@@ -46,13 +52,26 @@ fn put_two(out: &mut [u8], at: usize, plan: NamePlan) -> usize
     put_mark(out, after, second)
 }
 
+// A parenthesis, where one is wanted.
+fn put_parenthesis(out: &mut [u8], at: usize, byte: u8, wanted: bool) -> usize
+    requires { ⌜ Room (now out) at (parenthesisText wanted byte) ⌝ }
+    ensures { λ r. ⌜ Wrote (now (out .entry)) at (parenthesisText wanted byte) (now (out .exit)) r ⌝ }
+{
+    if wanted {
+        return writer::put_byte(out, at, byte);
+    }
+    at
+}
+
+// Both spellings, in parentheses where the plan says so.
 fn put_bracketed(out: &mut [u8], at: usize, plan: NamePlan) -> usize
     requires { ⌜ ShortLetters plan × Room (now out) at (bracketedText plan) ⌝ }
     ensures { λ r. ⌜ Wrote (now (out .entry)) at (bracketedText plan) (now (out .exit)) r ⌝ }
 {
-    let next = writer::put_byte(out, at, b'(');
+    let bracketed = plan.bracketed;
+    let next = put_parenthesis(out, at, b'(', bracketed);
     let after = put_two(out, next, plan);
-    writer::put_byte(out, after, b')')
+    put_parenthesis(out, after, b')', bracketed)
 }
 
 fn put_body(out: &mut [u8], at: usize, plan: NamePlan) -> usize
@@ -60,15 +79,20 @@ fn put_body(out: &mut [u8], at: usize, plan: NamePlan) -> usize
     ensures { λ r. ⌜ Wrote (now (out .entry)) at (bodyText plan) (now (out .exit)) r ⌝ }
 {
     let both = plan.both;
-    let bracketed = plan.bracketed;
     if both {
-        if bracketed {
-            return put_bracketed(out, at, plan);
-        }
-        return put_two(out, at, plan);
+        return put_bracketed(out, at, plan);
     }
     let first = plan.first;
     put_mark(out, at, first)
+}
+
+// A planned name from a place on, with stars for another cycle than the plan's; the place after it.
+pub fn put_starred(out: &mut [u8], at: usize, plan: NamePlan, stars: u16) -> usize
+    requires { ⌜ ShortLetters plan × Room (now out) at (starredText plan stars) ⌝ }
+    ensures { λ r. ⌜ Wrote (now (out .entry)) at (starredText plan stars) (now (out .exit)) r ⌝ }
+{
+    let next = put_body(out, at, plan);
+    writer::put_run(out, next, b'*', stars)
 }
 
 // A planned name from a place on; the place after it.
@@ -76,6 +100,5 @@ pub fn put_name(out: &mut [u8], at: usize, plan: NamePlan) -> usize
     requires { ⌜ ShortLetters plan × Room (now out) at (planText plan) ⌝ }
     ensures { λ r. ⌜ Wrote (now (out .entry)) at (planText plan) (now (out .exit)) r ⌝ }
 {
-    let next = put_body(out, at, plan);
-    writer::put_run(out, next, b'*', plan.stars)
+    put_starred(out, at, plan, plan.stars)
 }

@@ -1,18 +1,17 @@
 -- From the parts to what the calls answer: one law for each way in which a call ends.
-use Prim.Native.Nat.{ℕ, zero, suc, _*_, _/_, _%_, _≤_, _<_}
-use mathlib.Core.Path.{_≡_, refl, sym, ap, _∙_}
-use lib.Dec.{leb, ltb}
+use Prim.Native.Nat.{ℕ, zero, _*_, _/_, _%_, _≤_, _<_}
+use mathlib.Core.Path.{_≡_, sym, ap, _∙_}
 use lib.IntN.{ℤ}
 use borrow.Author.Tests.{lt-ltb, le-ltb}
-use native.Mathlib.Nat.{pos-of-ne-zero, div-le-self, mod-lt, mul-le-mul}
+use native.Mathlib.Nat.{pos-of-ne-zero, div-one, div-le-self, mod-lt, mul-le-mul}
 use native.Mathlib.Omega.{arith}
-use Rattle.answer.specs.Outcome.{Outcome, given, refused, ask}
+use Rattle.answer.specs.Outcome.{Outcome, given, refused}
 use Rattle.answer.proofs.Questions.{ask-none, ask-some, ask-above, ask-below}
-use Rattle.math.specs.Gcd.{gcd, gcdOrOne}
+use Rattle.math.specs.Gcd.{gcdOrOne}
 use Rattle.math.proofs.Gcd.{gcd-or-one, gcd-positive}
-use Rattle.pergen.specs.Pergen.{cycles, reduced, inverse, degree, cycle, cycleOf, generationOf, pickCycle}
-use Rattle.pergen.specs.Spelling.{accidentalsOf, keyAccidentals, place, sounds, soundedKey}
-use Rattle.pergen.specs.Answers.{askPeriod, askFormat, ofPergen, newOutcome, getGeneration, getAccidentals, getPlace, getSoundedKey}
+use Rattle.pergen.specs.Pergen.{cycles, reduced, inverse, degree, cycle, cycleOf, generationOf}
+use Rattle.pergen.specs.Spelling.{accidentalsOf, keyAccidentals, place, soundedKey}
+use Rattle.pergen.specs.Answers.{askFormat, ofPergen, newOutcome, getGeneration, getAccidentals, getPlace, getSoundedKey}
 use Rattle.pergen.specs.Parts.{solvedOf, generationFrom}
 use Rattle.pergen.specs.declared.PerGen.{PerGen}
 use Rattle.pergen.specs.declared.Cycle.{Cycle}
@@ -23,7 +22,6 @@ use Rattle.pergen.specs.declared.Accidentals.{Accidentals}
 use Rattle.pergen.specs.declared.Spelling.{Spelling}
 use Rattle.pergen.specs.declared.euclid.Solved.{Solved}
 use Rattle.pergen.proofs.Inverse.{cycles-positive, reduced-positive}
-use Rattle.pergen.proofs.Keys.{degree-below}
 
 -- ---- question 2, for each call
 
@@ -136,13 +134,17 @@ module _ (s : Solved) (i : ℕ) where
   unfolding generationFrom
   with-cycle h = rw (lt-ltb 1 (s .«num_cycles») h)
 
-  pub without-cycle : s .«num_cycles» ≤ 1
-      → made Absent (s .«generator_inverse» * (i / s .«num_cycles») % s .«reduced_period») ≡ generationFrom s i
+  pub one-cycle : s .«num_cycles» ≡ 1 → made Absent (s .«generator_inverse» * i % s .«reduced_period») ≡ generationFrom s i
   unfolding generationFrom
-  without-cycle h = rw (le-ltb 1 (s .«num_cycles») h)
+  one-cycle h =
+      ap (λ (k : ℕ). made Absent (s .«generator_inverse» * k % s .«reduced_period»)) (sym (div-one i) ∙ ap (λ (n : ℕ). i / n) (sym h))
+      ∙ rw (le-ltb 1 (s .«num_cycles») (omega (arith, h)))
+
+pub product-fits : (a b : ℕ) → a ≤ 65535 → b ≤ 65535 → a * b ≤ 65535 * 65535
+product-fits a b h k = mul-le-mul {n₂ = 65535} {m₂ = 65535} h k
 
 pub degree-product : (a b c : ℕ) → a ≤ 65535 → b ≤ 65535 → a * (b / c) ≤ 65535 * 65535
-degree-product a b c h k = mul-le-mul {n₂ = 65535} {m₂ = 65535} h (omega (arith, div-le-self b c))
+degree-product a b c h k = product-fits a (b / c) h (omega (arith, div-le-self b c))
 
 module _ (P G : ℕ) (s : Solved) (is : s ≡ solvedOf P G) where
   pub solved-cycles : zero < P → zero < s .«num_cycles»

@@ -14,6 +14,7 @@ examples-hold =
       new-ones = refl;
       new-refused = refl;
       generations = refl;
+      large-product = refl;
       accidentals = refl;
       places = refl;
       keys = refl;

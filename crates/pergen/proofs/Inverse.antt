@@ -1,6 +1,6 @@
 -- The inverse exists, by Bezout's equation along Euclid's steps, and is the only one; the search finds it.
-use Prim.Native.Nat.{ℕ, zero, suc, _+_, _*_, _-_, _/_, _%_, _≤_, _<_, _∣_}
-use mathlib.Core.Path.{_≡_, refl, sym, ap, ap₂, subst, _∙_}
+use Prim.Native.Nat.{ℕ, zero, suc, _+_, _*_, _-_, _/_, _%_, _≤_, _<_}
+use mathlib.Core.Path.{_≡_, sym, ap, ap₂, subst, _∙_}
 use mathlib.Core.Bool.{Bool, true, false, not}
 use mathlib.Core.Logic.{_⊎_, inl, inr}
 use lib.Dec.{T, T-not, eqb, eqb→eq, eqb-refl}
@@ -34,7 +34,7 @@ first-finds f (suc k) j w h l t =
 -- ---- Bezout: c y leaves the greatest common divisor of M and y on division by M
 
 -- one step: c₀ y ≡ r₀ and c₁ y ≡ r₁, and c₂ ≡ c₀ − q c₁: then c₂ y ≡ r₀ − q r₁
-pub bezout-step : (M y r₀ r₁ c₀ c₁ c₂ : ℕ) → c₀ * y % M ≡ r₀ % M → c₁ * y % M ≡ r₁ % M
+bezout-step : (M y r₀ r₁ c₀ c₁ c₂ : ℕ) → c₀ * y % M ≡ r₀ % M → c₁ * y % M ≡ r₁ % M
     → (c₂ + r₀ / r₁ * c₁) % M ≡ c₀ % M → c₂ * y % M ≡ (r₀ % r₁) % M
 bezout-step M y r₀ r₁ c₀ c₁ c₂ h₀ h₁ h =
     add-cancel M (r₀ / r₁ * (c₁ * y)) (c₂ * y) (r₀ % r₁)
@@ -49,10 +49,10 @@ bezout-step M y r₀ r₁ c₀ c₁ c₂ h₀ h₁ h =
     distributed : c₂ * y + r₀ / r₁ * (c₁ * y) ≡ (c₂ + r₀ / r₁ * c₁) * y
     distributed = sym (add-mul c₂ (r₀ / r₁ * c₁) y ∙ ap (λ (z : ℕ). c₂ * y + z) (mul-assoc (r₀ / r₁) c₁ y))
 
-pub bezout-first : (M y : ℕ) → zero * y % M ≡ M % M
+bezout-first : (M y : ℕ) → zero * y % M ≡ M % M
 bezout-first M y = ap (λ (z : ℕ). z % M) (zero-mul y) ∙ zero-mod M ∙ sym (mod-self M)
 
-pub bezout-second : (M y : ℕ) → 1 * y % M ≡ y % M
+bezout-second : (M y : ℕ) → 1 * y % M ≡ y % M
 bezout-second M y = ap (λ (z : ℕ). z % M) (one-mul y)
 
 bezout : (M y : ℕ) → zero < M → (c : ℕ) × (c * y % M ≡ gcd M y % M)

@@ -3,7 +3,6 @@ pub mod ExtendedEuclid
 pub mod Keys
 pub mod Indices
 pub mod DegreePlaces
-pub mod Differences
 pub mod Calls
 pub mod CarriedWalk
 pub mod Examples

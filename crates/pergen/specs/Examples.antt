@@ -25,6 +25,7 @@ pub record NumbersExample : Type 0 where
   pub inverse : ℕ
 
 -- 24 and 14: the inverse is taken modulo the reduced period 12. The last two: one key, and the largest prime period.
+-- (The definition of the inverse tries one number after the other, so few examples here have a large one.)
 abbrev pub numbersExamples : List NumbersExample
 numbersExamples =
     record { period = 12; generator = 7; cycles = 1; reduced = 12; inverse = 7 }
@@ -33,7 +34,7 @@ numbersExamples =
     ∷ record { period = 5; generator = 3; cycles = 1; reduced = 5; inverse = 2 }
     ∷ record { period = 12; generator = 0; cycles = 12; reduced = 1; inverse = 0 }
     ∷ record { period = 1; generator = 65535; cycles = 1; reduced = 1; inverse = 0 }
-    ∷ record { period = 65521; generator = 65520; cycles = 1; reduced = 65521; inverse = 65520 }
+    ∷ record { period = 65521; generator = 32761; cycles = 1; reduced = 65521; inverse = 2 }
     ∷ []
 
 -- ---- the spellings of keys, and the order of the questions
@@ -69,8 +70,6 @@ keyExamples =
     -- two cycles: keys 2 and 3 are both (D#/Eb), the second with a star
     ∷ record { pergen = pergen 24 14; format = format 7 3; key = 2; generation = given (record { cycle = Number 0; degree = 7 }); accidentals = given (spelt (Number 0) 3 1 5 1) }
     ∷ record { pergen = pergen 24 14; format = format 7 3; key = 3; generation = given (record { cycle = Number 1; degree = 7 }); accidentals = given (spelt (Number 1) 3 1 5 1) }
-    -- the product with the inverse, 65,520 × 65,535, passes 2,147,483,647 and is exact
-    ∷ record { pergen = pergen 65521 65520; format = format 5 2; key = 65535; generation = given (record { cycle = Absent; degree = 65507 }); accidentals = given (spelt Absent 4 13101 3 3) }
     -- questions 2, 5 and 6, in this order
     ∷ record { pergen = pergen 0 7; format = format 0 0; key = 1; generation = refused 2; accidentals = refused 2 }
     ∷ record { pergen = pergen 12 7; format = format 0 0; key = 2; generation = given (record { cycle = Absent; degree = 2 }); accidentals = refused 5 }
@@ -112,6 +111,8 @@ pub record ExamplesHold : Type 0 where
       ≡ map (λ (e : NumbersExample). given (pergen (e .period) (e .generator))) numbersExamples
   pub new-refused : newOutcome 0 7 ≡ refused 2
   pub generations : map (λ (e : KeyExample). getGeneration (e .pergen) (e .key)) keyExamples ≡ map (λ (e : KeyExample). e .generation) keyExamples
+  -- the product with the inverse, 32,769 × 65,535, passes 2,147,483,647 and is exact
+  pub large-product : getGeneration (pergen 65521 19271) 65535 ≡ given (record { cycle = Absent; degree = 119 })
   pub accidentals : map (λ (e : KeyExample). getAccidentals (e .pergen) (e .format) (e .key)) keyExamples ≡ map (λ (e : KeyExample). e .accidentals) keyExamples
   pub places : map (λ (e : SpellingExample). getPlace (e .format) (e .spelling)) spellingExamples ≡ map (λ (e : SpellingExample). e .place) spellingExamples
   pub keys : map (λ (e : SpellingExample). getSoundedKey (e .pergen) (e .format) (e .spelling)) spellingExamples ≡ map (λ (e : SpellingExample). e .key) spellingExamples

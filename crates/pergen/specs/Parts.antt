@@ -1,16 +1,28 @@
--- What the parts behind the calls promise: the definitions of Pergen and Spelling, by the numbers that the code carries.
-use Prim.Native.Nat.{ℕ, _*_, _/_, _%_, _≤_, _<_}
+-- What the parts behind the calls promise: the definitions of Pergen, by the numbers that the code carries.
+use Prim.Native.Nat.{ℕ, _+_, _*_, _-_, _/_, _%_, _≤_, _<_}
 use mathlib.Core.Path.{_≡_}
+use mathlib.Core.Bool.{true, false}
 use lib.Dec.{ltb}
-use lib.IntN.{pos, _-ℤ_}
+use Rattle.math.specs.Gcd.{gcd}
 use Rattle.pergen.specs.Pergen.{cycles, reduced, inverse, pickCycle}
-use Rattle.pergen.specs.Spelling.{place}
+use Rattle.pergen.specs.Spelling.{pickNumber}
 use Rattle.pergen.specs.declared.Cycle.the-variants.{Absent, Number}
 use Rattle.pergen.specs.declared.Generation.{Generation}
-use Rattle.pergen.specs.declared.Spelling.{Spelling}
+use Rattle.pergen.specs.declared.euclid.Bezout.{Bezout}
 use Rattle.pergen.specs.declared.euclid.Solved.{Solved}
-use Rattle.pergen.specs.declared.places.Sides.{Sides}
 use Rattle.pergen.specs.declared.stepping.Step.{Step}
+
+-- What the extended Euclid finds: the coefficient times the generator leaves the greatest common divisor, or makes a multiple with it.
+pub record BezoutOf (P G : ℕ) (b : Bezout) : Type 0 where
+  pub gcd-is : b .gcd ≡ gcd P G
+  pub cofactor-is : b .cofactor * b .gcd ≡ P
+  pub small : b .coefficient ≤ b .cofactor
+  pub forward-is : b .negative ≡ false → b .coefficient * G % P ≡ gcd P G % P
+  pub backward-is : b .negative ≡ true → (b .coefficient * G + gcd P G) % P ≡ 0
+
+-- The coefficient counted forward: so many keys of a cycle back are the others forward.
+abbrev pub forward : Bezout → ℕ
+forward b = pickNumber (b .negative) (b .cofactor - b .coefficient) (b .coefficient)
 
 -- The numbers that follow from a period and a generator.
 unfoldable pub solvedOf : ℕ → ℕ → Solved
@@ -23,16 +35,6 @@ generationFrom s i =
       cycle = pickCycle (ltb 1 (s .«num_cycles»)) (Number (i % s .«num_cycles»)) Absent;
       degree = s .«generator_inverse» * (i / s .«num_cycles») % s .«reduced_period»;
     }
-
--- Both sides are at most 65,535 × 2³².
-pub record SmallSides (s : Sides) : Type 0 where
-  pub above : s .above ≤ 281470681743360
-  pub below : s .below ≤ 281470681743360
-
--- A spelling's place is the difference of the sides.
-pub record SidesOf (N origin : ℕ) (spelling : Spelling) (s : Sides) : Type 0 where
-  pub difference : place N origin spelling ≡ pos (s .above) -ℤ pos (s .below)
-  pub small : SmallSides s
 
 -- Numbers that a walk from key to key goes by: those that follow from any period above 0 are such.
 pub record Walkable (s : Solved) : Type 0 where

@@ -2,39 +2,65 @@
 use crate::Cycle;
 use crate::Generation;
 ghost use mathlib.Core.Path.{_≡_};
-ghost use Prim.Native.Nat.{_*_, _%_, _<_};
-ghost use Rattle.math.specs.Gcd.{gcd};
-ghost use Rattle.pergen.specs.Parts.{solvedOf, generationFrom};
+ghost use Prim.Native.Nat.{_%_, _≤_, _<_};
+ghost use Rattle.pergen.specs.Parts.{BezoutOf, forward, solvedOf, generationFrom};
 
-// The greatest common divisor, and a number whose product with the generator leaves it on division by the period.
+// The greatest common divisor, the period divided by it, and how many generators leave the divisor on division by the period:
+// so many backward where `negative` is set.
 struct Bezout {
     gcd: u16,
+    cofactor: u16,
     coefficient: u16,
+    negative: bool,
 }
 
-// The extended Euclid, with coefficients kept below the period: no signed number is needed.
+// The extended Euclid. The coefficients' signs alternate, so their sizes are carried and one flag. c1 r0 + c0 r1 stays the period,
+// and so the last c1 is the period divided by the greatest common divisor.
 fn extended_gcd(period: u16, generator: u16) -> Bezout
     requires { ⌜ 0 < period ⌝ }
-    ensures { λ r. ⌜ (r .gcd ≡ gcd period generator) × (r .coefficient * generator % period ≡ gcd period generator % period) ⌝ }
+    ensures { λ r. ⌜ BezoutOf period generator r ⌝ }
 {
-    let modulus = period as u32;
     let mut r0 = period as u32;
     let mut r1 = generator as u32;
     let mut c0: u32 = 0;
-    let mut c1: u32 = 1 % modulus;
+    let mut c1: u32 = 1;
+    let mut negative = true;
     while r1 != 0 {
         let turns = r0 / r1;
         let r2 = r0 % r1;
-        let c2 = (c0 + turns * (modulus - c1)) % modulus;
+        let c2 = c0 + turns * c1;
         r0 = r1;
         r1 = r2;
         c0 = c1;
         c1 = c2;
+        negative = !negative;
     }
     Bezout {
         gcd: r0 as u16,
+        cofactor: c1 as u16,
         coefficient: c0 as u16,
+        negative,
     }
+}
+
+// The remainder of a number up to the reduced period.
+fn within(number: u16, reduced: u16) -> u16
+    requires { ⌜ number ≤ reduced ⌝ }
+    ensures { λ r. ⌜ r ≡ number % reduced ⌝ }
+{
+    if number == reduced { 0 } else { number }
+}
+
+// The coefficient counted forward, below the reduced period.
+fn inverse_from(found: Bezout) -> u16
+    requires { ⌜ found .coefficient ≤ found .cofactor ⌝ }
+    ensures { λ r. ⌜ r ≡ forward found % found .cofactor ⌝ }
+{
+    let reduced = found.cofactor;
+    if found.negative {
+        return within(reduced - found.coefficient, reduced);
+    }
+    within(found.coefficient, reduced)
 }
 
 // The numbers that follow from a period and a generator.
@@ -44,18 +70,15 @@ pub struct Solved {
     pub generator_inverse: u16,
 }
 
-// The inverse is taken modulo the reduced period.
 pub fn solve(period: u16, generator: u16) -> Solved
     requires { ⌜ 0 < period ⌝ }
     ensures { λ r. ⌜ r ≡ solvedOf period generator ⌝ }
 {
     let found = extended_gcd(period, generator);
-    let num_cycles = found.gcd;
-    let reduced_period = period / num_cycles;
     Solved {
-        num_cycles,
-        reduced_period,
-        generator_inverse: found.coefficient % reduced_period,
+        num_cycles: found.gcd,
+        reduced_period: found.cofactor,
+        generator_inverse: inverse_from(found),
     }
 }
 
@@ -65,16 +88,17 @@ pub fn generation(solved: Solved, index: u16) -> Generation
     ensures { λ r. ⌜ r ≡ generationFrom solved index ⌝ }
 {
     let n = solved.num_cycles;
-    let product = (solved.generator_inverse as u32) * ((index / n) as u32);
-    let degree = (product % (solved.reduced_period as u32)) as u16;
-    if 1 < n {
+    let inverse = solved.generator_inverse as u32;
+    let reduced = solved.reduced_period as u32;
+    if n == 1 {
         return Generation {
-            cycle: Cycle::Number(index % n),
-            degree,
+            cycle: Cycle::Absent,
+            degree: (inverse * (index as u32) % reduced) as u16,
         };
     }
+    let turn = (index / n) as u32;
     Generation {
-        cycle: Cycle::Absent,
-        degree,
+        cycle: Cycle::Number(index % n),
+        degree: (inverse * turn % reduced) as u16,
     }
 }

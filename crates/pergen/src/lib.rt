@@ -1,13 +1,11 @@
 // Pergens and spellings, after the first part of src/pergen.rs of the original.
 //
-// Holds the pergen (a period and a generator), degree and cycle of a key, its sharp and flat spelling in a free format,
-// and for any spelling its place on the chain and the key that it sounds (document 01, "Pergen and spelling").
+// Holds the pergen (a period and a generator), degree and cycle of a key, and what spellings are (document 01, "Pergen and
+// spelling"). The crate `spelling` goes from a key to its spellings in a free format, `sounding` from a spelling to its key.
 // specs/: Pergen and Spelling define them, Answers says what each call answers, Theorems what is proved of them.
 // A record holds only what a caller chose; each call asks its questions of it again, so a made-up record is refused.
 // Every public function answers every input, exactly. Nothing is assumed.
-pub mod coordinates;
 pub mod euclid;
-pub mod places;
 pub mod stepping;
 
 use answer::NumberAnswer;
@@ -21,13 +19,8 @@ ghost use Rattle.pergen.specs.Answers.{
   newOutcome,
   ofPergen,
   getGeneration,
-  getAccidentals,
-  getPlace,
-  getSoundedKey,
   pergenOutcome,
   generationOutcome,
-  accidentalsOutcome,
-  placeOutcome,
 };
 
 // A period and a generator, in steps of the tuning.
@@ -89,11 +82,6 @@ pub struct Spelling {
     pub index: u16,
     pub signs: Signs,
     pub stars: u16,
-}
-
-pub enum PlaceAnswer {
-    Given(i64),
-    Refused(Refusal),
 }
 
 impl PerGen {
@@ -167,61 +155,6 @@ impl PerGen {
         }
         let solved = euclid::solve(self.period, self.generator);
         GenerationAnswer::Given(euclid::generation(solved, index))
-    }
-
-    // The sharp and the flat spelling of a key (2, 5, 6).
-    pub fn get_accidentals(self, format: AccidentalsFormat, index: u16) -> AccidentalsAnswer
-        ensures { λ r. ⌜ accidentalsOutcome r ≡ getAccidentals self format index ⌝ }
-    {
-        if self.period == 0 {
-            return AccidentalsAnswer::Refused(Refusal::Period);
-        }
-        if format.num_symbols == 0 {
-            return AccidentalsAnswer::Refused(Refusal::Symbols);
-        }
-        if format.num_symbols <= format.genchain_origin {
-            return AccidentalsAnswer::Refused(Refusal::Origin);
-        }
-        let solved = euclid::solve(self.period, self.generator);
-        let generation = euclid::generation(solved, index);
-        AccidentalsAnswer::Given(coordinates::accidentals(
-            solved.reduced_period,
-            format,
-            generation,
-        ))
-    }
-
-    // The key of the octave that a spelling sounds, whatever its index and stars (2, 5, 6).
-    pub fn get_sounded_key(self, format: AccidentalsFormat, spelling: Spelling) -> NumberAnswer
-        ensures { λ r. ⌜ numberOutcome r ≡ getSoundedKey self format spelling ⌝ }
-    {
-        if self.period == 0 {
-            return NumberAnswer::Refused(Refusal::Period);
-        }
-        if format.num_symbols == 0 {
-            return NumberAnswer::Refused(Refusal::Symbols);
-        }
-        if format.num_symbols <= format.genchain_origin {
-            return NumberAnswer::Refused(Refusal::Origin);
-        }
-        let sides = places::sides_of(format, spelling);
-        let stars = spelling.stars;
-        NumberAnswer::Given(places::sounded(self, sides, stars))
-    }
-}
-
-impl AccidentalsFormat {
-    // The place of a spelling on the chain, counted from key 0's, whatever its index (5, 6).
-    pub fn get_place(self, spelling: Spelling) -> PlaceAnswer
-        ensures { λ r. ⌜ placeOutcome r ≡ getPlace self spelling ⌝ }
-    {
-        if self.num_symbols == 0 {
-            return PlaceAnswer::Refused(Refusal::Symbols);
-        }
-        if self.num_symbols <= self.genchain_origin {
-            return PlaceAnswer::Refused(Refusal::Origin);
-        }
-        PlaceAnswer::Given(places::difference(places::sides_of(self, spelling)))
     }
 }
 

@@ -11,28 +11,29 @@ use crate::names;
 use crate::patterns;
 use crate::pergens;
 use crate::print;
+use crate::words::Values;
 use answer::CountAnswer;
 use answer::NumberAnswer;
 use layout::IsomorphicLayout;
 use layout::LayoutAnswer;
 use layout_layers::Layer;
 
-pub(crate) fn answer(kind: usize, n: [u16; 6]) {
+pub(crate) fn answer(kind: usize, n: Values) {
     if kind == names::CHAIN {
-        put_chain(n[0]);
+        put_chain(n.first);
         return;
     }
     let layout = IsomorphicLayout {
-        genchain: n[0],
-        octave: n[1],
-        tritave: n[2],
+        genchain: n.first,
+        octave: n.second,
+        tritave: n.third,
     };
     if kind == names::SPELLING {
-        pergens::put_spelled(layout.get_accidentals(n[3]));
+        pergens::put_spelled(layout.get_accidentals(n.fourth));
         return;
     }
     if kind == names::NAME {
-        put_name(layout, n[3]);
+        put_name(layout, n.fourth);
         print::end_line();
         return;
     }
@@ -62,7 +63,7 @@ fn answer_layout(kind: usize, layout: IsomorphicLayout) {
 
 fn put_chain(code: u16) {
     let mut out: [u8; 64] = [0; 64];
-    let answer = genchain::name(code, &mut out);
+    let answer = chain_names::name(code, &mut out);
     print::written(&out, answer);
     print::end_line();
 }
@@ -77,7 +78,7 @@ fn put_layout(layout: IsomorphicLayout) {
 
 fn put_scale(layout: IsomorphicLayout) {
     let mut out: [u8; 64] = [0; 64];
-    let answer = layout.get_scale_name(&mut out);
+    let answer = scale_names::get_scale_name(layout, &mut out);
     print::written(&out, answer);
 }
 

@@ -15,6 +15,7 @@ mod tables;
 mod words;
 
 use libc::STDIN_FILENO;
+use words::Values;
 ghost use Rattle.io.specs.Counts.{Counts};
 
 // Whether the line is a question; if so, it is answered.
@@ -26,15 +27,15 @@ fn answered(line: &[u8]) -> bool {
     }
     let asked = words::numbers_after(line, end, names::count_of(kind));
     if asked.whole {
-        let n = asked.values;
-        answer(kind, n);
+        let values = asked.values;
+        answer(kind, words::values_of(values));
         return true;
     }
     false
 }
 
 // The names of each module stand together.
-fn answer(kind: usize, n: [u16; 6]) {
+fn answer(kind: usize, n: Values) {
     if kind < names::PERGEN {
         numbers::answer(kind, n);
         return;

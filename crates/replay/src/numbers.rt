@@ -10,21 +10,22 @@ use crate::print;
 use crate::words;
 use crate::words::Long;
 use crate::words::Natural;
+use crate::words::Values;
 use crate::words::Wide;
 use math::DividedU16Answer;
 use math::DividedU32Answer;
 use math::Fraction;
 
-pub(crate) fn answer(kind: usize, n: [u16; 6]) {
+pub(crate) fn answer(kind: usize, n: Values) {
     if kind == names::SIMPLIFY {
-        put_fraction(math::simplify_u16(n[0], n[1]));
+        put_fraction(math::simplify_u16(n.first, n.second));
         return;
     }
     if kind == names::ODD {
-        print::line(math::odd_factors_u16(n[0]));
+        print::line(math::odd_factors_u16(n.first));
         return;
     }
-    print::line(math::gcd_u16(n[0], n[1]));
+    print::line(math::gcd_u16(n.first, n.second));
 }
 
 fn put_fraction(fraction: Fraction) {

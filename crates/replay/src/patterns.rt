@@ -13,6 +13,7 @@ use crate::names;
 use crate::print;
 use crate::words;
 use crate::words::Short;
+use crate::words::Values;
 use answer::CountAnswer;
 use mos::KeyAnswer;
 use mos::Mos;
@@ -21,17 +22,17 @@ use mos::SharpnessAnswer;
 use mos::TotalAnswer;
 use mos::WalkAnswer;
 
-pub(crate) fn answer(kind: usize, n: [u16; 6]) {
+pub(crate) fn answer(kind: usize, n: Values) {
     if kind == names::NEW_GENESIS {
-        put_made(Mos::new_genesis(n[0], n[1]));
+        put_made(Mos::new_genesis(n.first, n.second));
         return;
     }
     if kind == names::NEW_COLLAPSED {
-        put_pattern(Mos::new_collapsed(n[0], n[1]));
+        put_pattern(Mos::new_collapsed(n.first, n.second));
         return;
     }
     if kind == names::PATTERN {
-        put_new(Mos::new(n[0], n[1], n[2], n[3]));
+        put_new(Mos::new(n.first, n.second, n.third, n.fourth));
         return;
     }
     let m = pattern_of(n);
@@ -42,12 +43,12 @@ pub(crate) fn answer(kind: usize, n: [u16; 6]) {
     answer_list(kind, m);
 }
 
-fn pattern_of(n: [u16; 6]) -> Mos {
+fn pattern_of(n: Values) -> Mos {
     Mos {
-        num_primary_steps: n[0],
-        num_secondary_steps: n[1],
-        primary_step: n[2],
-        secondary_step: n[3],
+        num_primary_steps: n.first,
+        num_secondary_steps: n.second,
+        primary_step: n.third,
+        secondary_step: n.fourth,
     }
 }
 
@@ -61,7 +62,7 @@ fn answer_pattern(kind: usize, m: Mos) {
         return;
     }
     if kind == names::GENESIS {
-        put_made(m.genesis());
+        put_made(walks::genesis(m));
         return;
     }
     if kind == names::DUAL {
@@ -139,10 +140,10 @@ fn answer_list(kind: usize, m: Mos) {
 
 fn write_list(kind: usize, m: Mos, out: &mut [u16]) -> CountAnswer {
     if kind == names::CHILDREN {
-        return m.children(out);
+        return listings::children(m, out);
     }
     if kind == names::PARENTS {
-        return m.parents(out);
+        return listings::parents(m, out);
     }
     if kind == names::LAYER_SIZES {
         return layers::layer_sizes(m, out);
@@ -163,7 +164,8 @@ pub(crate) fn get_key(line: &[u8], at: usize) -> bool {
         return false;
     };
     if words::is_at(line, end, b'\n') {
-        let n = asked.values;
+        let values = asked.values;
+        let n = words::values_of(values);
         put_key(pattern_of(n).get_key(primary, secondary));
         return true;
     }

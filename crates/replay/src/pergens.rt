@@ -7,6 +7,7 @@
 // An absent cycle is `-`.
 use crate::names;
 use crate::print;
+use crate::words::Values;
 use pergen::Accidentals;
 use pergen::AccidentalsAnswer;
 use pergen::AccidentalsFormat;
@@ -16,25 +17,25 @@ use pergen::GenerationAnswer;
 use pergen::PerGen;
 use pergen::PerGenAnswer;
 
-pub(crate) fn answer(kind: usize, n: [u16; 6]) {
+pub(crate) fn answer(kind: usize, n: Values) {
     if kind == names::PERGEN {
-        put_pergen(PerGen::new(n[0], n[1]));
+        put_pergen(PerGen::new(n.first, n.second));
         print::end_line();
         return;
     }
     let pergen = PerGen {
-        period: n[0],
-        generator: n[1],
+        period: n.first,
+        generator: n.second,
     };
     if kind == names::GENERATION {
-        put_generated(pergen.get_generation(n[2]));
+        put_generated(pergen.get_generation(n.third));
         return;
     }
     let format = AccidentalsFormat {
-        num_symbols: n[2],
-        genchain_origin: n[3],
+        num_symbols: n.third,
+        genchain_origin: n.fourth,
     };
-    put_spelled(pergen.get_accidentals(format, n[4]));
+    put_spelled(spelling::get_accidentals(pergen, format, n.fifth));
 }
 
 // Period, generator, cycles, reduced period and inverse, or a refusal, within a line.

@@ -42,10 +42,30 @@ enum Signed {
 // The numbers behind a question's name: how many were read, into the first places of `values`; the place behind them; and
 // whether the line holds as many as were wanted and no more.
 pub(crate) struct Numbers {
-    pub(crate) values: [u16; 6],
+    pub(crate) values: [u16; 5],
     pub(crate) read: usize,
     pub(crate) end: usize,
     pub(crate) whole: bool,
+}
+
+// The numbers of a question in the order of the line, 0 where it has no more. Fields, since the prover has less to do with a
+// field than with an element of an array.
+pub(crate) struct Values {
+    pub(crate) first: u16,
+    pub(crate) second: u16,
+    pub(crate) third: u16,
+    pub(crate) fourth: u16,
+    pub(crate) fifth: u16,
+}
+
+pub(crate) fn values_of(values: [u16; 5]) -> Values {
+    Values {
+        first: values[0],
+        second: values[1],
+        third: values[2],
+        fourth: values[3],
+        fifth: values[4],
+    }
 }
 
 // Whether there is a byte at a place, and it is the one asked for.
@@ -215,12 +235,12 @@ pub(crate) fn long_after(line: &[u8], at: usize) -> Long {
     }
 }
 
-// The numbers of a line behind its name, `count` of them and at most 6.
+// The numbers of a line behind its name, `count` of them and at most 5.
 pub(crate) fn numbers_after(line: &[u8], from: usize, count: usize) -> Numbers {
-    let mut values: [u16; 6] = [0; 6];
+    let mut values: [u16; 5] = [0; 5];
     let mut at = from;
     let mut i: usize = 0;
-    while i < 6 {
+    while i < 5 {
         if count <= i {
             break;
         }

@@ -1,82 +1,106 @@
--- From the printer to what the calls answer: its table is the layout's, and one law for each way in which a call ends.
-use Prim.Native.Nat.{ℕ, zero, suc, _+_, _*_, _≤_, _<_}
-use mathlib.Core.Path.{_≡_, refl, sym, ap, ap₂, _∙_}
-use mathlib.Core.Bool.{Bool, true, false}
-use mathlib.Core.List.{List}
+-- From what was asked to what the calls answer: the lines of a layout's speller and strip are its table, and one law for each way in which a call ends.
+use Prim.Native.Nat.{ℕ, _+_, _≤_, _<_}
+use mathlib.Core.Path.{_≡_, sym, ap, ap₂, _∙_}
+use mathlib.Core.Bool.{Bool}
+use mathlib.Core.List.{List, _++_}
 use native.Mathlib.Omega.{arith}
-use lib.ListN.{length}
+use lib.ListN.{length, getD, drop, List·getD-append}
 use lib.Dec.{leb}
 use borrow.Author.Tests.{le-leb, lt-leb}
 use Rattle.answer.specs.Outcome.{Outcome, given, refused, ask, andThen}
-use Rattle.answer.specs.Lent.{heldIn, counted, Filled}
+use Rattle.answer.specs.Lent.{heldIn, counted}
 use Rattle.answer.specs.Writing.{joined}
 use Rattle.answer.proofs.Joined.{joined-same}
 use Rattle.layout.specs.declared.IsomorphicLayout.{IsomorphicLayout}
 use Rattle.layout.specs.Layouts.{Layout, layoutOutcome}
-use Rattle.layout.specs.Names.{nameIn}
 use Rattle.layout.specs.Answers.{inRoom}
-use Rattle.layout.proofs.Calls.{of-refused, of-given, parts-of, filled-as}
+use Rattle.layout.proofs.Calls.{of-refused, of-given}
+use Rattle.layout.proofs.Finding.{accepted}
+use Rattle.layout_layers.specs.declared.parts.Plan.{Plan}
 use Rattle.layout_layers.specs.KeyLayers.{countIn}
-use Rattle.layout_layers.proofs.PlanLaws.{count-is}
-use Rattle.lamps.specs.Lamps.{lampIn, hasLampsIn}
-use Rattle.lamps.proofs.StripLaws.{lamps-by-count-at, lamp-is, lamp-home}
+use Rattle.layout_layers.specs.Parts.{keysOf, totalOf, PlanOf, Fronted}
+use Rattle.layout_layers.proofs.PlanLaws.{count-is, keys-are}
+use Rattle.layout_layers.proofs.SpreadLaws.{listed-at}
+use Rattle.layout_book.specs.declared.parts.Speller.{Speller}
+use Rattle.layout_book.specs.Parts.{SpellerOf}
+use Rattle.lamps.specs.Lamps.{stripOf, lampIn, stripIn, hasLampsIn}
+use Rattle.lamps.specs.Parts.{planStrip}
+use Rattle.lamps.proofs.StripLaws.{lamps-by-count-at, strip-is}
+use Rattle.lamps.proofs.Theorems.{few-numbers, strips-are-whole}
 use Rattle.line.specs.Lines.{lineOutcome}
 use Rattle.line.specs.declared.Line.{Line}
 use Rattle.table.specs.Tables.{keyLine, tableIn, getTable, layoutOn, lineTable, refusalLine, outputOf, output}
-use Rattle.table.specs.Parts.{lampAt, lineAt, Ready, PrinterOf}
-use Rattle.table.specs.declared.parts.Printer.{Printer}
-use Rattle.table.proofs.Lines.{home-at, code-at}
+use Rattle.table.specs.Parts.{Printable, LampsIn, lineOf}
 
-abbrev asked : IsomorphicLayout → Outcome Layout
-asked r = layoutOutcome (r .genchain) (r .octave) (r .tritave)
+abbrev found : IsomorphicLayout → Outcome Layout
+found r = layoutOutcome (r .genchain) (r .octave) (r .tritave)
 
-pub table-refused : (r : IsomorphicLayout) (n : ℕ) → refused n ≡ asked r → refused n ≡ getTable r
+-- ---- what is asked
+
+pub table-refused : (r : IsomorphicLayout) (n : ℕ) → refused n ≡ found r → refused n ≡ getTable r
 unfolding getTable
 table-refused r n e = of-refused r _ n e
 
-module _ (r : IsomorphicLayout) (l : Layout) (e : given l ≡ asked r) (p : Printer) (w : PrinterOf (r .genchain) (r .octave) l p) where
-  total : p .total ≡ countIn (r .octave) l
-  total = w .total-is ∙ count-is (r .genchain) (r .octave) l (p .plan) (w .plan)
+module _ (r : IsomorphicLayout) (l : Layout) (e : given l ≡ found r) where
+  -- by the plan's number of layer numbers
+  module _ (p : Plan) (w : PlanOf (r .genchain) (r .octave) l p) (T : ℕ) (is : T ≡ totalOf p) where
+    decided : hasLampsIn (r .genchain) (r .octave) l ≡ leb T 202
+    decided =
+        lamps-by-count-at (r .genchain) (r .octave) (r .tritave) l (sym e)
+        ∙ ap (λ (t : ℕ). leb t 202) (sym (is ∙ count-is (r .genchain) (r .octave) l p w))
 
-  decided : hasLampsIn (r .genchain) (r .octave) l ≡ leb (p .total) 202
-  decided =
-      lamps-by-count-at (r .genchain) (r .octave) (r .tritave) l (sym e) ∙ ap (λ (t : ℕ). leb t 202) (sym total)
-
-  pub table-too-deep : 202 < p .total → refused 9 ≡ getTable r
-  unfolding getTable
-  table-too-deep many =
-      ap (λ (b : Bool). ask 9 b (given (tableIn (r .genchain) (r .octave) l))) (sym (decided ∙ lt-leb (p .total) 202 many)) ∙ of-given r _ l e
-
-  module _ (few : p .total ≤ 202) where
-    pub ready : Ready p
-    ready = record { speller = w .speller .sound; plan = w .plan .sound; total-is = w .total-is; few = few }
-
-    lamp-same : (key : ℕ) → lampAt p key ≡ lampIn (r .genchain) (r .octave) l key
-    lamp-same zero = sym (home-at p zero refl) ∙ lamp-home (r .genchain) (r .octave) l zero refl
-    lamp-same (suc k) =
-        sym (code-at p (suc k) (λ q. omega arith) _ _ refl refl)
-        ∙ lamp-is (r .genchain) (r .octave) l (p .plan) (w .plan) (parts-of r l e .positive) (p .total) total (suc k) (λ q. omega arith)
-
-    line-same : (key : ℕ) → lineAt p key ≡ keyLine key (nameIn (r .genchain) (r .octave) l key) (lampIn (r .genchain) (r .octave) l key)
-    unfolding lineAt
-    line-same key = ap₂ (λ (x : List ℕ) (y : ℕ). keyLine key x y) (w .speller .names key) (lamp-same key)
-
-    table-same : joined (lineAt p) (r .octave) ≡ tableIn (r .genchain) (r .octave) l
-    unfolding tableIn
-    table-same = joined-same (lineAt p) _ (r .octave) (λ i q. line-same i)
-
-    pub table-given : given (joined (lineAt p) (r .octave)) ≡ getTable r
+    pub table-too-deep : 202 < T → refused 9 ≡ getTable r
     unfolding getTable
-    table-given =
-        ap given table-same
-        ∙ ap (λ (b : Bool). ask 9 b (given (tableIn (r .genchain) (r .octave) l))) (sym (decided ∙ le-leb (p .total) 202 few))
-        ∙ of-given r _ l e
+    table-too-deep many =
+        ap (λ (b : Bool). ask 9 b (given (tableIn (r .genchain) (r .octave) l))) (sym (decided ∙ lt-leb T 202 many)) ∙ of-given r _ l e
 
-    pub table-counted : (n : ℕ) → n ≡ length (joined (lineAt p) (r .octave)) → given n ≡ counted (getTable r)
-    table-counted n q = ap given q ∙ ap counted table-given
+    pub printable : T ≤ 202 → Printable r l
+    printable few = record { accepted = sym e; has-lamps = decided ∙ le-leb T 202 few }
 
-    pub table-in-room : (room : ℕ) → heldIn room (joined (lineAt p) (r .octave)) ≡ inRoom room (getTable r)
-    table-in-room room = ap (λ (o : Outcome (List ℕ)). andThen o (heldIn room)) table-given
+-- ---- a table
+
+module _ (r : IsomorphicLayout) (l : Layout) (ok : Printable r l) where
+  pub table-given : given (tableIn (r .genchain) (r .octave) l) ≡ getTable r
+  unfolding getTable
+  table-given =
+      ap (λ (b : Bool). ask 9 b (given (tableIn (r .genchain) (r .octave) l))) (sym (ok .has-lamps)) ∙ of-given r _ l (sym (ok .accepted))
+
+  pub table-counted : (n : ℕ) → n ≡ length (tableIn (r .genchain) (r .octave) l) → given n ≡ counted (getTable r)
+  table-counted n q = ap given q ∙ ap counted table-given
+
+  pub table-in-room : (room : ℕ) → heldIn room (tableIn (r .genchain) (r .octave) l) ≡ inRoom room (getTable r)
+  table-in-room room = ap (λ (o : Outcome (List ℕ)). andThen o (heldIn room)) table-given
+
+  pub table-is : (s : Speller) → SpellerOf (r .genchain) (r .octave) l s → (strip : List ℕ) → LampsIn r l strip
+      → joined (lineOf s strip) (r .octave) ≡ tableIn (r .genchain) (r .octave) l
+  unfolding tableIn lineOf
+  table-is s names strip lamps =
+      joined-same (lineOf s strip) _ (r .octave) (λ k h. ap₂ (λ (x : List ℕ) (y : ℕ). keyLine k x y) (names .names k) (lamps .lamps k h))
+
+  -- the lamps that a plan gives
+  module _ (p : Plan) (w : PlanOf (r .genchain) (r .octave) l p) (T : ℕ) (is : T ≡ totalOf p) where
+    total : T ≡ countIn (r .octave) l
+    total = is ∙ count-is (r .genchain) (r .octave) l p w
+
+    pub lamps-few : T ≤ 202
+    lamps-few = omega (arith, total, few-numbers (r .genchain) (r .octave) (r .tritave) l (ok .accepted) (ok .has-lamps))
+
+    some : 0 < r .octave
+    some = accepted (r .genchain) (r .octave) (r .tritave) l (ok .accepted) .positive
+
+    pub lamps-room : (n : ℕ) → r .octave ≤ n → keysOf (p .chain) ≤ n
+    lamps-room n long = omega (arith, keys-are (r .genchain) (r .octave) l p w some)
+
+    pub lamps-put : (xs ys : List ℕ) → Fronted (planStrip p T) xs ys → LampsIn r l ys
+    unfolding stripOf
+    lamps-put xs ys front =
+        let strip = stripIn (r .genchain) (r .octave) l in
+        let is-strip : planStrip p T ≡ strip = strip-is (r .genchain) (r .octave) l p w some T total in
+        record {
+          lamps = λ key h. ap (λ (zs : List ℕ). getD zs key 0) (front ∙ ap (λ (t : List ℕ). t ++ drop (length t) xs) is-strip)
+              ∙ List·getD-append strip (drop (length strip) xs) 0 key (omega (arith, h, strips-are-whole (r .genchain) (r .octave) l))
+              ∙ listed-at (lampIn (r .genchain) (r .octave) l) (r .octave) key h;
+        }
 
 -- ---- the output for a line
 
@@ -92,18 +116,8 @@ module _ (line : List ℕ) (room : ℕ) where
     unfolding output lineTable
     output-asked = ap (λ (o : Outcome Line). outputOf (andThen o (λ (x : Line). getTable (layoutOn x)))) e
 
-    pub output-refused : (k n : ℕ) → k ≡ n → refused n ≡ counted (getTable (layoutOn a)) → heldIn room (refusalLine k) ≡ heldIn room (output line)
-    output-refused k n i q = by (getTable (layoutOn a)) refl q
-      where
-        by : (o : Outcome (List ℕ)) → getTable (layoutOn a) ≡ o → refused n ≡ counted o → heldIn room (refusalLine k) ≡ heldIn room (output line)
-        by (given t) is c = absurd (let z : _≡_ {A = ℕ} 0 1 = cc in omega arith)
-        by (refused m) is c =
-            let same : n ≡ m = cc in ap (heldIn room) (ap refusalLine (i ∙ same) ∙ ap outputOf (sym is) ∙ output-asked)
+    pub output-refused : (k n : ℕ) → k ≡ n → refused n ≡ getTable (layoutOn a) → heldIn room (refusalLine k) ≡ heldIn room (output line)
+    output-refused k n i q = ap (heldIn room) (ap refusalLine i ∙ ap outputOf q ∙ output-asked)
 
-    pub output-given : (n : ℕ) → given n ≡ counted (getTable (layoutOn a)) → inRoom room (getTable (layoutOn a)) ≡ heldIn room (output line)
-    output-given n q = by (getTable (layoutOn a)) refl q
-      where
-        by : (o : Outcome (List ℕ)) → getTable (layoutOn a) ≡ o → given n ≡ counted o → inRoom room (getTable (layoutOn a)) ≡ heldIn room (output line)
-        by (given t) is c =
-            ap (inRoom room) is ∙ ap (λ (x : Outcome (List ℕ)). heldIn room (outputOf x)) (sym is) ∙ ap (heldIn room) output-asked
-        by (refused m) is c = absurd (let z : _≡_ {A = ℕ} 0 1 = cc in omega arith)
+    pub output-given : (t : List ℕ) → given t ≡ getTable (layoutOn a) → heldIn room t ≡ heldIn room (output line)
+    output-given t q = ap (heldIn room) (ap outputOf q ∙ output-asked)

@@ -1,5 +1,4 @@
 pub mod Lines
 pub mod Calls
 pub mod Fitting
-pub mod StripQuestions
 pub mod Examples

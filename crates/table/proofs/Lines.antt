@@ -1,33 +1,16 @@
--- A key's line: its lamp code by the plan, its length part by part, and the sum of the lines' lengths.
-use Prim.Native.Nat.{ℕ, _+_, _*_, _≤_, _<_}
-use mathlib.Core.Path.{_≡_, refl, sym, ap, ap₂, _∙_}
-use mathlib.Core.Bool.{true, false}
+-- A key's line: its length part by part, and the sum of the lines' lengths: all names, and all the rest.
+use Prim.Native.Nat.{ℕ, zero, suc, _+_}
+use mathlib.Core.Path.{_≡_, refl, ap}
 use mathlib.Core.List.{List, [], _∷_, _++_}
 use native.Mathlib.Omega.{arith}
-use lib.ListN.{length, length-append}
-use lib.Dec.{eqb}
-use borrow.Author.Tests.{eq-eqb, ne-eqb}
+use lib.ListN.{length, length-append, getD}
 use Rattle.answer.specs.Writing.{joined}
-use Rattle.answer.proofs.Joined.{joined-none, length-joined-more}
 use Rattle.line.specs.Decimal.{digits}
 use Rattle.line.specs.Lines.{space, lineFeed}
-use Rattle.lamps.specs.Parts.{codeOf}
-use Rattle.layout_layers.specs.Parts.{planNumber}
+use Rattle.layout_book.specs.declared.parts.Speller.{Speller}
 use Rattle.layout_book.specs.Parts.{nameOf}
 use Rattle.table.specs.Tables.{keyLine, refusedWord, refusalLine}
-use Rattle.table.specs.Parts.{lampAt, lineAt, Ready}
-use Rattle.table.specs.declared.parts.Printer.{Printer}
-
--- ---- lamps
-
-module _ (p : Printer) (key : ℕ) where
-  pub home-at : key ≡ 0 → 0 ≡ lampAt p key
-  unfolding lampAt
-  home-at h = rw (eq-eqb key 0 h)
-
-  pub code-at : (key ≡ 0 → ⊥) → (j c : ℕ) → j ≡ planNumber (p .plan) key → c ≡ codeOf (p .total) j → c ≡ lampAt p key
-  unfolding lampAt
-  code-at h j c e q = rw (ne-eqb key 0 h) (q ∙ ap (codeOf (p .total)) e)
+use Rattle.table.specs.Parts.{lineOf, numbersLine}
 
 -- ---- the length of a line
 
@@ -43,26 +26,34 @@ length-line key name lamp =
       length-append (digits key ++ (space ∷ []) ++ name ++ (space ∷ []) ++ digits lamp) (lineFeed ∷ []),
     )
 
--- a line by the name and the lamp code that the code found
-pub line-is : (p : Printer) (k : ℕ) (name : List ℕ) (lamp : ℕ) → name ≡ nameOf (p .speller) k → lamp ≡ lampAt p k → keyLine k name lamp ≡ lineAt p k
-unfolding lineAt
-line-is p k name lamp e q = ap₂ (λ (x : List ℕ) (y : ℕ). keyLine k x y) e q
+-- a line by the name that the code planned
+pub line-is : (s : Speller) (strip : List ℕ) (k : ℕ) (name : List ℕ) → name ≡ nameOf s k → keyLine k name (getD strip k 0) ≡ lineOf s strip k
+unfolding lineOf
+line-is s strip k name e = ap (λ (x : List ℕ). keyLine k x (getD strip k 0)) e
 
 -- ---- the sum of the lengths
 
-pub record Lines (p : Printer) (k n : ℕ) : Type 0 where
-  pub is : n ≡ length (joined (lineAt p) k)
-  pub small : n ≤ 39338 * k
+-- of a line without its name
+pub length-numbers : (strip : List ℕ) (k : ℕ) → length (numbersLine strip k) ≡ length (digits k) + length (digits (getD strip k 0)) + 3
+unfolding numbersLine
+length-numbers strip k = omega (arith, length-line k [] (getD strip k 0))
 
-pub lines-none : (p : Printer) → Lines p 0 0
-lines-none p = record { is = sym (ap length (joined-none (lineAt p))); small = omega arith }
-
-pub lines-more : (p : Printer) (k n m : ℕ) → Lines p k n → m ≡ length (lineAt p k) → m ≤ 39338 → Lines p (k + 1) (n + m)
-lines-more p k n m w e b =
-    record {
-      is = ap₂ (λ (x y : ℕ). x + y) (w .is) e ∙ sym (length-joined-more (lineAt p) k);
-      small = omega (arith, w .small);
-    }
+-- all names, and all the rest
+pub length-lines : (s : Speller) (strip : List ℕ) (keys : ℕ)
+    → length (joined (nameOf s) keys) + length (joined (numbersLine strip) keys) ≡ length (joined (lineOf s strip) keys)
+unfolding joined
+length-lines s strip zero = refl
+length-lines s strip (suc k) =
+    omega (
+      arith,
+      length-lines s strip k,
+      length-append (joined (nameOf s) k) (nameOf s k),
+      length-append (joined (numbersLine strip) k) (numbersLine strip k),
+      length-append (joined (lineOf s strip) k) (lineOf s strip k),
+      length-numbers strip k,
+      length-line k (nameOf s k) (getD strip k 0),
+      ap length (line-is s strip k (nameOf s k) refl),
+    )
 
 -- ---- a refusal's line
 

@@ -1,36 +1,41 @@
--- What the parts behind the calls promise: the table by the speller and the plan that the code follows.
-use Prim.Native.Nat.{ℕ, _*_, _≤_}
+-- What the parts behind the calls promise: the table by the speller and the strip that the code follows.
+use Prim.Native.Nat.{ℕ, _<_}
 use mathlib.Core.Path.{_≡_}
-use mathlib.Core.List.{List}
-use lib.Dec.{eqb}
-use Rattle.mos.specs.Patterns.{pick}
-use Rattle.layout.specs.Layouts.{Layout}
-use Rattle.layout_layers.specs.declared.parts.Plan.{Plan}
-use Rattle.layout_layers.specs.Parts.{planNumber, layersOfPlan, Sound, PlanOf}
-use Rattle.layout_book.specs.Parts as Book
-use Rattle.lamps.specs.Parts.{codeOf}
-use Rattle.table.specs.Tables.{keyLine}
-use Rattle.table.specs.declared.parts.Printer.{Printer}
+use mathlib.Core.Bool.{true}
+use mathlib.Core.List.{List, []}
+use lib.ListN.{getD}
+use Rattle.answer.specs.Outcome.{refused}
+use Rattle.answer.specs.Refusals.{numberOf}
+use Rattle.lamps.specs.Lamps.{lampIn, hasLampsIn}
+use Rattle.layout.specs.declared.IsomorphicLayout.{IsomorphicLayout}
+use Rattle.layout.specs.declared.parts.FoundAnswer.{FoundAnswer}
+use Rattle.layout.specs.declared.parts.FoundAnswer.the-variants as FoundAnswer
+use Rattle.layout.specs.Layouts.{Layout, Accepted}
+use Rattle.layout.specs.Parts.{layoutOf}
+use Rattle.layout_book.specs.declared.parts.Speller.{Speller}
+use Rattle.layout_book.specs.Parts.{nameOf}
+use Rattle.table.specs.Tables.{keyLine, getTable}
 
--- A key's lamp code: home, or the code of its layer.
-unfoldable pub lampAt : Printer → ℕ → ℕ
-unfolding codeOf
-lampAt p key = pick (eqb key 0) 0 (codeOf (p .total) (planNumber (p .plan) key))
+-- The layout that is asked for, which is accepted and has lamps.
+pub record Printable (r : IsomorphicLayout) (l : Layout) : Type 0 where
+  pub accepted : Accepted (r .genchain) (r .octave) (r .tritave) l
+  pub has-lamps : hasLampsIn (r .genchain) (r .octave) l ≡ true
 
--- A key's line.
-unfoldable pub lineAt : Printer → ℕ → List ℕ
-unfolding keyLine Book.nameOf lampAt
-lineAt p key = keyLine key (Book.nameOf (p .speller) key) (lampAt p key)
+-- The answer to questions 1 to 4 and 9: no table without it.
+abbrev pub Asked : IsomorphicLayout → FoundAnswer → Type 0
+Asked r (FoundAnswer.Given f) = Printable r (layoutOf f)
+Asked r (FoundAnswer.Refused q) = refused (numberOf q) ≡ getTable r
 
--- A printer that can be followed.
-pub record Ready (p : Printer) : Type 0 where
-  pub speller : Book.Sound (p .speller)
-  pub plan : Sound (p .plan)
-  pub total-is : p .total ≡ layersOfPlan (p .plan) * p .plan .solved .«num_cycles»
-  pub few : p .total ≤ 202
+-- A slice whose front is the layout's strip.
+pub record LampsIn (r : IsomorphicLayout) (l : Layout) (strip : List ℕ) : Type 0 where
+  pub lamps : (key : ℕ) → key < r .octave → getD strip key 0 ≡ lampIn (r .genchain) (r .octave) l key
 
--- The printer of a layout.
-pub record PrinterOf (code octave : ℕ) (l : Layout) (p : Printer) : Type 0 where
-  pub speller : Book.SpellerOf code octave l (p .speller)
-  pub plan : PlanOf code octave l (p .plan)
-  pub total-is : p .total ≡ layersOfPlan (p .plan) * p .plan .solved .«num_cycles»
+-- A key's line, with its lamp code on a strip.
+unfoldable pub lineOf : Speller → List ℕ → ℕ → List ℕ
+unfolding keyLine nameOf
+lineOf s strip key = keyLine key (nameOf s key) (getD strip key 0)
+
+-- The same without its name.
+unfoldable pub numbersLine : List ℕ → ℕ → List ℕ
+unfolding keyLine
+numbersLine strip key = keyLine key [] (getD strip key 0)

@@ -6,8 +6,6 @@
 pub mod parts;
 
 use answer::CountAnswer;
-use answer::Refusal;
-use genchain::rows;
 use layout::IsomorphicLayout;
 use layout::parts::FoundAnswer;
 use line::LineAnswer;
@@ -22,20 +20,9 @@ ghost use Rattle.table.specs.Tables.{getTable, output};
 pub fn table_len(layout: IsomorphicLayout) -> CountAnswer
     ensures { λ r. ⌜ countOutcome r ≡ counted (getTable layout) ⌝ }
 {
-    let code = layout.genchain;
-    if 6 <= code {
-        return CountAnswer::Refused(Refusal::Chain);
-    }
-    let row = rows::row(code);
-    match layout::parts::find(layout, row.num_letters) {
+    match parts::ask(layout) {
         FoundAnswer::Refused(q) => CountAnswer::Refused(q),
-        FoundAnswer::Given(found) => {
-            let printer = parts::printer_of(row, layout, found);
-            if 202 < printer.total {
-                return CountAnswer::Refused(Refusal::LampLayer);
-            }
-            CountAnswer::Given(parts::table_length(printer, layout.octave))
-        }
+        FoundAnswer::Given(found) => CountAnswer::Given(parts::table_length(layout, found)),
     }
 }
 
@@ -43,20 +30,9 @@ pub fn table_len(layout: IsomorphicLayout) -> CountAnswer
 pub fn write_table(layout: IsomorphicLayout, out: &mut [u8]) -> CountAnswer
     ensures { λ r. ⌜ Filled (inRoom (length (now (out .entry))) (getTable layout)) (countOutcome r) (now (out .entry)) (now (out .exit)) ⌝ }
 {
-    let code = layout.genchain;
-    if 6 <= code {
-        return CountAnswer::Refused(Refusal::Chain);
-    }
-    let row = rows::row(code);
-    match layout::parts::find(layout, row.num_letters) {
+    match parts::ask(layout) {
         FoundAnswer::Refused(q) => CountAnswer::Refused(q),
-        FoundAnswer::Given(found) => {
-            let printer = parts::printer_of(row, layout, found);
-            if 202 < printer.total {
-                return CountAnswer::Refused(Refusal::LampLayer);
-            }
-            parts::write_lines(printer, layout.octave, out)
-        }
+        FoundAnswer::Given(found) => parts::print_table(layout, found, out),
     }
 }
 
@@ -73,9 +49,9 @@ pub fn respond(line: &[u8], out: &mut [u8]) -> CountAnswer
                 octave: asked.octave,
                 tritave: asked.tritave,
             };
-            match lamps::strip_len(layout) {
-                CountAnswer::Refused(q) => parts::write_refusal(q.number() as u16, out),
-                CountAnswer::Given(_) => write_table(layout, out),
+            match parts::ask(layout) {
+                FoundAnswer::Refused(q) => parts::write_refusal(q.number() as u16, out),
+                FoundAnswer::Given(found) => parts::print_table(layout, found, out),
             }
         }
     }

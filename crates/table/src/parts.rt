@@ -1,74 +1,78 @@
-// How a table is written: parts, and no entry points. Callers have asked questions 1 to 4 and 9, and 10 before they write.
+// How a table is written: parts, and no entry points. `ask` asks questions 1 to 4 and 9; 10 is asked before a byte is written.
 //
-// Row, pergen and layers are read and solved once for all keys; degree and cycle are carried from key to key.
+// Row, pergen and lamps are read and solved once for all keys; degree and cycle are carried from key to key.
 use answer::CountAnswer;
 use answer::Refusal;
 use answer::writer::put_byte;
-use genchain::rows::ChainRow;
+use genchain::rows;
 use genchain::texts::put_text;
 use layout::IsomorphicLayout;
 use layout::parts::Found;
+use layout::parts::FoundAnswer;
 use layout_book::parts::Speller;
-use layout_layers::parts::Plan;
 use line::decimal;
-use notes::plans;
 use notes::plans::NamePlan;
 use notes::texts;
 use pergen::stepping;
 ghost use mathlib.Core.Path.{_≡_};
-ghost use Prim.Native.Nat.{_+_, _*_, _≤_, _<_};
+ghost use Prim.Native.Nat.{_*_, _≤_};
 ghost use lib.ListN.{length};
 ghost use Rattle.answer.specs.Lent.{heldIn, Filled};
 ghost use Rattle.answer.specs.Refusals.{countOutcome};
 ghost use Rattle.answer.specs.Writing.{Room, Wrote, joined};
-ghost use Rattle.genchain.specs.Chains.{chainOf, rowOf};
-ghost use Rattle.layout.specs.Layouts.{Accepted};
 ghost use Rattle.layout.specs.Parts.{layoutOf};
 ghost use Rattle.notes.specs.Parts.{planText, ShortLetters};
-ghost use Rattle.table.specs.Tables.{keyLine, refusalLine};
-ghost use Rattle.table.specs.Parts.{Ready, PrinterOf, lampAt, lineAt};
+ghost use Rattle.table.specs.Tables.{keyLine, tableIn, refusalLine};
+ghost use Rattle.layout_book.specs.Parts.{Sound};
+ghost use Rattle.table.specs.Parts.{Asked, Printable, LampsIn, numbersLine, lineOf};
 
-// What all lines of a table have in common.
-pub struct Printer {
-    pub speller: Speller,
-    pub plan: Plan,
-    pub total: u16,
+// Questions 1 to 4 and 9.
+pub fn ask(layout: IsomorphicLayout) -> FoundAnswer
+    ensures { λ r. ⌜ Asked layout r ⌝ }
+{
+    match layout::parts::search(layout) {
+        FoundAnswer::Refused(q) => FoundAnswer::Refused(q),
+        FoundAnswer::Given(found) => {
+            let plan = layout_layers::parts::plan_of(layout, found);
+            if 202 < layout_layers::parts::total_of(plan) {
+                return FoundAnswer::Refused(Refusal::LampLayer);
+            }
+            FoundAnswer::Given(found)
+        }
+    }
 }
 
-// The printer of an accepted layout.
-pub fn printer_of(row: ChainRow, layout: IsomorphicLayout, found: Found) -> Printer
-    requires { ⌜ (row ≡ rowOf (chainOf (layout .genchain))) × Accepted (layout .genchain) (layout .octave) (layout .tritave) (layoutOf found) ⌝ }
-    ensures { λ r. ⌜ PrinterOf (layout .genchain) (layout .octave) (layoutOf found) r ⌝ }
+// The lamp codes of the octave at the front of a slice that holds them.
+fn put_lamps(layout: IsomorphicLayout, found: Found, strip: &mut [u8])
+    requires { ⌜ Printable layout (layoutOf found) × (layout .octave ≤ length (now strip)) ⌝ }
+    ensures { λ r. ⌜ LampsIn layout (layoutOf found) (now (strip .exit)) ⌝ }
 {
     let plan = layout_layers::parts::plan_of(layout, found);
     let total = layout_layers::parts::total_of(plan);
-    let speller = layout_book::parts::speller_of(row, layout, found);
-    Printer {
-        speller,
-        plan,
-        total,
-    }
+    lamps::parts::put_strip(strip, plan, total);
 }
 
-// The lamp code of a key of the octave.
-fn lamp_at(printer: Printer, key: u16) -> u16
-    requires { ⌜ Ready printer ⌝ }
-    ensures { λ r. ⌜ r ≡ lampAt printer key ⌝ }
+// How many bytes the lines of the first keys have without their names.
+fn numbers_length(strip: &[u8], keys: u16) -> usize
+    requires { ⌜ keys ≤ length (now strip) ⌝ }
+    ensures { λ r. ⌜ (r ≡ length (joined (numbersLine (now (strip .entry))) keys)) × (r ≤ 13 * keys) ⌝ }
 {
-    if key == 0 {
-        return 0;
+    let mut total: usize = 0;
+    let mut key: u16 = 0;
+    while key < keys {
+        let lamp = strip[key as usize] as u16;
+        total += decimal::number_len(key) + decimal::number_len(lamp) + 3;
+        key += 1;
     }
-    let number = layout_layers::parts::number_of(printer.plan, key);
-    lamps::parts::code(printer.total, number) as u16
+    total
 }
 
-// How many bytes a key's line has, with the name that is planned.
-fn line_length(key: u16, name: NamePlan, lamp: u16) -> usize
-    ensures { λ r. ⌜ (r ≡ length (keyLine key (planText name) lamp)) × (r ≤ 13 + length (planText name)) ⌝ }
+// How many bytes the lines of an octave have together: those of all names, and the others.
+fn lines_length(speller: Speller, strip: &[u8], keys: u16) -> usize
+    requires { ⌜ Sound speller × (keys ≡ speller .solved .«reduced_period» * speller .solved .«num_cycles») × (keys ≤ length (now strip)) ⌝ }
+    ensures { λ r. ⌜ r ≡ length (joined (lineOf speller (now (strip .entry))) keys) ⌝ }
 {
-    let number = decimal::number_len(key);
-    let code = decimal::number_len(lamp);
-    number + plans::plan_length(name) + code + 3
+    layout_book::parts::names_length(speller) + numbers_length(strip, keys)
 }
 
 // A key's line; the place after it.
@@ -84,38 +88,18 @@ fn put_line(out: &mut [u8], at: usize, key: u16, name: NamePlan, lamp: u16) -> u
     put_byte(out, code, b'\n')
 }
 
-// How many bytes the lines of the first keys have together.
-pub fn table_length(printer: Printer, keys: u16) -> usize
-    requires { ⌜ Ready printer ⌝ }
-    ensures { λ r. ⌜ r ≡ length (joined (lineAt printer) keys) ⌝ }
-{
-    let speller = printer.speller;
-    let solved = speller.solved;
-    let mut total: usize = 0;
-    let mut step = stepping::first(solved);
-    let mut key: u16 = 0;
-    while key < keys {
-        let name = layout_book::parts::plan_at(speller, step);
-        total += line_length(key, name, lamp_at(printer, key));
-        step = stepping::next(solved, step);
-        key += 1;
-    }
-    total
-}
-
 // The lines of the first keys; the place after the last.
-fn put_lines(out: &mut [u8], printer: Printer, keys: u16) -> usize
-    requires { ⌜ Ready printer × Room (now out) 0 (joined (lineAt printer) keys) ⌝ }
-    ensures { λ r. ⌜ Wrote (now (out .entry)) 0 (joined (lineAt printer) keys) (now (out .exit)) r ⌝ }
+fn put_lines(out: &mut [u8], speller: Speller, strip: &[u8], keys: u16) -> usize
+    requires { ⌜ Sound speller × (keys ≤ length (now strip)) × Room (now out) 0 (joined (lineOf speller (now strip)) keys) ⌝ }
+    ensures { λ r. ⌜ Wrote (now (out .entry)) 0 (joined (lineOf speller (now (strip .entry))) keys) (now (out .exit)) r ⌝ }
 {
-    let speller = printer.speller;
     let solved = speller.solved;
     let mut place: usize = 0;
     let mut step = stepping::first(solved);
     let mut key: u16 = 0;
     while key < keys {
         let name = layout_book::parts::plan_at(speller, step);
-        let lamp = lamp_at(printer, key);
+        let lamp = strip[key as usize] as u16;
         place = put_line(out, place, key, name, lamp);
         step = stepping::next(solved, step);
         key += 1;
@@ -123,17 +107,41 @@ fn put_lines(out: &mut [u8], printer: Printer, keys: u16) -> usize
     place
 }
 
-// The table of the first keys at the front of a slice that holds it (10).
-pub fn write_lines(printer: Printer, keys: u16, out: &mut [u8]) -> CountAnswer
-    requires { ⌜ Ready printer ⌝ }
-    ensures { λ r. ⌜ Filled (heldIn (length (now (out .entry))) (joined (lineAt printer) keys)) (countOutcome r) (now (out .entry)) (now (out .exit)) ⌝ }
+// The lines of an octave at the front of a slice that holds them (10).
+fn write_lines(speller: Speller, strip: &[u8], keys: u16, out: &mut [u8]) -> CountAnswer
+    requires { ⌜ Sound speller × (keys ≡ speller .solved .«reduced_period» * speller .solved .«num_cycles») × (keys ≤ length (now strip)) ⌝ }
+    ensures { λ r. ⌜ Filled (heldIn (length (now (out .entry))) (joined (lineOf speller (now (strip .entry))) keys)) (countOutcome r) (now (out .entry)) (now (out .exit)) ⌝ }
 {
-    let bytes = table_length(printer, keys);
+    let bytes = lines_length(speller, strip, keys);
     if out.len() < bytes {
         return CountAnswer::Refused(Refusal::Room);
     }
-    put_lines(out, printer, keys);
+    put_lines(out, speller, strip, keys);
     CountAnswer::Given(bytes)
+}
+
+// How many bytes a table has. No layout with lamps has more than 1,818 keys (`LampsBoundTheOctave` of `lamps`).
+pub fn table_length(layout: IsomorphicLayout, found: Found) -> usize
+    requires { ⌜ Printable layout (layoutOf found) ⌝ }
+    ensures { λ r. ⌜ r ≡ length (tableIn (layout .genchain) (layout .octave) (layoutOf found)) ⌝ }
+{
+    let mut strip: [u8; 1818] = [0; 1818];
+    put_lamps(layout, found, &mut strip);
+    let row = rows::row(layout.genchain);
+    let speller = layout_book::parts::speller_of(row, layout, found);
+    lines_length(speller, &strip, layout.octave)
+}
+
+// A table at the front of a slice that holds it (10). All lamp codes are found first, and then line by line the names.
+pub fn print_table(layout: IsomorphicLayout, found: Found, out: &mut [u8]) -> CountAnswer
+    requires { ⌜ Printable layout (layoutOf found) ⌝ }
+    ensures { λ r. ⌜ Filled (heldIn (length (now (out .entry))) (tableIn (layout .genchain) (layout .octave) (layoutOf found))) (countOutcome r) (now (out .entry)) (now (out .exit)) ⌝ }
+{
+    let mut strip: [u8; 1818] = [0; 1818];
+    put_lamps(layout, found, &mut strip);
+    let row = rows::row(layout.genchain);
+    let speller = layout_book::parts::speller_of(row, layout, found);
+    write_lines(speller, &strip, layout.octave, out)
 }
 
 // A refusal's line; the place after it.

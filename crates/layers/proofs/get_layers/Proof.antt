@@ -1,6 +1,7 @@
 -- Questions 7 and 10, then the layers at the front; they are as many as the reduced size says.
 use mathlib.Core.Path.{sym, _∙_}
 use Rattle.layers.proofs.Answers.{layers-no-pattern, layers-no-room, layers-room, layers-given, code-reduced}
+use Rattle.layers.proofs.Theorems.{code-cycles}
 use borrow.Author.Needs.{needs}
 use Rattle.layers.proofs.get_layers.Statement.{statement}
 use Rattle.layers.proofs.get_layers.Tie as tie
@@ -23,17 +24,20 @@ div-len c = search needs
 returns : tie.Need-returns
 returns c = layers-no-room _ _ (c .before .before .before .before .is-pattern .ensures) (c .before .before .before .if1 .taken) (code-reduced (c .before .before .before .before .before .before .args .mos) (c .before .wide-size .ensures) (c .before .before .gcd-u16 .ensures .is)) (c .if2 .taken)
 
-runs-in-requires : tie.Need-runs-in-requires
-runs-in-requires c κs = sym (c .before .before .before .before .before .is-pattern .ensures) ∙ c .before .before .before .before .if1 .taken
+runs-over-requires : tie.Need-runs-over-requires
+runs-over-requires c κs = (
+  sym (c .before .before .before .before .before .is-pattern .ensures) ∙ c .before .before .before .before .if1 .taken,
+  code-cycles (c .before .before .before .before .before .before .before .args .mos) _ (c .before .before .before .gcd-u16 .ensures .is),
+)
 
 put-all-layers-requires : tie.Need-put-all-layers-requires
-put-all-layers-requires c κs = layers-room (c .before .before .before .before .before .before .before .before .args .mos) (c .runs-in .result) (c .runs-in .ensures) (c .before .before .before .before .before .before .before .before .args .out .now) (c .before .before .before .before .before .before .is-pattern .ensures) (c .before .before .before .before .before .if1 .taken) (code-reduced (c .before .before .before .before .before .before .before .before .args .mos) (c .before .before .before .wide-size .ensures) (c .before .before .before .before .gcd-u16 .ensures .is)) (c .before .before .if2 .left)
+put-all-layers-requires c κs = layers-room (c .before .before .before .before .before .before .before .before .args .mos) (c .runs-over .result) (c .runs-over .ensures) (c .before .before .before .before .before .before .before .before .args .out .now) (c .before .before .before .before .before .before .is-pattern .ensures) (c .before .before .before .before .before .if1 .taken) (code-reduced (c .before .before .before .before .before .before .before .before .args .mos) (c .before .before .before .wide-size .ensures) (c .before .before .before .before .gcd-u16 .ensures .is)) (c .before .before .if2 .left)
 
 same-length : tie.Need-same-length
 same-length c = search needs
 
 returns-2 : tie.Need-returns-2
-returns-2 c = layers-given _ (c .before .before .before .runs-in .result) (c .before .before .before .runs-in .ensures) _ (c .before .before .before .before .before .before .before .before .before .is-pattern .ensures) (c .before .before .before .before .before .before .before .before .if1 .taken) (code-reduced (c .before .before .before .before .before .before .before .before .before .before .before .args .mos) (c .before .before .before .before .before .before .wide-size .ensures) (c .before .before .before .before .before .before .before .gcd-u16 .ensures .is)) (c .before .before .before .before .before .if2 .left) (c .before .before .put-all-layers .ensures)
+returns-2 c = layers-given _ (c .before .before .before .runs-over .result) (c .before .before .before .runs-over .ensures) _ (c .before .before .before .before .before .before .before .before .before .is-pattern .ensures) (c .before .before .before .before .before .before .before .before .if1 .taken) (code-reduced (c .before .before .before .before .before .before .before .before .before .before .before .args .mos) (c .before .before .before .before .before .before .wide-size .ensures) (c .before .before .before .before .before .before .before .gcd-u16 .ensures .is)) (c .before .before .before .before .before .if2 .left) (c .before .before .put-all-layers .ensures)
 
 returns-3 : tie.Need-returns-3
 returns-3 c = layers-no-pattern _ _ (c .before .is-pattern .ensures) (c .if1 .left)
@@ -48,7 +52,7 @@ get-layers-spec =
     cast-len
     div-len
     returns
-    runs-in-requires
+    runs-over-requires
     put-all-layers-requires
     same-length
     returns-2

@@ -1,7 +1,8 @@
 -- Questions 1 to 4, then the key's number.
 use mathlib.Core.Path.{sym, ap, _∙_}
 use Rattle.layout.specs.Parts.{foundOutcome}
-use Rattle.layout_layers.proofs.Calls.{layer-refused, layer-given}
+use Rattle.layout_layers.proofs.Calls.{layer-refused, layer-given, inverse-given}
+use Rattle.layout_layers.proofs.PlanLaws.{plan-parts}
 use borrow.Author.Needs.{needs}
 use Rattle.layout_layers.proofs.get_layer.Statement.{statement}
 use Rattle.layout_layers.proofs.get_layer.Tie as tie
@@ -15,18 +16,24 @@ enum-known-q c = search needs
 enum-known-found : tie.Need-enum-known-found
 enum-known-found c = search needs
 
+solve-requires : tie.Need-solve-requires
+solve-requires c κs =
+    plan-parts _ _ _ _ (sym (sym (ap foundOutcome (c .before .found .given .1)) ∙ c .before .before .before .search .ensures)) .positive
+
 plan-of-requires : tie.Need-plan-of-requires
-plan-of-requires c κs = sym (sym (ap foundOutcome (c .before .found .given .1)) ∙ c .before .before .before .search .ensures)
+plan-of-requires c κs = sym (sym (ap foundOutcome (c .before .before .found .given .1)) ∙ c .before .before .before .before .search .ensures)
 
 number-of-requires : tie.Need-number-of-requires
-number-of-requires c κs = c .plan-of .ensures .sound
+number-of-requires c κs =
+    let e = sym (ap foundOutcome (c .before .before .before .found .given .1)) ∙ c .before .before .before .before .before .search .ensures in
+    (c .plan-of .ensures .sound, inverse-given _ _ e _ (c .plan-of .ensures) _ (c .before .solve .ensures))
 
 returns : tie.Need-returns
 returns c = layer-refused _ _ (sym (ap foundOutcome (c .before .q .given .1)) ∙ c .before .before .before .search .ensures) _
 
 returns-2 : tie.Need-returns-2
 returns-2 c =
-    let e = sym (ap foundOutcome (c .before .before .before .found .given .1)) ∙ c .before .before .before .before .before .search .ensures in
+    let e = sym (ap foundOutcome (c .before .before .before .before .found .given .1)) ∙ c .before .before .before .before .before .before .search .ensures in
     layer-given _ _ e _ (c .before .plan-of .ensures) _ _ (c .number-of .ensures)
 
 pub get-layer-spec : {M : Type 1} → statement M
@@ -36,6 +43,7 @@ get-layer-spec =
     search-requires
     enum-known-q
     enum-known-found
+    solve-requires
     plan-of-requires
     number-of-requires
     returns

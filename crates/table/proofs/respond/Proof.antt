@@ -1,13 +1,20 @@
 -- The line, then the layout: one law for each way in which the output is made.
-use mathlib.Core.Path.{sym, ap, _∙_}
-use Rattle.answer.specs.Refusals.{countOutcome}
+use mathlib.Core.Path.{sym, ap, subst, _∙_}
 use Rattle.line.specs.Lines.{lineAnswered}
 use Rattle.layout.proofs.Calls.{filled-as}
-use Rattle.table.proofs.Calls.{output-no-line, output-refused, output-given}
-use Rattle.table.proofs.StripQuestions.{table-like-strip}
+use Rattle.table.specs.Tables.{layoutOn}
+use Rattle.table.specs.Parts.{Asked}
+use Rattle.table.proofs.Calls.{table-given, output-no-line, output-refused, output-given}
 use borrow.Author.Needs.{needs}
 use Rattle.table.proofs.respond.Statement.{statement}
 use Rattle.table.proofs.respond.Tie as tie
+use Rattle.table.proofs.respond.Reads as reads
+use Rattle.table.proofs.respond.Lts as lts
+use Rattle.answer.proofs.Refusal.number.Reads as number-reads
+use Rattle.line.proofs.parse.Reads as parse-reads
+use Rattle.table.proofs.parts.ask.Reads as ask-reads
+use Rattle.table.proofs.parts.print_table.Reads as print-table-reads
+use Rattle.table.proofs.parts.write_refusal.Reads as write-refusal-reads
 
 parse-requires : tie.Need-parse-requires
 parse-requires c κs = search needs
@@ -27,8 +34,8 @@ write-refusal-requires c κs = search needs
 enum-known-asked : tie.Need-enum-known-asked
 enum-known-asked c = search needs
 
-strip-len-requires : tie.Need-strip-len-requires
-strip-len-requires c κs = search needs
+ask-requires : tie.Need-ask-requires
+ask-requires c κs = search needs
 
 enum-known-q-2 : tie.Need-enum-known-q-2
 enum-known-q-2 c = search needs
@@ -42,11 +49,13 @@ cast-write-refusal-2 c = search needs
 write-refusal-requires-2 : tie.Need-write-refusal-requires-2
 write-refusal-requires-2 c κs = search needs
 
-enum-told : tie.Need-enum-told
-enum-told c = search needs
+enum-known-found : tie.Need-enum-known-found
+enum-known-found c = search needs
 
-write-table-requires : tie.Need-write-table-requires
-write-table-requires c κs = search needs
+print-table-requires : tie.Need-print-table-requires
+print-table-requires c κs =
+    let asked = c .before .before .before .before .before .before .asked .given .0 .0 in
+    subst (Asked (layoutOn asked)) (c .before .before .found .given .1) (c .before .before .before .before .ask .ensures)
 
 same-length : tie.Need-same-length
 same-length c = search needs
@@ -58,17 +67,26 @@ same-length-2 : tie.Need-same-length-2
 same-length-2 c = search needs
 
 returns-2 : tie.Need-returns-2
-returns-2 c = filled-as (output-refused _ _ _ (sym (ap lineAnswered (c .before .before .before .before .before .before .before .before .before .before .asked .given .1)) ∙ c .before .before .before .before .before .before .before .before .before .before .before .before .parse .ensures) _ _ (c .before .before .before .before .number2 .ensures) (table-like-strip _ .refusals _ (sym (ap countOutcome (c .before .before .before .before .before .before .q2 .given .1)) ∙ c .before .before .before .before .before .before .before .before .strip-len .ensures))) (c .before .before .write-refusal2 .ensures)
+returns-2 c =
+    let w = c .before .before in
+    let n = w .before .before in
+    let q = n .before .before in
+    let a = q .before .before in
+    let g = a .before .before in
+    let asked = sym (ap lineAnswered (g .asked .given .1)) ∙ g .before .before .parse .ensures in
+    filled-as (output-refused _ _ _ asked _ _ (n .number2 .ensures) (subst (Asked _) (q .q2 .given .1) (a .ask .ensures))) (w .write-refusal2 .ensures)
 
 same-length-3 : tie.Need-same-length-3
 same-length-3 c = search needs
 
 returns-3 : tie.Need-returns-3
 returns-3 c =
-    let asks = table-like-strip _ .answers _ (sym (ap countOutcome (c .before .before .before .before .enum-told .given .1)) ∙ c .before .before .before .before .before .before .strip-len .ensures) in
-    filled-as
-    (output-given _ _ _ (sym (ap lineAnswered (c .before .before .before .before .before .before .before .before .asked .given .1)) ∙ c .before .before .before .before .before .before .before .before .before .before .parse .ensures) (asks .0) (asks .1))
-    (c .before .before .write-table .ensures)
+    let t = c .before .before in
+    let f = t .before .before .before in
+    let a = f .before .before in
+    let g = a .before .before in
+    let asked = sym (ap lineAnswered (g .asked .given .1)) ∙ g .before .before .parse .ensures in
+    filled-as (output-given _ _ _ asked _ (table-given _ _ (subst (Asked _) (f .found .given .1) (a .ask .ensures)))) (t .print-table .ensures)
 
 pub respond-spec : {M : Type 1} → statement M
 respond-spec =
@@ -80,13 +98,13 @@ respond-spec =
     cast-write-refusal
     write-refusal-requires
     enum-known-asked
-    strip-len-requires
+    ask-requires
     enum-known-q-2
     number-requires-2
     cast-write-refusal-2
     write-refusal-requires-2
-    enum-told
-    write-table-requires
+    enum-known-found
+    print-table-requires
     same-length
     returns
     same-length-2

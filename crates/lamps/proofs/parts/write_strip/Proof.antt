@@ -1,8 +1,8 @@
--- Question 10, then the codes at the front, and home over the first.
-use native.Mathlib.Nat.{mul-le-mul}
+-- Question 10, then the strip.
 use native.Mathlib.Omega.{arith}
-use Rattle.answer.proofs.Writing.{wrote-length}
-use Rattle.lamps.proofs.StripLaws.{some-codes, codes-room, strip-too-long, strip-held}
+use Rattle.layout_layers.proofs.Calls.{text-too-long, text-held}
+use Rattle.lamps.specs.Parts.{planStrip}
+use Rattle.lamps.proofs.StripLaws.{length-strip}
 use borrow.Author.Needs.{needs}
 use Rattle.lamps.proofs.parts.write_strip.Statement.{statement}
 use Rattle.lamps.proofs.parts.write_strip.Tie as tie
@@ -14,29 +14,17 @@ cast-count-2 : tie.Need-cast-count-2
 cast-count-2 c = search needs
 
 mul-count : tie.Need-mul-count
-mul-count c =
-    let solved = c .before .before .before .before .args .plan .solved in
-    omega (arith, mul-le-mul {n₁ = solved .«reduced_period»} {m₁ = solved .«num_cycles»} {n₂ = 65535} {m₂ = 65535} (search needs) (search needs))
+mul-count c = omega (arith, c .before .before .before .before .pre .0 .keys-fit)
 
 returns : tie.Need-returns
 returns c =
     let start = c .before .before .before .before .before in
-    strip-too-long (start .args .plan) (start .args .total) (start .pre .0) _ (c .if1 .taken)
+    text-too-long (planStrip (start .args .plan) (start .args .total)) _ _ (length-strip (start .args .plan) (start .args .total)) (c .if1 .taken)
 
-put-turns-requires : tie.Need-put-turns-requires
-put-turns-requires c κs =
+put-strip-requires : tie.Need-put-strip-requires
+put-strip-requires c κs =
     let start = c .before .before .before .before .before .before in
-    (start .pre .0, start .pre .1, start .pre .2, codes-room (start .args .plan) (start .args .total) (start .pre .0) (start .args .out .now) (c .before .if1 .left))
-
-slice-write-out : tie.Need-slice-write-out
-slice-write-out c =
-    let start = c .before .before .before .before .before .before .before .before .before in
-    omega (
-      arith,
-      wrote-length (c .before .before .put-turns .ensures),
-      some-codes (start .args .plan) (start .args .total) (start .pre .0) (start .args .out .now),
-      c .before .before .before .before .if1 .left,
-    )
+    (start .pre .0, start .pre .1, start .pre .2, c .before .if1 .left)
 
 same-length : tie.Need-same-length
 same-length c = search needs
@@ -44,7 +32,7 @@ same-length c = search needs
 returns-2 : tie.Need-returns-2
 returns-2 c =
     let start = c .before .before .before .before .before .before .before .before .before in
-    strip-held (start .args .plan) (start .args .total) (start .pre .0) _ (c .before .before .before .before .if1 .left) (c .before .before .put-turns .ensures)
+    text-held (planStrip (start .args .plan) (start .args .total)) _ _ (length-strip (start .args .plan) (start .args .total)) (c .before .before .before .before .if1 .left) (c .before .before .put-strip .ensures)
 
 pub write-strip-spec : {M : Type 1} → statement M
 write-strip-spec =
@@ -54,7 +42,6 @@ write-strip-spec =
     cast-count-2
     mul-count
     returns
-    put-turns-requires
-    slice-write-out
+    put-strip-requires
     same-length
     returns-2)

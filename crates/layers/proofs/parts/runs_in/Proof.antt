@@ -1,6 +1,5 @@
--- The steps divided by their greatest common divisor.
-use mathlib.Core.Path.{_∙_}
-use Rattle.layers.proofs.Theorems.{divided-fits, cycles-layers}
+-- The divisor of the steps, and the runs over it.
+use Rattle.layers.proofs.Theorems.{code-cycles}
 use borrow.Author.Needs.{needs}
 use Rattle.layers.proofs.parts.runs_in.Statement.{statement}
 use Rattle.layers.proofs.parts.runs_in.Tie as tie
@@ -8,18 +7,11 @@ use Rattle.layers.proofs.parts.runs_in.Tie as tie
 gcd-u16-requires : tie.Need-gcd-u16-requires
 gcd-u16-requires c κs = search needs
 
-div-runs-of : tie.Need-div-runs-of
-div-runs-of c = search needs
-
-div-runs-of-2 : tie.Need-div-runs-of-2
-div-runs-of-2 c = search needs
-
-runs-of-requires : tie.Need-runs-of-requires
-runs-of-requires c κs = divided-fits (c .before .before .before .args .m) _ (c .before .before .gcd-u16 .ensures .is) (c .before .before .before .pre)
+runs-over-requires : tie.Need-runs-over-requires
+runs-over-requires c κs = (c .before .pre, code-cycles (c .before .args .m) _ (c .gcd-u16 .ensures .is))
 
 returns : tie.Need-returns
-returns c = c .runs-of .ensures ∙ cycles-layers (c .before .before .before .before .args .m) _ (c .before .before .before .gcd-u16 .ensures .is)
+returns c = search needs
 
 pub runs-in-spec : {M : Type 1} → statement M
-runs-in-spec =
-    tie.close (tie.spec gcd-u16-requires div-runs-of div-runs-of-2 runs-of-requires returns)
+runs-in-spec = tie.close (tie.spec gcd-u16-requires runs-over-requires returns)

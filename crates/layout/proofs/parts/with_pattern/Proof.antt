@@ -1,6 +1,10 @@
 -- The walk from the genesis, and the pattern that it left in the array.
-use mathlib.Core.Path.{ap}
-use native.Mathlib.Nat.{mod-le, mod-lt, le-of-lt}
+use Prim.Native.Nat.{ℕ, _-_}
+use mathlib.Core.Path.{ap, _∙_}
+use native.Mathlib.Nat.{mod-lt}
+use native.Mathlib.Omega.{arith}
+use Rattle.mos.specs.Patterns.{mos}
+use Rattle.mos.specs.Walks.{children, firstWith}
 use Rattle.mos.proofs.Theorems.{made-patterns}
 use Rattle.mos.proofs.Sequences.{met-found, met-nothing}
 use Rattle.layout.specs.Layouts.{withPattern}
@@ -8,43 +12,51 @@ use borrow.Author.Needs.{needs}
 use Rattle.layout.proofs.parts.with_pattern.Statement.{statement}
 use Rattle.layout.proofs.parts.with_pattern.Tie as tie
 
-rem-step : tie.Need-rem-step
-rem-step c = search needs
+within-octave-requires : tie.Need-within-octave-requires
+within-octave-requires c κs = search needs
 
-sub-t7 : tie.Need-sub-t7
-sub-t7 c = le-of-lt (mod-lt (c .args .generator) (c .pre))
+sub-seek : tie.Need-sub-seek
+sub-seek c = omega (arith, c .within-octave .ensures, mod-lt (c .before .args .generator) (c .before .pre))
 
 seek-requires : tie.Need-seek-requires
-seek-requires c κs = made-patterns .of-genesis _ _ (c .before .pre) (search needs)
+seek-requires c κs = rw (c .before .within-octave .ensures) (made-patterns .of-genesis _ _ (c .before .before .pre) (search needs))
 
-array-read-t13 : tie.Need-array-read-t13
-array-read-t13 c = search needs
+array-read-t12 : tie.Need-array-read-t12
+array-read-t12 c = search needs
 
-array-read-t16 : tie.Need-array-read-t16
-array-read-t16 c = search needs
+array-read-t15 : tie.Need-array-read-t15
+array-read-t15 c = search needs
 
-array-read-t19 : tie.Need-array-read-t19
-array-read-t19 c = search needs
+array-read-t18 : tie.Need-array-read-t18
+array-read-t18 c = search needs
 
-array-read-t22 : tie.Need-array-read-t22
-array-read-t22 c = search needs
+array-read-t21 : tie.Need-array-read-t21
+array-read-t21 c = search needs
 
 returns : tie.Need-returns
-returns c = ap (withPattern (c .before .before .before .args .generator)) (met-found _ _ (c .before .seek .ensures) (c .if1 .taken))
+returns c =
+    let args = c .before .before .before .before .args in
+    ap (withPattern (args .generator)) (met-found _ _ (c .before .seek .ensures) (c .if1 .taken))
+    ∙ ap (λ (step : ℕ). withPattern (args .generator) (firstWith (args .num-letters) (children (mos 1 1 step (args .octave - step)))))
+    (c .before .before .before .within-octave .ensures)
 
 returns-2 : tie.Need-returns-2
-returns-2 c = ap (withPattern (c .before .before .before .args .generator)) (met-nothing _ _ (c .before .seek .ensures) (c .if1 .left))
+returns-2 c =
+    let args = c .before .before .before .before .args in
+    ap (withPattern (args .generator)) (met-nothing _ _ (c .before .seek .ensures) (c .if1 .left))
+    ∙ ap (λ (step : ℕ). withPattern (args .generator) (firstWith (args .num-letters) (children (mos 1 1 step (args .octave - step)))))
+    (c .before .before .before .within-octave .ensures)
 
 pub with-pattern-spec : {M : Type 1} → statement M
 with-pattern-spec =
     tie.close
     (tie.spec
-    rem-step
-    sub-t7
+    within-octave-requires
+    sub-seek
     seek-requires
-    array-read-t13
-    array-read-t16
-    array-read-t19
-    array-read-t22
+    array-read-t12
+    array-read-t15
+    array-read-t18
+    array-read-t21
     returns
     returns-2)

@@ -1,5 +1,9 @@
 -- The count, the pairs and the text.
+use Prim.Native.Nat.{ℕ}
 use native.Mathlib.Omega.{arith}
+use mathlib.Core.Path.{ap}
+use lib.ListN.{length}
+use Rattle.answer.specs.Writing.{joined}
 use Rattle.book.proofs.Written.{length-book}
 use Rattle.layout_book.specs.Parts.{nameOf}
 use borrow.Author.Needs.{needs}
@@ -12,15 +16,22 @@ mul-result c = search needs
 add-result : tie.Need-add-result
 add-result c = search needs
 
-text-length-requires : tie.Need-text-length-requires
-text-length-requires c κs = search needs
+names-length-requires : tie.Need-names-length-requires
+names-length-requires c κs = search needs
 
 add-result-2 : tie.Need-add-result-2
 add-result-2 c = search needs
 
 returns : tie.Need-returns
-returns c = omega (arith, c .text-length .ensures .0, length-book (nameOf (c .before .args .speller)) (c .before .args .keys))
+returns c =
+    let s = c .before in
+    omega (
+      arith,
+      c .names-length .ensures .length-is,
+      ap (λ (k : ℕ). length (joined (nameOf (s .args .speller)) k)) (s .pre .1),
+      length-book (nameOf (s .args .speller)) (s .args .keys),
+    )
 
 pub book-length-spec : {M : Type 1} → statement M
 book-length-spec =
-    tie.close (tie.spec mul-result add-result text-length-requires add-result-2 returns)
+    tie.close (tie.spec mul-result add-result names-length-requires add-result-2 returns)

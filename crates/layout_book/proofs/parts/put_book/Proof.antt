@@ -1,10 +1,9 @@
 -- The count, then the pairs and the names.
-use Prim.Native.Nat.{ℕ}
 use native.Mathlib.Omega.{arith}
 use mathlib.Core.Path.{sym, _∙_}
 use mathlib.Core.List.{append-assoc}
 use lib.ListN.{length-append}
-use Rattle.answer.specs.Writing.{Wrote, joined}
+use Rattle.answer.specs.Writing.{joined}
 use Rattle.answer.proofs.Writing.{then, wrote-as, wrote-length}
 use Rattle.book.specs.Books.{le32, pairText}
 use Rattle.book.proofs.Numbers.{length-le32}
@@ -17,7 +16,7 @@ use Rattle.layout_book.proofs.parts.put_book.Tie as tie
 put-u32-requires : tie.Need-put-u32-requires
 put-u32-requires c κs =
     let s = c .before .before in
-    simp length-le32 (omega (arith, s .pre .1, length-book (nameOf (s .args .speller)) (s .args .keys)))
+    simp length-le32 (omega (arith, s .pre .2, length-book (nameOf (s .args .speller)) (s .args .keys)))
 
 put-entries-requires : tie.Need-put-entries-requires
 put-entries-requires c κs =
@@ -26,9 +25,10 @@ put-entries-requires c κs =
     let name = nameOf (s .args .speller) in
     let k = s .args .keys in (
       s .pre .0,
+      s .pre .1,
       omega (
         arith,
-        s .pre .1,
+        s .pre .2,
         length-book name k,
         length-pairs name k k,
         length-append (joined (pairText name k) k) (joined name k),

@@ -16,7 +16,7 @@ cast-result-2 : tie.Need-cast-result-2
 cast-result-2 c = search needs
 
 mul-result : tie.Need-mul-result
-mul-result c = omega (arith, mul-le-mul {n₁ = c .before .turns-of .result} {m₁ = c .before .before .before .args .plan .solved .«num_cycles»} {n₂ = 131070} {m₂ = 65535} (c .before .turns-of .ensures .1) (search needs))
+mul-result c = omega (arith, mul-le-mul {n₁ = c .before .turns-of .result} {m₁ = c .before .before .before .args .plan .chain .«num_cycles»} {n₂ = 131070} {m₂ = 65535} (c .before .turns-of .ensures .1) (search needs))
 
 returns : tie.Need-returns
 returns c = length-plan (c .before .before .before .args .plan) (c .before .turns-of .ensures .0)

@@ -1,5 +1,5 @@
 -- The parts of the plan, of an accepted layout.
-use Rattle.layout_layers.proofs.PlanLaws.{plan-parts, plan-pattern, runs-fit, offset-room, plan-made}
+use Rattle.layout_layers.proofs.PlanLaws.{plan-parts, runs-room, some-divisor, offset-room, plan-made}
 use borrow.Author.Needs.{needs}
 use Rattle.layout_layers.proofs.parts.plan_of.Statement.{statement}
 use Rattle.layout_layers.proofs.parts.plan_of.Tie as tie
@@ -7,25 +7,43 @@ use Rattle.layout_layers.proofs.parts.plan_of.Tie as tie
 row-requires : tie.Need-row-requires
 row-requires c κs = plan-parts _ _ _ _ (c .pre) .chain
 
-solve-requires : tie.Need-solve-requires
-solve-requires c κs = plan-parts _ _ _ _ (c .before .pre) .positive
+gcd-u16-requires : tie.Need-gcd-u16-requires
+gcd-u16-requires c κs = search needs
 
-runs-in-requires : tie.Need-runs-in-requires
-runs-in-requires c κs = plan-pattern _ _ _ _ (c .before .before .before .pre) (search needs)
+runs-over-requires : tie.Need-runs-over-requires
+runs-over-requires c κs =
+    runs-room _ _ _ _ (c .before .before .before .pre) (search needs) _ (c .before .before .row .ensures) _ (c .gcd-u16 .ensures .is)
 
-bands-of-requires : tie.Need-bands-of-requires
-bands-of-requires c κs =
-    runs-fit _ _ _ _ (c .before .before .before .before .pre) (search needs) _ (c .before .before .before .row .ensures) _ (c .before .before .solve .ensures) (c .runs-in .result) (c .runs-in .ensures)
+divided-requires : tie.Need-divided-requires
+divided-requires c κs =
+    some-divisor _ _ _ _ (c .before .before .before .before .pre) (search needs) _ (c .before .before .before .row .ensures) _ (c .before .gcd-u16 .ensures .is)
+
+within-octave-requires : tie.Need-within-octave-requires
+within-octave-requires c κs = plan-parts _ _ _ _ (c .before .before .before .before .before .pre) .positive
+
+divided-requires-2 : tie.Need-divided-requires-2
+divided-requires-2 c κs =
+    some-divisor _ _ _ _ (c .before .before .before .before .before .before .pre) (search needs) _ (c .before .before .before .before .before .row .ensures) _ (c .before .before .before .gcd-u16 .ensures .is)
 
 offset-of-requires : tie.Need-offset-of-requires
 offset-of-requires c κs =
-    offset-room _ _ _ _ (c .before .before .before .before .before .pre) (search needs) _ (c .before .before .before .before .row .ensures) _ (c .before .before .before .solve .ensures)
+    offset-room _ _ _ _ (c .before .before .before .before .before .before .before .pre) (search needs) _ (c .before .before .before .before .before .before .row .ensures) _ (c .before .before .before .before .gcd-u16 .ensures .is)
 
 returns : tie.Need-returns
 returns c =
-    plan-made _ _ _ _ (c .before .before .before .before .before .before .before .pre) (search needs) _ (c .before .before .before .before .before .before .row .ensures) _ (c .before .before .before .before .before .solve .ensures) (c .before .before .before .runs-in .result)
-    (c .before .before .before .runs-in .ensures) _ (c .before .before .bands-of .ensures) _ (c .before .offset-of .ensures)
+    plan-made _ _ _ _ (c .before .before .before .before .before .before .before .before .before .pre) (search needs) _ (c .before .before .before .before .before .before .before .before .row .ensures) _ (c .before .before .before .before .before .before .gcd-u16 .ensures .is)
+    _ (c .before .before .before .before .divided .ensures) _ (c .before .before .before .within-octave .ensures) _ (c .before .before .divided2 .ensures)
+    (c .before .before .before .before .before .runs-over .result) (c .before .before .before .before .before .runs-over .ensures) _ (c .before .offset-of .ensures)
 
 pub plan-of-spec : {M : Type 1} → statement M
 plan-of-spec =
-    tie.close (tie.spec row-requires solve-requires runs-in-requires bands-of-requires offset-of-requires returns)
+    tie.close
+    (tie.spec
+    row-requires
+    gcd-u16-requires
+    runs-over-requires
+    divided-requires
+    within-octave-requires
+    divided-requires-2
+    offset-of-requires
+    returns)

@@ -2,7 +2,7 @@
 use mathlib.Core.Path.{ap}
 use native.Mathlib.Omega.{arith}
 use lib.ListN.{length}
-use Rattle.notes.proofs.Lengths.{length-two, length-bracketed, body-bracketed, body-two, body-one}
+use Rattle.notes.proofs.Lengths.{length-two, length-in-parentheses, length-plain, body-bracketed, body-one}
 use borrow.Author.Needs.{needs}
 use Rattle.notes.proofs.plans.body_length.Statement.{statement}
 use Rattle.notes.proofs.plans.body_length.Tie as tie
@@ -26,14 +26,14 @@ returns : tie.Need-returns
 returns c =
     let p = c .before .before .before .before .before .before .args .plan in
     record {
-      length-is = omega (arith, length-two p, length-bracketed p, ap length (body-bracketed p (c .before .before .if1 .taken) (c .if2 .taken)));
+      length-is = omega (arith, length-two p, length-in-parentheses p (c .if2 .taken), ap length (body-bracketed p (c .before .before .if1 .taken)));
       bound = omega arith;
     }
 
 returns-2 : tie.Need-returns-2
 returns-2 c =
     let p = c .before .before .before .before .before .before .args .plan in
-    record { length-is = omega (arith, length-two p, ap length (body-two p (c .before .before .if1 .taken) (c .if2 .left))); bound = omega arith }
+    record { length-is = omega (arith, length-two p, length-plain p (c .if2 .left), ap length (body-bracketed p (c .before .before .if1 .taken))); bound = omega arith }
 
 returns-3 : tie.Need-returns-3
 returns-3 c =

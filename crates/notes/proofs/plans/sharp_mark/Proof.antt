@@ -1,19 +1,12 @@
--- The definition, with the letter that `letter_at` finds.
-use Rattle.notes.specs.Parts.{sharpMark}
-use borrow.Author.Needs.{needs}
+-- The sign by the style.
 use Rattle.notes.proofs.plans.sharp_mark.Statement.{statement}
 use Rattle.notes.proofs.plans.sharp_mark.Tie as tie
 
-letter-at-requires : tie.Need-letter-at-requires
-letter-at-requires c κs = search needs
-
 returns : tie.Need-returns
-unfolding sharpMark
-returns c = (rw (c .if1 .taken, c .before .letter-at .ensures .0), c .before .letter-at .ensures .1)
+returns c = rw (c .if1 .taken)
 
 returns-2 : tie.Need-returns-2
-unfolding sharpMark
-returns-2 c = (rw (c .if1 .left, c .before .letter-at .ensures .0), c .before .letter-at .ensures .1)
+returns-2 c = rw (c .if1 .left)
 
 pub sharp-mark-spec : {M : Type 1} → statement M
-sharp-mark-spec = tie.close (tie.spec letter-at-requires returns returns-2)
+sharp-mark-spec = tie.close (tie.spec returns returns-2)

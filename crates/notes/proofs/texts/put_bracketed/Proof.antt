@@ -7,16 +7,16 @@ use borrow.Author.Needs.{needs}
 use Rattle.notes.proofs.texts.put_bracketed.Statement.{statement}
 use Rattle.notes.proofs.texts.put_bracketed.Tie as tie
 
-put-byte-requires : tie.Need-put-byte-requires
-put-byte-requires c κs = omega (arith, length-bracketed (c .before .before .args .plan))
+put-parenthesis-requires : tie.Need-put-parenthesis-requires
+put-parenthesis-requires c κs = omega (arith, length-bracketed (c .before .before .args .plan))
 
 put-two-requires : tie.Need-put-two-requires
 put-two-requires c κs =
     let d = c .before .before .before .before .before .before in
     (d .pre .0, omega (arith, length-bracketed (d .args .plan)))
 
-put-byte-requires-2 : tie.Need-put-byte-requires-2
-put-byte-requires-2 c κs =
+put-parenthesis-requires-2 : tie.Need-put-parenthesis-requires-2
+put-parenthesis-requires-2 c κs =
     omega (arith, length-bracketed (c .before .before .before .before .before .before .before .before .before .before .args .plan))
 
 same-length : tie.Need-same-length
@@ -27,10 +27,10 @@ unfolding bracketedText
 returns c =
     then
     (then
-    (c .before .before .before .before .before .before .before .before .before .before .put-byte .ensures)
+    (c .before .before .before .before .before .before .before .before .before .before .put-parenthesis .ensures)
     (c .before .before .before .before .before .before .put-two .ensures))
-    (c .before .before .put-byte2 .ensures)
+    (c .before .before .put-parenthesis2 .ensures)
 
 pub put-bracketed-spec : {M : Type 1} → statement M
 put-bracketed-spec =
-    tie.close (tie.spec put-byte-requires put-two-requires put-byte-requires-2 same-length returns)
+    tie.close (tie.spec put-parenthesis-requires put-two-requires put-parenthesis-requires-2 same-length returns)

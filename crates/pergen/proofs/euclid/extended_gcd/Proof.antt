@@ -1,19 +1,16 @@
--- At each turn both remainders are products of their coefficients with the generator, modulo the period (`Going`).
+-- At each turn both remainders are left by their coefficients, one of them counted backward (`Going`).
 use native.Mathlib.Nat.{mod-lt}
 use native.Mathlib.Omega.{arith}
 use borrow.Author.Needs.{needs}
-use Rattle.pergen.proofs.ExtendedEuclid.{Going, start, step, product, done}
+use Rattle.pergen.proofs.ExtendedEuclid.{Going, start, step, next-small, last-small, done}
 use Rattle.pergen.proofs.euclid.extended_gcd.Statement.{statement}
 use Rattle.pergen.proofs.euclid.extended_gcd.Tie as tie
 
 abbrev Inv-loop : tie.InvT-loop
-Inv-loop period generator modulus r0₀ r1₀ c0₀ c1₀ r0 r1 c0 c1 = Going period generator r0 r1 c0 c1
+Inv-loop period generator r0₀ r1₀ c0₀ c1₀ negative₀ r0 r1 c0 c1 negative = Going period generator r0 r1 c0 c1 negative
 
 abbrev μ-loop : tie.MeasureT-loop
-μ-loop period generator modulus r0₀ r1₀ c0₀ c1₀ r0 r1 c0 c1 = r1
-
-rem-c1 : tie.Need-rem-c1 Inv-loop μ-loop
-rem-c1 c = search needs
+μ-loop period generator r0₀ r1₀ c0₀ c1₀ negative₀ r0 r1 c0 c1 negative = r1
 
 loop-holds : tie.Need-loop-holds Inv-loop μ-loop
 loop-holds c = start (c .args .period) (c .args .generator) (search needs) (search needs) (search needs)
@@ -24,32 +21,29 @@ div-turns c = search needs
 rem-r2 : tie.Need-rem-r2 Inv-loop μ-loop
 rem-r2 c = search needs
 
-sub-c2 : tie.Need-sub-c2 Inv-loop μ-loop
-sub-c2 c = omega (arith, c .before .loop .inv .below₁)
-
 mul-c2 : tie.Need-mul-c2 Inv-loop μ-loop
-mul-c2 c = omega (arith, product _ _ _ _ _ _ (search needs) (c .before .loop .inv))
+mul-c2 c = omega (arith, next-small _ _ _ _ _ _ _ (c .before .loop .inv) (search needs))
 
 add-c2 : tie.Need-add-c2 Inv-loop μ-loop
-add-c2 c = omega (arith, product _ _ _ _ _ _ (search needs) (c .before .loop .inv), c .before .loop .inv .below₀)
-
-rem-c2 : tie.Need-rem-c2 Inv-loop μ-loop
-rem-c2 c = search needs
+add-c2 c = omega (arith, next-small _ _ _ _ _ _ _ (c .before .loop .inv) (search needs))
 
 loop-less : tie.Need-loop-less Inv-loop μ-loop
 loop-less c = mod-lt (c .before .loop .r0) (search needs)
 
 loop-again : tie.Need-loop-again Inv-loop μ-loop
-loop-again c = step _ _ _ _ _ _ (search needs) (search needs) (c .before .loop .inv)
+loop-again c = step _ _ _ _ _ _ _ (c .before .loop .inv) (search needs)
+
+cast-t13 : tie.Need-cast-t13 Inv-loop μ-loop
+cast-t13 c = omega (arith, c .before .loop .inv .small₀)
+
+cast-t14 : tie.Need-cast-t14 Inv-loop μ-loop
+cast-t14 c = omega (arith, last-small _ _ _ _ _ _ _ (c .before .loop .inv) (c .loop-test .left))
 
 cast-t15 : tie.Need-cast-t15 Inv-loop μ-loop
-cast-t15 c = omega (arith, c .before .loop .inv .small₀)
-
-cast-t16 : tie.Need-cast-t16 Inv-loop μ-loop
-cast-t16 c = omega (arith, c .before .loop .inv .below₀)
+cast-t15 c = omega (arith, last-small _ _ _ _ _ _ _ (c .before .loop .inv) (c .loop-test .left), c .before .loop .inv .ordered (c .loop-test .left))
 
 returns : tie.Need-returns Inv-loop μ-loop
-returns c = done _ _ _ _ _ _ (c .loop-test .left) (c .before .loop .inv)
+returns c = done _ _ _ _ _ _ _ (c .before .loop .inv) (c .loop-test .left)
 
 pub extended-gcd-spec : {M : Type 1} → statement M
 extended-gcd-spec =
@@ -57,16 +51,14 @@ extended-gcd-spec =
     (tie.spec
     Inv-loop
     μ-loop
-    rem-c1
     loop-holds
     div-turns
     rem-r2
-    sub-c2
     mul-c2
     add-c2
-    rem-c2
     loop-less
     loop-again
+    cast-t13
+    cast-t14
     cast-t15
-    cast-t16
     returns)

@@ -1,14 +1,14 @@
--- One number is read in each turn, and there is room for six.
+-- One number is read in each turn, and there is room for five.
 use Prim.Native.Nat.{_≤_, _-_}
 use borrow.Author.Needs.{needs}
 use Rattle.replay.proofs.words.numbers_after.Statement.{statement}
 use Rattle.replay.proofs.words.numbers_after.Tie as tie
 
 abbrev Inv-loop : tie.InvT-loop
-Inv-loop line from count values₀ at₀ i₀ values at i = i ≤ 6
+Inv-loop line from count values₀ at₀ i₀ values at i = i ≤ 5
 
 abbrev μ-loop : tie.MeasureT-loop
-μ-loop line from count values₀ at₀ i₀ values at i = 6 - i
+μ-loop line from count values₀ at₀ i₀ values at i = 5 - i
 
 loop-holds : tie.Need-loop-holds Inv-loop μ-loop
 loop-holds c = search needs

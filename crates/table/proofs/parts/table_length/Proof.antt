@@ -1,91 +1,54 @@
--- After `key` turns the step stands at that key, and the total is the length of the lines before it.
-use native.Mathlib.Omega.{arith}
-use native.Mathlib.Nat.{le-antisymm}
-use lib.ListN.{length}
-use borrow.Author.Needs.{needs}
-use Rattle.pergen.specs.Parts.{At}
-use Rattle.answer.specs.Writing.{joined}
-use Rattle.table.specs.Parts.{lineAt}
-use Prim.Native.Nat.{ℕ, _-_, _≤_}
+-- The lamps and the speller of the layout; then the lengths of the lines.
 use mathlib.Core.Path.{ap, _∙_}
-use Rattle.layout_book.proofs.Spelled.{on-walk, name-planned, name-short}
-use Rattle.table.proofs.Lines.{Lines, lines-none, lines-more, line-is}
+use native.Mathlib.Omega.{arith}
+use lib.ListN.{length}
+use Rattle.lamps.proofs.Theorems.{lamps-bound-the-octave}
+use Rattle.layout.proofs.Finding.{accepted}
+use Rattle.table.proofs.Calls.{table-is}
+use borrow.Author.Needs.{needs}
 use Rattle.table.proofs.parts.table_length.Statement.{statement}
 use Rattle.table.proofs.parts.table_length.Tie as tie
+use Rattle.table.proofs.parts.table_length.Reads as reads
+use Rattle.table.proofs.parts.table_length.Lts as lts
+use Rattle.genchain.proofs.rows.row.Reads as row-reads
+use Rattle.layout_book.proofs.parts.speller_of.Reads as speller-of-reads
+use Rattle.table.proofs.parts.lines_length.Reads as lines-length-reads
+use Rattle.table.proofs.parts.put_lamps.Reads as put-lamps-reads
 
-abbrev Inv-loop : tie.InvT-loop
-Inv-loop printer keys speller solved total₀ step₀ key₀ total step key = At (printer .speller .solved) key step × Lines printer key total × (key ≤ keys)
+slice-aggregate-put-lamps : tie.Need-slice-aggregate-put-lamps
+slice-aggregate-put-lamps c = search needs
 
-abbrev μ-loop : tie.MeasureT-loop
-μ-loop printer keys speller solved total₀ step₀ key₀ total step key = keys - key
+put-lamps-requires : tie.Need-put-lamps-requires
+put-lamps-requires c κs = let ok = c .before .pre in (ok, lamps-bound-the-octave _ _ _ _ (ok .accepted) (ok .has-lamps))
 
-first-requires : tie.Need-first-requires Inv-loop μ-loop
-first-requires c κs = search needs
+row-requires : tie.Need-row-requires
+row-requires c κs = accepted _ _ _ _ (c .before .before .before .pre .accepted) .chain
 
-loop-holds : tie.Need-loop-holds Inv-loop μ-loop
-loop-holds c = (c .first .ensures, lines-none _, omega arith)
+speller-of-requires : tie.Need-speller-of-requires
+speller-of-requires c κs = search needs
 
-plan-at-requires : tie.Need-plan-at-requires Inv-loop μ-loop
-plan-at-requires c κs =
-    let h = c .before .before .before .before .before .pre .speller in (h, on-walk _ h _ _ (c .before .loop .inv .0))
+slice-aggregate-lines-length : tie.Need-slice-aggregate-lines-length
+slice-aggregate-lines-length c = search needs
 
-lamp-at-requires : tie.Need-lamp-at-requires Inv-loop μ-loop
-lamp-at-requires c κs = search needs
+lines-length-requires : tie.Need-lines-length-requires
+lines-length-requires c κs =
+    let ok = c .before .before .before .before .before .before .pre in
+    (c .before .speller-of .ensures .sound, c .before .speller-of .ensures .octave-is, omega (arith, lamps-bound-the-octave _ _ _ _ (ok .accepted) (ok .has-lamps)))
 
-line-length-requires : tie.Need-line-length-requires Inv-loop μ-loop
-line-length-requires c κs = search needs
-
-add-total : tie.Need-add-total Inv-loop μ-loop
-add-total c =
-    let l = c .before .before .before .before in
-    let h = l .before .before .before .before .pre .speller in
-    let e = ap length (name-planned _ h _ _ (l .loop .inv .0) _ (c .before .before .plan-at .ensures)) in
-    omega (arith, l .loop .inv .1 .small, c .line-length .ensures .1, e, name-short _ h (l .loop .key))
-
-next-requires : tie.Need-next-requires Inv-loop μ-loop
-next-requires c κs =
-    let l = c .before .before .before .before in
-    let h = l .before .before .before .before .pre .speller in
-    let w = on-walk _ h _ _ (l .loop .inv .0) in
-    (h .walkable, w .degree-below, w .cycle-below)
-
-add-key : tie.Need-add-key Inv-loop μ-loop
-add-key c = search needs
-
-loop-less : tie.Need-loop-less Inv-loop μ-loop
-loop-less c = search needs
-
-loop-again : tie.Need-loop-again Inv-loop μ-loop
-loop-again c =
-    let l = c .before .before .before .before .before in
-    let h = l .before .before .before .before .pre .speller in
-    let name = name-planned _ h _ _ (l .loop .inv .0) _ (c .before .before .before .plan-at .ensures) in
-    let m = c .before .line-length .ensures in (
-      c .next .ensures _ (l .loop .inv .0),
-      lines-more _ _ _ _ (l .loop .inv .1) (m .0 ∙ ap length (line-is _ _ _ _ name (c .before .before .lamp-at .ensures))) (omega (arith, m .1, ap length name, name-short _ h (l .loop .key))),
-      omega arith,
-    )
-
-returns : tie.Need-returns Inv-loop μ-loop
+returns : tie.Need-returns
 returns c =
-    let w = c .before .loop .inv .1 in
-    let all = le-antisymm (c .before .loop .inv .2) (c .loop-test .left) in
-    w .is ∙ ap (λ (k : ℕ). length (joined (lineAt (c .before .before .before .before .before .args .printer)) k)) all
+    let s = c .before .before .before .before .before .before .before in
+    c .lines-length .ensures
+    ∙ ap length (table-is _ _ (s .pre) _ (c .before .before .speller-of .ensures) _ (c .before .before .before .before .before .put-lamps .ensures))
 
 pub table-length-spec : {M : Type 1} → statement M
 table-length-spec =
     tie.close
     (tie.spec
-    Inv-loop
-    μ-loop
-    first-requires
-    loop-holds
-    plan-at-requires
-    lamp-at-requires
-    line-length-requires
-    add-total
-    next-requires
-    add-key
-    loop-less
-    loop-again
+    slice-aggregate-put-lamps
+    put-lamps-requires
+    row-requires
+    speller-of-requires
+    slice-aggregate-lines-length
+    lines-length-requires
     returns)

@@ -5,18 +5,18 @@ use lib.ListN.{length}
 use Rattle.answer.specs.Outcome.{given}
 use Rattle.answer.specs.Writing.{joined}
 use Rattle.answer.proofs.Lent.{held, not-held, filled-refused, filled-given}
-use Rattle.table.specs.Parts.{lineAt}
+use Rattle.table.specs.Parts.{lineOf}
 use borrow.Author.Needs.{needs}
 use Rattle.table.proofs.parts.write_lines.Statement.{statement}
 use Rattle.table.proofs.parts.write_lines.Tie as tie
 
-table-length-requires : tie.Need-table-length-requires
-table-length-requires c κs = search needs
+lines-length-requires : tie.Need-lines-length-requires
+lines-length-requires c κs = search needs
 
 returns : tie.Need-returns
 returns c =
-    let s = c .before .before .before in
-    filled-refused 10 _ (not-held (length (s .args .out .now)) (joined (lineAt (s .args .printer)) (s .args .keys)) (omega (arith, c .before .table-length .ensures))) refl
+    let s = c .before .before .before .before in
+    filled-refused 10 _ (not-held (length (s .args .out .now)) (joined (lineOf (s .args .speller) (s .args .strip .now)) (s .args .keys)) (omega (arith, c .before .lines-length .ensures))) refl
 
 put-lines-requires : tie.Need-put-lines-requires
 put-lines-requires c κs = search needs
@@ -27,10 +27,10 @@ same-length c = search needs
 returns-2 : tie.Need-returns-2
 returns-2 c =
     let b = c .before .before .before .before .before in
-    let s = b .before .before in
-    filled-given (held (length (s .args .out .now)) (joined (lineAt (s .args .printer)) (s .args .keys)) (omega (arith, b .table-length .ensures)))
-    (ap given (b .table-length .ensures)) (omega (arith, b .table-length .ensures)) (c .before .before .put-lines .ensures)
+    let s = b .before .before .before in
+    filled-given (held (length (s .args .out .now)) (joined (lineOf (s .args .speller) (s .args .strip .now)) (s .args .keys)) (omega (arith, b .lines-length .ensures)))
+    (ap given (b .lines-length .ensures)) (omega (arith, b .lines-length .ensures)) (c .before .before .put-lines .ensures)
 
 pub write-lines-spec : {M : Type 1} → statement M
 write-lines-spec =
-    tie.close (tie.spec table-length-requires returns put-lines-requires same-length returns-2)
+    tie.close (tie.spec lines-length-requires returns put-lines-requires same-length returns-2)

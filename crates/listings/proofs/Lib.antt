@@ -1,0 +1,4 @@
+pub mod Listings
+pub mod Runs
+pub mod Leaping
+pub mod Shortening

@@ -1,0 +1,2 @@
+pub mod ScaleTable
+pub mod ScaleCalls

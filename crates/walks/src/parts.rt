@@ -1,0 +1,104 @@
+// The walks of children and of parents, as functions that call themselves: the sum of the steps falls with each child, the
+// sum of the counts with each parent.
+//
+// Parts, and no entry points: each asks for a pattern by question 7. The deepest walks are 65,534 self calls, so a self call
+// stands in the last place and returns a bool, the pattern going into a lent array: that compiles to a loop.
+use mos::Mos;
+ghost use mathlib.Core.Path.{_≡_};
+ghost use mathlib.Core.Bool.{true};
+ghost use mathlib.Core.Option.{some};
+ghost use lib.ListN.{getElem?};
+ghost use Rattle.mos.specs.Patterns.{mos, isPattern};
+ghost use Rattle.mos.specs.Parts.{met};
+ghost use Rattle.mos.specs.Walks.{children, parents, firstWith, genesisOf};
+
+// The first child with n steps of the pattern with counts a and b and steps p and s, itself included. Counts only grow, so a pattern
+// with more ends the search. The four numbers go separately: a pattern would be packed into one register at each self call.
+pub fn seek(a: u16, b: u16, p: u16, s: u16, n: u32, found: &mut [u16; 4]) -> bool
+    requires { ⌜ isPattern (mos a b p s) ≡ true ⌝ }
+    ensures { λ r. ⌜ met r (now (found .exit)) ≡ firstWith n (children (mos a b p s)) ⌝ }
+{
+    let here = Mos {
+        num_primary_steps: a,
+        num_secondary_steps: b,
+        primary_step: p,
+        secondary_step: s,
+    };
+    let have = mos::parts::count_of(here);
+    if have == n {
+        *found = [a, b, p, s];
+        return true;
+    }
+    if n < have {
+        return false;
+    }
+    if mos::parts::has_child(here) {
+        let child = mos::parts::child_of(here);
+        return seek(
+            child.num_primary_steps,
+            child.num_secondary_steps,
+            child.primary_step,
+            child.secondary_step,
+            n,
+            found,
+        );
+    }
+    false
+}
+
+// The k-th child, m itself for 0.
+pub fn descend(m: Mos, k: u32, found: &mut [u16; 4]) -> bool
+    requires { ⌜ isPattern m ≡ true ⌝ }
+    ensures { λ r. ⌜ met r (now (found .exit)) ≡ getElem? (children m) k ⌝ }
+{
+    if k == 0 {
+        *found = [
+            m.num_primary_steps,
+            m.num_secondary_steps,
+            m.primary_step,
+            m.secondary_step,
+        ];
+        return true;
+    }
+    if mos::parts::has_child(m) {
+        return descend(mos::parts::child_of(m), k - 1, found);
+    }
+    false
+}
+
+// The k-th parent, m itself for 0.
+pub fn ascend(m: Mos, k: u32, found: &mut [u16; 4]) -> bool
+    requires { ⌜ isPattern m ≡ true ⌝ }
+    ensures { λ r. ⌜ met r (now (found .exit)) ≡ getElem? (parents m) k ⌝ }
+{
+    if k == 0 {
+        *found = [
+            m.num_primary_steps,
+            m.num_secondary_steps,
+            m.primary_step,
+            m.secondary_step,
+        ];
+        return true;
+    }
+    if mos::parts::has_parent(m) {
+        return ascend(mos::parts::parent_of(m), k - 1, found);
+    }
+    false
+}
+
+// The last parent; true, so that a self call returns a number.
+pub fn root(m: Mos, found: &mut [u16; 4]) -> bool
+    requires { ⌜ isPattern m ≡ true ⌝ }
+    ensures { λ r. ⌜ met r (now (found .exit)) ≡ some (genesisOf m) ⌝ }
+{
+    if mos::parts::has_parent(m) {
+        return root(mos::parts::parent_of(m), found);
+    }
+    *found = [
+        m.num_primary_steps,
+        m.num_secondary_steps,
+        m.primary_step,
+        m.secondary_step,
+    ];
+    true
+}
