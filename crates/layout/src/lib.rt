@@ -2,9 +2,9 @@
 //
 // Holds making a layout from a chain code, an octave and a tritave, its pergen and pattern, and the spellings and names of its
 // keys (document 01, "The six chains", "Pergen and spelling", "Step patterns"). `scale_names` has the name of its scale.
-// specs/: Layouts, ScaleNames and Names define, Answers says what each call answers, there too, Theorems what a reader of key
-// names may rely on. A layout holds only the three numbers that a caller chose; each call asks questions 1 to 4 of them again.
-// Every public function here answers every input. Nothing is assumed.
+// specs/: Layouts, ScaleNames and Names define, Answers says what each call answers, in `scale_names` too, Theorems what a reader
+// of key names may rely on. A layout holds only the three numbers that a caller chose; each call asks questions 1 to 4 of them again.
+// Every entry point answers every input; the modules of parts ask for more, as their heads say. Nothing is assumed.
 pub mod parts;
 
 use answer::CountAnswer;
