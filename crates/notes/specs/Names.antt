@@ -95,7 +95,7 @@ slashed letters sharpFirst [] = []
 slashed letters sharpFirst (s ∷ []) = spellingText letters sharpFirst s
 slashed letters sharpFirst (s ∷ t ∷ more) = spellingText letters sharpFirst s ++ (47 ∷ []) ++ slashed letters sharpFirst (t ∷ more)
 
--- one spelling alone, or more
+-- one spelling alone, or both so
 abbrev pub spellingsText : List ℕ → Bool → Cycle → List Spelling → List ℕ
 spellingsText letters sharpFirst c [] = []
 spellingsText letters sharpFirst c (s ∷ []) = spellingText letters sharpFirst s
@@ -105,6 +105,7 @@ spellingsText letters sharpFirst c (s ∷ t ∷ more) = inParentheses c (slashed
 abbrev pub printedText : List ℕ → Bool → Cycle → List Spelling → List ℕ
 printedText letters sharpFirst c spellings = spellingsText letters sharpFirst c spellings ++ replicate (starsOf c) 42
 
+-- The name of a key with these accidentals.
 unfoldable pub nameText : List ℕ → Bool → Accidentals → List ℕ
 unfolding spellingText printed
 nameText letters sharpFirst a = printedText letters sharpFirst (a .cycle) (printed sharpFirst a)
