@@ -4,12 +4,12 @@ use mathlib.Core.Path.{refl}
 use native.Mathlib.Omega.{arith}
 use Rattle.pergen.specs.Pergen.{cycles}
 use Rattle.layout.specs.Layouts.{layoutOutcome}
-use Rattle.layout.specs.Names.{placeIn, keyOf, printedIn}
-use Rattle.layout.specs.Answers.{getMos, getScaleName, getNoteName}
+use Rattle.layout.specs.Names.{placeIn, printedIn}
+use Rattle.layout.specs.Answers.{getMos, getScaleName, getNoteName, getSoundedKey}
 use Rattle.layout.specs.Examples.{ExamplesHold}
 
 pub examples-hold : ExamplesHold
-unfolding getMos getScaleName getNoteName placeIn keyOf printedIn cycles layoutOutcome
+unfolding getMos getScaleName getNoteName getSoundedKey placeIn printedIn cycles layoutOutcome
 examples-hold =
     record {
       patterns = refl;
@@ -18,6 +18,7 @@ examples-hold =
       places = refl;
       keys = refl;
       printings = refl;
+      refusals = refl;
       two-cycles = refl;
       b-sharps-star = record { letter = omega arith; stars = omega arith };
       eighth-letter = λ x. let h : 7 < 7 = x .letter in omega arith;

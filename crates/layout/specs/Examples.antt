@@ -10,8 +10,8 @@ use Rattle.pergen.specs.declared.Signs.{Signs}
 use Rattle.pergen.specs.declared.Signs.the-variants.{Sharps, Flats}
 use Rattle.pergen.specs.declared.Spelling.{Spelling}
 use Rattle.layout.specs.Layouts.{Layout, Accepted}
-use Rattle.layout.specs.Names.{IsSpelling, placeIn, keyOf, printedIn}
-use Rattle.layout.specs.Answers.{ofLayout, getMos, getScaleName, getNoteName}
+use Rattle.layout.specs.Names.{IsSpelling, placeIn, printedIn}
+use Rattle.layout.specs.Answers.{ofLayout, getMos, getScaleName, getNoteName, getSoundedKey}
 use Rattle.layout.specs.declared.IsomorphicLayout.{IsomorphicLayout}
 
 abbrev pub layout : ℕ → ℕ → ℕ → IsomorphicLayout
@@ -85,6 +85,27 @@ spellingExamples =
     ∷ record { layout = layout 2 12 19; spelling = spelt 0 (Flats 0) 0; place = negsuc 1; key = given 10 }
     ∷ record { layout = layout 0 16 25; spelling = spelt 0 (Flats 0) 0; place = negsuc 3; key = given 12 }
     ∷ record { layout = layout 5 19 30; spelling = spelt 0 (Flats 0) 0; place = negsuc 2; key = given 15 }
+    -- A with as many flats as 32 bits hold
+    ∷ record { layout = layout 0 16 25; spelling = spelt 5 (Flats 4294967295) 0; place = negsuc 38654705653; key = given 10 }
+    ∷ []
+
+-- What is no spelling, and the number of the question that says so.
+pub record RefusedSpelling : Type 0 where
+  pub layout : IsomorphicLayout
+  pub spelling : Spelling
+  pub question : ℕ
+
+abbrev pub refusedSpellings : List RefusedSpelling
+refusedSpellings =
+    -- in two cycles: two stars; an eighth letter; 16 comes before 21
+    record { layout = layout 1 24 38; spelling = spelt 3 (Sharps 0) 2; question = 21 }
+    ∷ record { layout = layout 1 24 38; spelling = spelt 7 (Sharps 0) 1; question = 16 }
+    ∷ record { layout = layout 1 24 38; spelling = spelt 7 (Sharps 0) 2; question = 16 }
+    -- the layout's questions come first
+    ∷ record { layout = layout 6 0 0; spelling = spelt 9 (Sharps 0) 9; question = 1 }
+    ∷ record { layout = layout 1 0 19; spelling = spelt 9 (Sharps 0) 9; question = 2 }
+    ∷ record { layout = layout 1 12 11; spelling = spelt 9 (Sharps 0) 9; question = 3 }
+    ∷ record { layout = layout 2 4 6; spelling = spelt 9 (Sharps 0) 9; question = 4 }
     ∷ []
 
 pub record PrintedExample : Type 0 where
@@ -116,10 +137,12 @@ pub record ExamplesHold : Type 0 where
   pub scales : map (λ (e : ScaleExample). getScaleName (e .layout)) scaleExamples ≡ map (λ (e : ScaleExample). e .scale) scaleExamples
   pub names : map (λ (e : NameExample). getNoteName (e .layout) (e .key)) nameExamples ≡ map (λ (e : NameExample). e .name) nameExamples
   pub places : map (λ (e : SpellingExample). placeIn (e .layout .genchain) (e .spelling)) spellingExamples ≡ map (λ (e : SpellingExample). e .place) spellingExamples
-  pub keys : map (λ (e : SpellingExample). ofLayout (e .layout) (λ (l : Layout). given (keyOf (e .layout .genchain) (e .layout .octave) l (e .spelling)))) spellingExamples
+  pub keys : map (λ (e : SpellingExample). getSoundedKey (e .layout) (e .spelling)) spellingExamples
       ≡ map (λ (e : SpellingExample). e .key) spellingExamples
   pub printings : map (λ (e : PrintedExample). ofLayout (e .layout) (λ (l : Layout). given (printedIn (e .layout .genchain) (e .layout .octave) l (e .key)))) printedExamples
       ≡ map (λ (e : PrintedExample). e .spellings) printedExamples
+  pub refusals : map (λ (e : RefusedSpelling). getSoundedKey (e .layout) (e .spelling)) refusedSpellings
+      ≡ map (λ (e : RefusedSpelling). refused (e .question)) refusedSpellings
   -- in two cycles B with three sharps and a star is a spelling; one with an eighth letter, or with a second star, is none
   pub two-cycles : Accepted 1 24 38 twoCycles
   pub b-sharps-star : IsSpelling 1 24 twoCycles (spelt 6 (Sharps 3) 1)

@@ -13,6 +13,7 @@ use Rattle.pergen.specs.Pergen.{reduced}
 use Rattle.pergen.specs.Spelling.{starsOf}
 use Rattle.layout.specs.Layouts.{Layout, Accepted, lettersOf}
 use Rattle.layout.specs.Names.{IsSpelling, placeIn, keyOf, printedIn, cycleIn, textIn, noteName}
+use Rattle.layout.specs.Answers.{getSoundedKey}
 
 -- Take any two ways to write a note: each a letter, some sharps or some flats, and fewer stars than there are cycles, whether any
 -- cap bears them or not. They are the same key of the octave exactly when they have equally many stars and their places on the
@@ -58,3 +59,11 @@ NamesTellKeysApart =
 abbrev pub EnoughKeys : Type 0
 EnoughKeys =
     (code octave tritave : ℕ) (l : Layout) → Accepted code octave tritave l → lettersOf code ≤ reduced octave (l .generator)
+
+-- A spelling is answered with a key exactly where it is one of those that `SpellingsSoundOneKey` speaks of: in an accepted layout, with a
+-- letter of the chain and stars below the cycles. The answer is then the key that it sounds, and no other.
+abbrev pub SpellingsHaveAKey : Type 0
+SpellingsHaveAKey =
+    (code octave tritave : ℕ) (x : Spelling) (key : ℕ)
+    → (getSoundedKey (record { genchain = code; octave = octave; tritave = tritave }) x ≡ given key)
+    ↔ ((l : Layout) × Accepted code octave tritave l × IsSpelling code octave l x × (key ≡ keyOf code octave l x))

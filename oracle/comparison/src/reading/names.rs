@@ -6,18 +6,14 @@ use super::ask;
 use super::layouts::Layout;
 use super::pergens::Spellings;
 
-/// A letter by its index, a number of sharps or of flats, and stars.
+/// A letter by its index, signs (as many sharps as a number above 0, as many flats
+/// as one below), and stars.
 #[derive(Clone, Copy, Debug, PartialEq, Eq)]
 pub struct Spelling {
     pub letter: Whole,
-    pub sharps: Whole,
-    pub flats: Whole,
+    pub signs: Whole,
     pub stars: Whole,
 }
-
-/// The refusal of what is no spelling: it is no question of document 01, which
-/// says what spellings sound and asks nothing about others.
-pub const NO_SPELLING: u8 = 15;
 
 /// The spellings in a key's name, the sharp one first.
 pub fn printed(layout: &Layout, key: u16) -> Vec<Spelling> {
@@ -25,14 +21,12 @@ pub fn printed(layout: &Layout, key: u16) -> Vec<Spelling> {
     let stars = layout.pergen.cycle(key.into()).unwrap_or(0);
     let sharp = Spelling {
         letter: spelt.sharp_index,
-        sharps: spelt.sharp_count,
-        flats: 0,
+        signs: spelt.sharp_count,
         stars,
     };
     let flat = Spelling {
         letter: spelt.flat_index,
-        sharps: 0,
-        flats: spelt.flat_count,
+        signs: -spelt.flat_count,
         stars,
     };
     match chosen(spelt) {
@@ -94,7 +88,8 @@ fn letter_and_signs(layout: &Layout, spelling: Spelling) -> String {
         Style::FlatFirst => ("-", "+"),
     };
     let letter = layout.chain.letters[spelling.letter as usize].to_owned();
-    letter + &sharp.repeat(spelling.sharps as usize) + &flat.repeat(spelling.flats as usize)
+    let sign = if spelling.signs > 0 { sharp } else { flat };
+    letter + &sign.repeat(spelling.signs.unsigned_abs() as usize)
 }
 
 enum Style {
@@ -113,20 +108,15 @@ fn style(layout: &Layout) -> Style {
 }
 
 /// The key of the octave that a spelling sounds: "index + N × sharps − origin, or
-/// index − N × flats − origin".
+/// index − N × flats − origin". Document 02 numbers what is no spelling: 16 "when
+/// the letter's place is not below the number of letters", 21 "when the stars are
+/// not below" the cycles, "after 16".
 pub fn sounded(layout: &Layout, spelling: Spelling) -> Outcome<Whole> {
-    ask(NO_SPELLING, is_spelling(layout, spelling))?;
     let n = layout.chain.count();
-    let signs = spelling.sharps - spelling.flats;
-    let place = spelling.letter + n * signs - layout.chain.start;
+    ask(16, spelling.letter < n)?;
+    ask(21, spelling.stars < layout.pergen.cycles)?;
+    let place = spelling.letter + n * spelling.signs - layout.chain.start;
     Ok(layout.pergen.sounded(place, spelling.stars))
-}
-
-/// "A letter, .. a number of sharps or of flats, 0 included, and stars below n."
-fn is_spelling(layout: &Layout, spelling: Spelling) -> bool {
-    spelling.letter < layout.chain.count()
-        && (spelling.sharps == 0 || spelling.flats == 0)
-        && spelling.stars < layout.pergen.cycles
 }
 
 #[cfg(test)]
@@ -162,5 +152,23 @@ mod tests {
                 assert_eq!(sounded(&layout, spelling), Ok(Whole::from(key) % 24));
             }
         }
+    }
+
+    #[test]
+    fn the_letter_is_asked_about_before_the_stars() {
+        let layout = Layout::new(1, 24, 38).unwrap();
+        let sounded = |letter, signs, stars| {
+            let spelling = Spelling {
+                letter,
+                signs,
+                stars,
+            };
+            sounded(&layout, spelling)
+        };
+        assert_eq!(sounded(3, 1, 1), Ok(3));
+        assert_eq!(sounded(5, -1, 1), Ok(3));
+        assert_eq!(sounded(6, 0, 2), Err(21));
+        assert_eq!(sounded(7, 0, 1), Err(16));
+        assert_eq!(sounded(7, 0, 2), Err(16));
     }
 }
