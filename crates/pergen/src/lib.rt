@@ -4,7 +4,7 @@
 // spelling"). The crate `spelling` goes from a key to its spellings in a free format, `sounding` from a spelling to its key.
 // specs/: Pergen and Spelling define them, Answers says what each call answers, Theorems what is proved of them.
 // A record holds only what a caller chose; each call asks its questions of it again, so a made-up record is refused.
-// Every public function answers every input, exactly. Nothing is assumed.
+// Every entry point answers every input, exactly. `euclid` and `stepping` hold parts, of which some ask for more. Nothing is assumed.
 pub mod euclid;
 pub mod stepping;
 
