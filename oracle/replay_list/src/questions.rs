@@ -6,6 +6,10 @@ use std::fmt::Display;
 use std::fmt::Formatter;
 
 use judge::patterns::Pattern;
+use reading::Outcome;
+use reading::layouts;
+use reading::patterns;
+use reading::pergens::Pergen;
 
 /// A chain code, and the step counts of octave and tritave.
 #[derive(Clone, Copy, Debug, PartialEq, Eq, Hash)]
@@ -20,6 +24,30 @@ pub struct Layout {
 pub struct FreePergen {
     pub period: u16,
     pub generator: u16,
+}
+
+impl Layout {
+    /// What document 01 makes of it.
+    pub fn read(self) -> Outcome<layouts::Layout> {
+        layouts::Layout::new(self.code, self.octave, self.tritave)
+    }
+}
+
+impl FreePergen {
+    /// What document 01 makes of it.
+    pub fn read(self) -> Outcome<Pergen> {
+        Pergen::new(self.period.into(), self.generator.into())
+    }
+}
+
+/// What document 01 makes of a pattern.
+pub fn read_pattern(pattern: Pattern) -> Outcome<patterns::Pattern> {
+    patterns::Pattern::given([
+        pattern.num_primary_steps,
+        pattern.num_secondary_steps,
+        pattern.primary_step,
+        pattern.secondary_step,
+    ])
 }
 
 #[derive(Clone, Copy, Debug, PartialEq, Eq)]

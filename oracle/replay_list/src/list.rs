@@ -7,7 +7,6 @@ use std::iter;
 use judge::layouts;
 use judge::patterns::Pattern;
 
-use crate::document;
 use crate::questions::FreePergen;
 use crate::questions::Layout;
 use crate::questions::OfLayout;
@@ -302,7 +301,7 @@ fn small_layouts(random: &mut Random, code: u16, octave: u16) -> Vec<Question> {
     let most = 3 * octave + 12;
     let mut accepted: Vec<Layout> = (0..=most)
         .map(|tritave| layout((code, octave, tritave)))
-        .filter(|layout| document::layout_refusal(*layout).is_none())
+        .filter(|layout| layout.read().is_ok())
         .collect();
     while 4 < accepted.len() {
         let last = u16::try_from(accepted.len() - 1).expect("few layouts");
@@ -328,7 +327,7 @@ fn small_layouts(random: &mut Random, code: u16, octave: u16) -> Vec<Question> {
 /// Any layout, most often a refused one, asked all questions.
 fn refused_layout(random: &mut Random, code: u16) -> Vec<Question> {
     let layout = layout((code, random.up_to(400), random.up_to(800)));
-    if document::layout_refusal(layout).is_none() {
+    if layout.read().is_ok() {
         return vec![Question::OfLayout(OfLayout::Numbers, layout)];
     }
     let key = random.up_to(400);
@@ -349,7 +348,7 @@ fn random_key_question(random: &mut Random, layout: Layout, key: u16) -> Questio
 /// An accepted layout with an octave of any size, and some of its keys.
 fn large_layout(random: &mut Random, code: u16) -> Vec<Question> {
     let layout = iter::repeat_with(|| layout((code, random.any_size(), random.any_size())))
-        .find(|layout| document::layout_refusal(*layout).is_none())
+        .find(|layout| layout.read().is_ok())
         .expect("an endless search");
     let mut questions = vec![Question::OfLayout(OfLayout::Numbers, layout)];
     let last = layout.octave - 1;
@@ -441,7 +440,7 @@ fn tables(random: &mut Random) -> Vec<Question> {
         for most in [12, 40, 100] {
             let layout =
                 iter::repeat_with(|| layout((code, random.up_to(most), random.up_to(200))))
-                    .find(|layout| document::layout_refusal(*layout).is_none())
+                    .find(|layout| layout.read().is_ok())
                     .expect("an endless search");
             questions.push(Question::Table(layout.to_string()));
         }
