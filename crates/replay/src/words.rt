@@ -48,23 +48,31 @@ pub(crate) struct Numbers {
     pub(crate) whole: bool,
 }
 
-// The numbers of a question in the order of the line, 0 where it has no more. Fields, since the prover has less to do with a
-// field than with an element of an array.
+// How many bytes were read, and the place behind them.
+pub(crate) struct Bytes {
+    pub(crate) count: usize,
+    pub(crate) end: usize,
+}
+
+// The numbers of a question in the order of the line, 0 where it has no more, and the room that it lends. Fields, since the
+// prover has less to do with a field than with an element of an array.
 pub(crate) struct Values {
     pub(crate) first: u16,
     pub(crate) second: u16,
     pub(crate) third: u16,
     pub(crate) fourth: u16,
     pub(crate) fifth: u16,
+    pub(crate) room: u16,
 }
 
-pub(crate) fn values_of(values: [u16; 5]) -> Values {
+pub(crate) fn values_of(values: [u16; 5], room: u16) -> Values {
     Values {
         first: values[0],
         second: values[1],
         third: values[2],
         fourth: values[3],
         fifth: values[4],
+        room,
     }
 }
 
@@ -131,7 +139,12 @@ pub(crate) fn natural_after(line: &[u8], at: usize) -> Natural {
     if line[at] != b' ' {
         return Natural::Nothing;
     }
-    match digits_at(line, at + 1) {
+    natural_at(line, at + 1)
+}
+
+// The number of 16 bits at a place.
+pub(crate) fn natural_at(line: &[u8], from: usize) -> Natural {
+    match digits_at(line, from) {
         Digits::Nothing => Natural::Nothing,
         Digits::Read(value, next) => {
             if 65535 < value {
@@ -266,4 +279,22 @@ pub(crate) fn numbers_after(line: &[u8], from: usize, count: usize) -> Numbers {
         end: at,
         whole: is_at(line, at, b'\n'),
     }
+}
+
+// The bytes behind a place, each a number, into the front of `out` as far as it goes.
+pub(crate) fn bytes_after(line: &[u8], from: usize, out: &mut [u8]) -> Bytes {
+    let mut at = from;
+    let mut count: usize = 0;
+    while count < out.len() {
+        let Natural::Read(value, next) = natural_after(line, at) else {
+            return Bytes { count, end: at };
+        };
+        if 255 < value {
+            return Bytes { count, end: at };
+        }
+        out[count] = value as u8;
+        at = next;
+        count += 1;
+    }
+    Bytes { count, end: at }
 }

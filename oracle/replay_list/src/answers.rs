@@ -13,6 +13,8 @@ use judge::patterns::Pattern;
 use judge::spelling;
 use judge::spelling::Accidentals;
 use reading::Outcome;
+use reading::ask;
+use reading::books;
 use reading::chains;
 use reading::layers::Kind;
 use reading::layouts::strip_of;
@@ -51,9 +53,16 @@ impl From<u8> for Absent {
 
 type Text = Result<String, Absent>;
 
+/// The room of a question that names none.
+const USUAL_ROOM: u16 = 65_535;
+
 /// The answer's lines, or `None` where the original overflows.
 pub fn answer(question: &Question) -> Option<String> {
-    match text(question) {
+    let (room, question) = match question {
+        Question::InRoom(room, question) => (*room, &**question),
+        _ => (USUAL_ROOM, question),
+    };
+    match text_in_room(question, room.into()) {
         Ok(mut text) => {
             // A table ends its own lines.
             if !matches!(question, Question::Table(_)) {
@@ -63,6 +72,27 @@ pub fn answer(question: &Question) -> Option<String> {
         }
         Err(Absent::Refused(number)) => Some(format!("refused {number}\n")),
         Err(Absent::Overflow) => None,
+    }
+}
+
+/// Question 10 comes after 1 to 9, and before those on a book.
+fn text_in_room(question: &Question, room: usize) -> Text {
+    if let Question::Find(layout, _) = question {
+        ask(10, book(*layout)?.len() <= room)?;
+    }
+    let text = text(question)?;
+    ask(10, elements(question, &text) <= room)?;
+    Ok(text)
+}
+
+/// How many elements of the lent slice an answer fills.
+fn elements(question: &Question, text: &str) -> usize {
+    match question {
+        Question::Chain(_) | Question::Name(..) | Question::Table(_) => text.len(),
+        Question::OfPattern(..) | Question::OfLayout(..) | Question::Book(_) if text != "-" => {
+            text.split(' ').count()
+        }
+        _ => 0,
     }
 }
 
@@ -122,7 +152,12 @@ fn text(question: &Question) -> Text {
             given(layouts::accidentals(&created_layout(*layout)?, *key)).map(spelling_text)
         }
         Question::Name(layout, key) => given(layouts::note_name(&created_layout(*layout)?, *key)),
+        Question::BookLength(layout) => Ok(book(*layout)?.len().to_string()),
+        Question::Book(layout) => book(*layout).map(words),
+        Question::Find(layout, key) => Ok(found_text(&book(*layout)?, (*key).into())),
+        Question::FindIn(key, book) => Ok(found_text(book, *key)),
         Question::Table(line) => table_text(line),
+        Question::InRoom(..) => unreachable!("a question has one room"),
         Question::Unreadable(_) => Ok("?".to_owned()),
     }
 }
@@ -224,16 +259,34 @@ fn of_layout(asked: OfLayout, layout: &IsomorphicLayout) -> Text {
             let scale = given(layouts::scale_name(layout))?;
             Ok(format!("{scale} {pergen} {pattern}"))
         }
-        OfLayout::Names => {
-            let names: Result<Vec<String>, Absent> = (0..layout.pergen().period())
-                .map(|key| given(layouts::note_name(layout, key)))
-                .collect();
-            Ok(words(names?))
-        }
+        OfLayout::Names => names(layout).map(words),
         OfLayout::KeyLayers => {
             given(layouts::layers(layout)).map(|layers| words(layers.into_iter().map(layer_text)))
         }
         OfLayout::Lamps => lamps(layout).map(words),
+    }
+}
+
+fn names(layout: &IsomorphicLayout) -> Result<Vec<String>, Absent> {
+    (0..layout.pergen().period())
+        .map(|key| given(layouts::note_name(layout, key)))
+        .collect()
+}
+
+/// The original's names, laid down as document 01 says.
+fn book(layout: Layout) -> Result<Vec<u8>, Absent> {
+    Ok(books::of_names(&names(&created_layout(layout)?)?))
+}
+
+/// Offset and length, and the name; or the refusal, which both calls tell.
+fn found_text(book: &[u8], key: u32) -> String {
+    match books::find(book, key) {
+        Ok([offset, length]) => {
+            let name = &book[offset as usize..][..length as usize];
+            let name = str::from_utf8(name).expect("the list asks for text alone");
+            format!("{offset} {length} {name}")
+        }
+        Err(number) => format!("refused {number} refused {number}"),
     }
 }
 
@@ -254,8 +307,15 @@ fn kind_of(layer: Layer) -> Kind {
     }
 }
 
-/// All that the key table program prints for a line.
+/// All that the key table program prints for a line, a refusal too.
 fn table_text(line: &str) -> Text {
+    match table_lines(line) {
+        Err(Absent::Refused(number)) => Ok(format!("refused {number}\n")),
+        lines => lines,
+    }
+}
+
+fn table_lines(line: &str) -> Text {
     let [code, octave, tritave] = tables::line(format!("{line}\n").as_bytes())?;
     let layout = created_layout(Layout {
         code,
@@ -389,6 +449,35 @@ mod tests {
             answer(&Question::OfLayout(OfLayout::Lamps, layout)).as_deref(),
             Some("0 1 255 255 255 255 1\n")
         );
+    }
+
+    #[test]
+    fn a_lookup() {
+        let layout = Layout {
+            code: 1,
+            octave: 12,
+            tritave: 19,
+        };
+        let find = |key| Question::Find(layout, key);
+        assert_eq!(answer(&find(1)).as_deref(), Some("101 5 D#/Eb\n"));
+        assert_eq!(
+            answer(&find(12)).as_deref(),
+            Some("refused 13 refused 13\n")
+        );
+        let in_room = |room| answer(&Question::InRoom(room, Box::new(find(12))));
+        assert_eq!(in_room(132).as_deref(), Some("refused 13 refused 13\n"));
+        assert_eq!(in_room(131).as_deref(), Some("refused 10\n"));
+    }
+
+    #[test]
+    fn rooms() {
+        let in_room = |room, question| answer(&Question::InRoom(room, Box::new(question)));
+        let table = |line: &str| Question::Table(line.to_owned());
+        assert_eq!(in_room(11, table("1 12")).as_deref(), Some("refused 14\n"));
+        assert_eq!(in_room(10, table("1 12")).as_deref(), Some("refused 10\n"));
+        let chain = Question::Chain(1);
+        assert_eq!(in_room(11, chain.clone()).as_deref(), Some("Meantone[7]\n"));
+        assert_eq!(in_room(10, chain).as_deref(), Some("refused 10\n"));
     }
 
     #[test]

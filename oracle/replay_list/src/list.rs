@@ -7,6 +7,7 @@ use std::iter;
 use judge::layouts;
 use judge::patterns::Pattern;
 
+use crate::books;
 use crate::questions::FreePergen;
 use crate::questions::Layout;
 use crate::questions::OfLayout;
@@ -33,6 +34,7 @@ pub fn all() -> Vec<Question> {
     questions.extend(of_patterns(&mut random));
     questions.extend(of_layouts(&mut random));
     questions.extend(tables(&mut random));
+    questions.extend(books::all(&mut random));
     questions.extend(unreadable());
 
     let mut asked = HashSet::new();
@@ -480,6 +482,21 @@ fn unreadable() -> Vec<Question> {
         "layout 1 12",
         "layout 1 12 19 1",
         "name 1 12 19",
+        "12",
+        "12 ",
+        "12 12 lamps 1 12 19",
+        "12  lamps 1 12 19",
+        "65536 lamps 1 12 19",
+        "-1 lamps 1 12 19",
+        "12lamps 1 12 19",
+        "book 1 12",
+        "find 1 12 19",
+        "find 1 12 19 65536",
+        "find_in",
+        "find_in 4294967296 1 0 0 0",
+        "find_in 0 256 0 0 0",
+        "find_in 0 1 0 0 0 ",
+        "find_in 0 1 0 0 -1",
     ]
     .map(Question::Unreadable)
     .into()
@@ -487,7 +504,7 @@ fn unreadable() -> Vec<Question> {
 
 // ---- shorter words
 
-fn layout((code, octave, tritave): (u16, u16, u16)) -> Layout {
+pub fn layout((code, octave, tritave): (u16, u16, u16)) -> Layout {
     Layout {
         code,
         octave,

@@ -3,6 +3,7 @@
 //! original has none. The proved library is not asked.
 
 mod answers;
+mod books;
 mod list;
 mod questions;
 mod random;
@@ -22,7 +23,7 @@ usage: replay_list FOLDER             write FOLDER/stdin and FOLDER/stdout
 ";
 
 /// A line has at most as many bytes as the program has room for.
-const LONGEST_LINE: usize = 64;
+const LONGEST_LINE: usize = 512;
 
 fn main() -> ExitCode {
     let words: Vec<String> = env::args().skip(1).collect();

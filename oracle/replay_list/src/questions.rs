@@ -1,5 +1,5 @@
 //! The questions, as the program `replay` reads them: a name and numbers with one
-//! space before each.
+//! space before each, and the room in front where a short slice is lent.
 
 use std::fmt;
 use std::fmt::Display;
@@ -141,8 +141,16 @@ pub enum Question {
     OfLayout(OfLayout, Layout),
     Spelling(Layout, u16),
     Name(Layout, u16),
+    BookLength(Layout),
+    Book(Layout),
+    /// A key looked up in a layout's book.
+    Find(Layout, u16),
+    /// A key looked up in any bytes.
+    FindIn(u32, Vec<u8>),
     /// The line that the key table program is given, without its line feed.
     Table(String),
+    /// A question, and how many elements the slice has that is lent for its answer.
+    InRoom(u16, Box<Question>),
     /// A line that is no question.
     Unreadable(&'static str),
 }
@@ -205,7 +213,15 @@ impl Display for Question {
             Self::OfLayout(asked, layout) => write!(f, "{} {layout}", asked.name()),
             Self::Spelling(layout, key) => write!(f, "spelling {layout} {key}"),
             Self::Name(layout, key) => write!(f, "name {layout} {key}"),
+            Self::BookLength(layout) => write!(f, "book_len {layout}"),
+            Self::Book(layout) => write!(f, "book {layout}"),
+            Self::Find(layout, key) => write!(f, "find {layout} {key}"),
+            Self::FindIn(key, book) => {
+                write!(f, "find_in {key}")?;
+                book.iter().try_for_each(|byte| write!(f, " {byte}"))
+            }
             Self::Table(line) => write!(f, "table {line}"),
+            Self::InRoom(room, question) => write!(f, "{room} {question}"),
             Self::Unreadable(line) => f.write_str(line),
         }
     }
