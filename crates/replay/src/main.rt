@@ -87,11 +87,8 @@ fn answered_other(kind: usize, line: &[u8], end: usize, room: u16) -> bool {
     if kind == names::GET_KEY {
         return patterns::get_key(line, end);
     }
-    if kind == names::DIVIDE16 {
-        return numbers::divide16(line, end);
-    }
-    if kind == names::DIVIDE32 {
-        return numbers::divide32(line, end);
+    if kind <= names::DIVIDE32 {
+        return numbers::divide(kind, line, end);
     }
     if kind == names::TABLE {
         return tables::answer(line, end, room);
