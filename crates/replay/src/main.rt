@@ -17,8 +17,8 @@ mod tables;
 mod words;
 
 use libc::STDIN_FILENO;
-use words::Natural;
 use words::Values;
+use words::Wide;
 ghost use Rattle.io.specs.Counts.{Counts};
 
 // Whether the line is a question; if so, it is answered.
@@ -39,9 +39,12 @@ fn answered(line: &[u8], room: u16) -> bool {
 
 // The same, where the room may stand before the question.
 fn answered_with_room(line: &[u8]) -> bool {
-    let Natural::Read(room, next) = words::natural_at(line, 0) else {
+    let Wide::Read(room, next) = words::wide_at(line, 0) else {
         return answered(line, 65535);
     };
+    if 65535 < room {
+        return false;
+    }
     if line.len() <= next {
         return false;
     }
@@ -49,7 +52,7 @@ fn answered_with_room(line: &[u8]) -> bool {
         return false;
     }
     let from = next + 1;
-    answered(&line[from..], room)
+    answered(&line[from..], room as u16)
 }
 
 // The names of each module stand together.

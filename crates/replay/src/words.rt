@@ -26,16 +26,10 @@ pub(crate) enum Long {
     Nothing,
 }
 
-// Digits read as a number, and the place behind them; or no digit, or too many.
-enum Digits {
-    Read(u64, usize),
-    Nothing,
-}
-
 // A number with a sign, and the place behind it: `Negative(n, _)` is -1 - n.
 enum Signed {
-    Positive(u64, usize),
-    Negative(u64, usize),
+    Positive(u32, usize),
+    Negative(u32, usize),
     Nothing,
 }
 
@@ -102,8 +96,8 @@ pub(crate) fn word_end(line: &[u8]) -> usize
     at
 }
 
-// The digits from a place on, at most eleven.
-fn digits_at(line: &[u8], from: usize) -> Digits {
+// The number of 32 bits that the digits from a place on are.
+pub(crate) fn wide_at(line: &[u8], from: usize) -> Wide {
     let mut value: u64 = 0;
     let mut at = from;
     while at < line.len() {
@@ -115,7 +109,7 @@ fn digits_at(line: &[u8], from: usize) -> Digits {
             return digits_read(value, from, at);
         }
         if 4294967295 < value {
-            return Digits::Nothing;
+            return Wide::Nothing;
         }
         value = 10 * value + (byte - b'0') as u64;
         at += 1;
@@ -123,30 +117,22 @@ fn digits_at(line: &[u8], from: usize) -> Digits {
     digits_read(value, from, at)
 }
 
-// At least one digit was read.
-fn digits_read(value: u64, from: usize, at: usize) -> Digits {
+// At least one digit was read, and the number has 32 bits.
+fn digits_read(value: u64, from: usize, at: usize) -> Wide {
     if at <= from {
-        return Digits::Nothing;
+        return Wide::Nothing;
     }
-    Digits::Read(value, at)
+    if 4294967295 < value {
+        return Wide::Nothing;
+    }
+    Wide::Read(value as u32, at)
 }
 
 // The number of 16 bits behind a space at a place.
 pub(crate) fn natural_after(line: &[u8], at: usize) -> Natural {
-    if line.len() <= at {
-        return Natural::Nothing;
-    }
-    if line[at] != b' ' {
-        return Natural::Nothing;
-    }
-    natural_at(line, at + 1)
-}
-
-// The number of 16 bits at a place.
-pub(crate) fn natural_at(line: &[u8], from: usize) -> Natural {
-    match digits_at(line, from) {
-        Digits::Nothing => Natural::Nothing,
-        Digits::Read(value, next) => {
+    match wide_after(line, at) {
+        Wide::Nothing => Natural::Nothing,
+        Wide::Read(value, next) => {
             if 65535 < value {
                 return Natural::Nothing;
             }
@@ -163,15 +149,7 @@ pub(crate) fn wide_after(line: &[u8], at: usize) -> Wide {
     if line[at] != b' ' {
         return Wide::Nothing;
     }
-    match digits_at(line, at + 1) {
-        Digits::Nothing => Wide::Nothing,
-        Digits::Read(value, next) => {
-            if 4294967295 < value {
-                return Wide::Nothing;
-            }
-            Wide::Read(value as u32, next)
-        }
-    }
+    wide_at(line, at + 1)
 }
 
 // The number behind a space at a place, with a minus before it where it is below 0.
@@ -187,19 +165,19 @@ fn signed_after(line: &[u8], at: usize) -> Signed {
         return Signed::Nothing;
     }
     if line[first] == b'-' {
-        return below_zero(digits_at(line, first + 1));
+        return below_zero(wide_at(line, first + 1));
     }
-    match digits_at(line, first) {
-        Digits::Nothing => Signed::Nothing,
-        Digits::Read(value, next) => Signed::Positive(value, next),
+    match wide_at(line, first) {
+        Wide::Nothing => Signed::Nothing,
+        Wide::Read(value, next) => Signed::Positive(value, next),
     }
 }
 
 // The number with a minus before it; there is no -0.
-fn below_zero(digits: Digits) -> Signed {
+fn below_zero(digits: Wide) -> Signed {
     match digits {
-        Digits::Nothing => Signed::Nothing,
-        Digits::Read(value, next) => {
+        Wide::Nothing => Signed::Nothing,
+        Wide::Read(value, next) => {
             if value == 0 {
                 return Signed::Nothing;
             }
