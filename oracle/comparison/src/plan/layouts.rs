@@ -1,12 +1,13 @@
 //! Layouts.
 
+use reading::Whole;
+use reading::fitted;
+use reading::names::Spelling;
+
 use super::Mode;
 use super::Task;
 use crate::randoms::LIMITS;
 use crate::randoms::Randoms;
-use crate::reading::Whole;
-use crate::reading::fitted;
-use crate::reading::names::Spelling;
 use crate::subjects::layouts::GivenLayout;
 use crate::tally::Tally;
 

@@ -1,15 +1,15 @@
 //! Keys of a layout: spellings, names, and what spellings sound.
 
 use judge::layouts;
+use reading::Outcome;
+use reading::fitted;
+use reading::names;
+use reading::names::Spelling;
 
 use crate::classes;
 use crate::classes::Class;
 use crate::question::Call;
 use crate::question::Question;
-use crate::reading::Outcome;
-use crate::reading::fitted;
-use crate::reading::names;
-use crate::reading::names::Spelling;
 use crate::subjects::layouts::GivenLayout;
 use crate::subjects::pergens;
 use crate::tally::Answers;

@@ -136,4 +136,15 @@ mod tests {
         assert_eq!(indices(1), (5, 0));
         assert_eq!(indices(2), (2, 2));
     }
+
+    #[test]
+    fn questions_5_and_6() {
+        let refusal = |symbols, origin| {
+            let format = Format { symbols, origin };
+            Pergen::new(1, 0).unwrap().accidentals(format, 0).err()
+        };
+        assert_eq!(refusal(0, 0), Some(5));
+        assert_eq!(refusal(2, 2), Some(6));
+        assert_eq!(refusal(2, 1), None);
+    }
 }

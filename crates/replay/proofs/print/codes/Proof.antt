@@ -1,8 +1,8 @@
 -- The codes before `i` are printed.
 use Prim.Native.Nat.{_≤_, _-_}
 use borrow.Author.Needs.{needs}
-use Rattle.replay.proofs.layouts.put_codes.Statement.{statement}
-use Rattle.replay.proofs.layouts.put_codes.Tie as tie
+use Rattle.replay.proofs.print.codes.Statement.{statement}
+use Rattle.replay.proofs.print.codes.Tie as tie
 
 abbrev Inv-loop : tie.InvT-loop
 Inv-loop codes count i₀ i = i ≤ count
@@ -19,11 +19,11 @@ returns c = search needs
 space-requires : tie.Need-space-requires Inv-loop μ-loop
 space-requires c κs = search needs
 
-shared-slice-read-put-code : tie.Need-shared-slice-read-put-code Inv-loop μ-loop
-shared-slice-read-put-code c = search needs
+shared-slice-read-code : tie.Need-shared-slice-read-code Inv-loop μ-loop
+shared-slice-read-code c = search needs
 
-put-code-requires : tie.Need-put-code-requires Inv-loop μ-loop
-put-code-requires c κs = search needs
+code-requires : tie.Need-code-requires Inv-loop μ-loop
+code-requires c κs = search needs
 
 add-i : tie.Need-add-i Inv-loop μ-loop
 add-i c = search needs
@@ -40,8 +40,8 @@ end-line-requires c κs = search needs
 returns-2 : tie.Need-returns-2 Inv-loop μ-loop
 returns-2 c = search needs
 
-pub put-codes-spec : {M : Type 1} → statement M
-put-codes-spec =
+pub codes-spec : {M : Type 1} → statement M
+codes-spec =
     tie.close
     (tie.spec
     Inv-loop
@@ -49,8 +49,8 @@ put-codes-spec =
     loop-holds
     returns
     space-requires
-    shared-slice-read-put-code
-    put-code-requires
+    shared-slice-read-code
+    code-requires
     add-i
     loop-less
     loop-again

@@ -7,7 +7,7 @@ use std::iter;
 use judge::layouts;
 use judge::patterns::Pattern;
 
-use crate::document;
+use crate::books;
 use crate::questions::FreePergen;
 use crate::questions::Layout;
 use crate::questions::OfLayout;
@@ -34,6 +34,7 @@ pub fn all() -> Vec<Question> {
     questions.extend(of_patterns(&mut random));
     questions.extend(of_layouts(&mut random));
     questions.extend(tables(&mut random));
+    questions.extend(books::all(&mut random));
     questions.extend(unreadable());
 
     let mut asked = HashSet::new();
@@ -302,7 +303,7 @@ fn small_layouts(random: &mut Random, code: u16, octave: u16) -> Vec<Question> {
     let most = 3 * octave + 12;
     let mut accepted: Vec<Layout> = (0..=most)
         .map(|tritave| layout((code, octave, tritave)))
-        .filter(|layout| document::layout_refusal(*layout).is_none())
+        .filter(|layout| layout.read().is_ok())
         .collect();
     while 4 < accepted.len() {
         let last = u16::try_from(accepted.len() - 1).expect("few layouts");
@@ -328,7 +329,7 @@ fn small_layouts(random: &mut Random, code: u16, octave: u16) -> Vec<Question> {
 /// Any layout, most often a refused one, asked all questions.
 fn refused_layout(random: &mut Random, code: u16) -> Vec<Question> {
     let layout = layout((code, random.up_to(400), random.up_to(800)));
-    if document::layout_refusal(layout).is_none() {
+    if layout.read().is_ok() {
         return vec![Question::OfLayout(OfLayout::Numbers, layout)];
     }
     let key = random.up_to(400);
@@ -349,7 +350,7 @@ fn random_key_question(random: &mut Random, layout: Layout, key: u16) -> Questio
 /// An accepted layout with an octave of any size, and some of its keys.
 fn large_layout(random: &mut Random, code: u16) -> Vec<Question> {
     let layout = iter::repeat_with(|| layout((code, random.any_size(), random.any_size())))
-        .find(|layout| document::layout_refusal(*layout).is_none())
+        .find(|layout| layout.read().is_ok())
         .expect("an endless search");
     let mut questions = vec![Question::OfLayout(OfLayout::Numbers, layout)];
     let last = layout.octave - 1;
@@ -441,7 +442,7 @@ fn tables(random: &mut Random) -> Vec<Question> {
         for most in [12, 40, 100] {
             let layout =
                 iter::repeat_with(|| layout((code, random.up_to(most), random.up_to(200))))
-                    .find(|layout| document::layout_refusal(*layout).is_none())
+                    .find(|layout| layout.read().is_ok())
                     .expect("an endless search");
             questions.push(Question::Table(layout.to_string()));
         }
@@ -481,6 +482,21 @@ fn unreadable() -> Vec<Question> {
         "layout 1 12",
         "layout 1 12 19 1",
         "name 1 12 19",
+        "12",
+        "12 ",
+        "12 12 lamps 1 12 19",
+        "12  lamps 1 12 19",
+        "65536 lamps 1 12 19",
+        "-1 lamps 1 12 19",
+        "12lamps 1 12 19",
+        "book 1 12",
+        "find 1 12 19",
+        "find 1 12 19 65536",
+        "find_in",
+        "find_in 4294967296 1 0 0 0",
+        "find_in 0 256 0 0 0",
+        "find_in 0 1 0 0 0 ",
+        "find_in 0 1 0 0 -1",
     ]
     .map(Question::Unreadable)
     .into()
@@ -488,7 +504,7 @@ fn unreadable() -> Vec<Question> {
 
 // ---- shorter words
 
-fn layout((code, octave, tritave): (u16, u16, u16)) -> Layout {
+pub fn layout((code, octave, tritave): (u16, u16, u16)) -> Layout {
     Layout {
         code,
         octave,

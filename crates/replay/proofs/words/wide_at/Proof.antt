@@ -2,8 +2,8 @@
 use Prim.Native.Nat.{_≤_, _-_}
 use lib.ListN.{length}
 use borrow.Author.Needs.{needs}
-use Rattle.replay.proofs.words.digits_at.Statement.{statement}
-use Rattle.replay.proofs.words.digits_at.Tie as tie
+use Rattle.replay.proofs.words.wide_at.Statement.{statement}
+use Rattle.replay.proofs.words.wide_at.Tie as tie
 
 abbrev Inv-loop : tie.InvT-loop
 Inv-loop line from value₀ at₀ value at = value ≤ 42949672959
@@ -56,8 +56,8 @@ digits-read-requires-3 c κs = search needs
 returns-4 : tie.Need-returns-4 Inv-loop μ-loop
 returns-4 c = search needs
 
-pub digits-at-spec : {M : Type 1} → statement M
-digits-at-spec =
+pub wide-at-spec : {M : Type 1} → statement M
+wide-at-spec =
     tie.close
     (tie.spec
     Inv-loop

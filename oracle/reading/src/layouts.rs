@@ -159,6 +159,7 @@ mod tests {
         assert_eq!(refusal(3, 0, 1), 2);
         assert_eq!(refusal(6, 0, 1), 1);
         assert_eq!(refusal(3, 32_768, 0), 3);
+        assert!(Layout::new(3, 32_767, 65_534 - 3 * 4_096).is_ok());
     }
 
     #[test]
@@ -170,5 +171,21 @@ mod tests {
             Ok(vec![0, 255, 1, 1, 255, 1, 255, 1, 255, 1, 1, 255])
         );
         assert_eq!(strip(2400, 3800), Err(9));
+    }
+
+    #[test]
+    fn layers_up_to_99_have_a_lamp() {
+        let kinds = [
+            Kind::Natural,
+            Kind::Natural,
+            Kind::Sharp(0),
+            Kind::Sharp(99),
+            Kind::Flat(0),
+            Kind::Flat(99),
+            Kind::Enharmonic(400),
+        ];
+        assert_eq!(strip_of(&kinds), Ok(vec![0, 1, 2, 101, 102, 201, 255]));
+        assert_eq!(strip_of(&[Kind::Natural, Kind::Sharp(100)]), Err(9));
+        assert_eq!(strip_of(&[Kind::Natural, Kind::Flat(100)]), Err(9));
     }
 }

@@ -1,11 +1,15 @@
 //! The questions, as the program `replay` reads them: a name and numbers with one
-//! space before each.
+//! space before each, and the room in front where a short slice is lent.
 
 use std::fmt;
 use std::fmt::Display;
 use std::fmt::Formatter;
 
 use judge::patterns::Pattern;
+use reading::Outcome;
+use reading::layouts;
+use reading::patterns;
+use reading::pergens::Pergen;
 
 /// A chain code, and the step counts of octave and tritave.
 #[derive(Clone, Copy, Debug, PartialEq, Eq, Hash)]
@@ -20,6 +24,30 @@ pub struct Layout {
 pub struct FreePergen {
     pub period: u16,
     pub generator: u16,
+}
+
+impl Layout {
+    /// What document 01 makes of it.
+    pub fn read(self) -> Outcome<layouts::Layout> {
+        layouts::Layout::new(self.code, self.octave, self.tritave)
+    }
+}
+
+impl FreePergen {
+    /// What document 01 makes of it.
+    pub fn read(self) -> Outcome<Pergen> {
+        Pergen::new(self.period.into(), self.generator.into())
+    }
+}
+
+/// What document 01 makes of a pattern.
+pub fn read_pattern(pattern: Pattern) -> Outcome<patterns::Pattern> {
+    patterns::Pattern::given([
+        pattern.num_primary_steps,
+        pattern.num_secondary_steps,
+        pattern.primary_step,
+        pattern.secondary_step,
+    ])
 }
 
 #[derive(Clone, Copy, Debug, PartialEq, Eq)]
@@ -113,8 +141,16 @@ pub enum Question {
     OfLayout(OfLayout, Layout),
     Spelling(Layout, u16),
     Name(Layout, u16),
+    BookLength(Layout),
+    Book(Layout),
+    /// A key looked up in a layout's book.
+    Find(Layout, u16),
+    /// A key looked up in any bytes.
+    FindIn(u32, Vec<u8>),
     /// The line that the key table program is given, without its line feed.
     Table(String),
+    /// A question, and how many elements the slice has that is lent for its answer.
+    InRoom(u16, Box<Question>),
     /// A line that is no question.
     Unreadable(&'static str),
 }
@@ -177,7 +213,15 @@ impl Display for Question {
             Self::OfLayout(asked, layout) => write!(f, "{} {layout}", asked.name()),
             Self::Spelling(layout, key) => write!(f, "spelling {layout} {key}"),
             Self::Name(layout, key) => write!(f, "name {layout} {key}"),
+            Self::BookLength(layout) => write!(f, "book_len {layout}"),
+            Self::Book(layout) => write!(f, "book {layout}"),
+            Self::Find(layout, key) => write!(f, "find {layout} {key}"),
+            Self::FindIn(key, book) => {
+                write!(f, "find_in {key}")?;
+                book.iter().try_for_each(|byte| write!(f, " {byte}"))
+            }
             Self::Table(line) => write!(f, "table {line}"),
+            Self::InRoom(room, question) => write!(f, "{room} {question}"),
             Self::Unreadable(line) => f.write_str(line),
         }
     }

@@ -20,14 +20,20 @@ pub fn output(input: &[u8]) -> String {
 }
 
 fn table(input: &[u8]) -> Outcome<String> {
-    let [code, octave, tritave] = numbers(input).ok_or(14)?;
-    ask(14, octave <= LARGEST_OCTAVE)?;
+    let [code, octave, tritave] = line(input)?;
     let layout = Layout::new(code, octave, tritave)?;
     let strip = layout.strip()?;
     Ok((0..octave)
         .zip(strip)
         .map(|(key, lamp)| format!("{key} {} {lamp}\n", names::name(&layout, key)))
         .collect())
+}
+
+/// Question 14: chain code, octave and tritave.
+pub fn line(input: &[u8]) -> Outcome<[u16; 3]> {
+    let [code, octave, tritave] = numbers(input).ok_or(14)?;
+    ask(14, octave <= LARGEST_OCTAVE)?;
+    Ok([code, octave, tritave])
 }
 
 /// "Three decimal numbers .. of 1 to 5 digits, each at most 65,535, one space
@@ -80,9 +86,12 @@ mod tests {
             "1 12\n",
             "1 12 19 3\n",
             "\n1 12 19\n",
+            "1 -12 19\n",
+            "1\t12 19\n",
         ] {
             assert_eq!(output(line.as_bytes()), "refused 14\n", "{line:?}");
         }
+        assert_eq!(line(b"00001 04096 65535\n"), Ok([1, 4096, 65_535]));
         assert_eq!(output(b"6 0 0\n"), "refused 1\n");
         assert_eq!(output(b"1 2400 3800\n"), "refused 9\n");
     }

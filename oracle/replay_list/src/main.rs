@@ -3,7 +3,7 @@
 //! original has none. The proved library is not asked.
 
 mod answers;
-mod document;
+mod books;
 mod list;
 mod questions;
 mod random;
@@ -18,12 +18,12 @@ use judge::asking;
 use crate::questions::Question;
 
 const USAGE: &str = "\
-usage: replay FOLDER             write FOLDER/stdin and FOLDER/stdout
-       replay --check FOLDER     say whether they hold what would be written
+usage: replay_list FOLDER             write FOLDER/stdin and FOLDER/stdout
+       replay_list --check FOLDER     say whether they hold what would be written
 ";
 
 /// A line has at most as many bytes as the program has room for.
-const LONGEST_LINE: usize = 64;
+const LONGEST_LINE: usize = 512;
 
 fn main() -> ExitCode {
     let words: Vec<String> = env::args().skip(1).collect();

@@ -188,6 +188,8 @@ mod tests {
     #[test]
     fn questions_7_and_8() {
         assert_eq!(Pattern::given([2, 1, 32_768, 0]), Err(7));
+        assert_eq!(Pattern::given([1, 65_535, 1, 1]), Err(7));
+        assert!(Pattern::given([1, 65_535, 0, 1]).is_ok());
         assert_eq!(given([1, 60_000, 4, 0]).coprime(), Err(8));
         assert_eq!(
             given([5, 2, 4, 2]).coprime().unwrap().numbers(),
