@@ -546,3 +546,21 @@ fn pairs(
 fn at_limits() -> impl Iterator<Item = (u16, u16)> {
     pairs(LIMITS.into_iter(), LIMITS.into_iter())
 }
+
+#[cfg(test)]
+mod tests {
+    use super::*;
+    use crate::answers::answer;
+
+    #[test]
+    fn every_refusal_is_met() {
+        let answers: Vec<String> = all().iter().filter_map(answer).collect();
+        for number in 1..=14 {
+            let refused = format!("refused {number}");
+            let is_met = answers.iter().any(|answer| {
+                answer.trim_end() == refused || answer.starts_with(&(refused.clone() + " "))
+            });
+            assert!(is_met, "{number}");
+        }
+    }
+}
