@@ -21,7 +21,8 @@
  *   VN_BOOK_COVER   12  Do the pairs cover the text?
  *   VN_BOOK_KEY     13  Is the key below the book's count?
  *   VN_LINE         14  Is the key table's line well formed? (The table prints this number; no call returns it.)
- *   VN_SPELLING     15  Is it a spelling: a letter of the chain, sharps or flats but not both, stars below the cycles?
+ *   VN_LETTER       16  Is the letter's place below the chain's number of letters?
+ *   VN_STARS        21  Are the stars below the number of cycles?
  * A refusal is compared as in vn_layout(chain, octave, tritave, out, len) == -VN_PATTERN.
  *
  * What a caller owes
@@ -53,7 +54,8 @@ extern "C" {
 #define VN_BOOK_COVER 12
 #define VN_BOOK_KEY 13
 #define VN_LINE 14
-#define VN_SPELLING 15
+#define VN_LETTER 16
+#define VN_STARS 21
 
 /* ---- numbers */
 
@@ -136,10 +138,10 @@ int64_t vn_note_name(uint16_t chain, uint16_t octave, uint16_t tritave, uint16_t
 int64_t vn_layout_accidentals(uint16_t chain, uint16_t octave, uint16_t tritave, uint16_t key, uint16_t *out,
                               size_t len);
 
-/* The key of the octave that a spelling sounds: a letter, by its index along the chain from 0, a number of sharps or of
- * flats (the other is 0; both may be), and stars below the cycles. Asks 1, 2, 3, 4, 15. */
-int64_t vn_sounded_key(uint16_t chain, uint16_t octave, uint16_t tritave, uint16_t letter, uint32_t sharps,
-                       uint32_t flats, uint16_t stars);
+/* The key of the octave that a spelling sounds: a letter, by its index along the chain from 0; signs, as many sharps as
+ * the number is above 0, or flats as it is below; and stars. Asks 1, 2, 3, 4, 16, 21. */
+int64_t vn_sounded_key(uint16_t chain, uint16_t octave, uint16_t tritave, uint16_t letter, int32_t signs,
+                       uint16_t stars);
 
 /* How many layer numbers there are: T. Asks 1, 2, 3, 4. */
 int64_t vn_layer_count(uint16_t chain, uint16_t octave, uint16_t tritave);

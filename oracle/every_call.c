@@ -87,10 +87,13 @@ static void call_layouts(void)
     TEXT("D#/Eb");
     IS(vn_layout_accidentals(1, 12, 19, 1, numbers, 4), 4);
     NUMBERS(3, 1, 5, 1);
-    IS(vn_sounded_key(1, 12, 19, 3, 65537, 0, 0), 5);
-    IS(vn_sounded_key(1, 12, 19, 4, 0, 65537, 0), 2);
-    IS(vn_sounded_key(1, 24, 38, 3, 0, 0, 1), 1);
-    IS(vn_sounded_key(1, 12, 19, 3, 1, 1, 0), -VN_SPELLING);
+    IS(vn_sounded_key(1, 12, 19, 3, 65537, 0), 5);
+    IS(vn_sounded_key(1, 12, 19, 4, -65537, 0), 2);
+    IS(vn_sounded_key(1, 12, 19, 3, INT32_MAX, 0), 7);
+    IS(vn_sounded_key(1, 12, 19, 3, INT32_MIN, 0), 4);
+    IS(vn_sounded_key(1, 24, 38, 3, 0, 1), 1);
+    IS(vn_sounded_key(1, 24, 38, 7, 0, 2), -VN_LETTER);
+    IS(vn_sounded_key(1, 24, 38, 6, 0, 2), -VN_STARS);
     IS(vn_layer_count(1, 12, 19), 2);
     IS(vn_layout_layers(1, 12, 19, numbers, 12), 12);
     NUMBERS(0, 1, 0, 0, 1, 0, 1, 0, 1, 0, 0, 1);

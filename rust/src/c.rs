@@ -59,8 +59,7 @@ unsafe extern "C" {
         octave: u16,
         tritave: u16,
         letter: u16,
-        sharps: u32,
-        flats: u32,
+        signs: i32,
         stars: u16,
     ) -> i64;
 

@@ -18,7 +18,7 @@ use std::fmt;
 
 mod c;
 
-/// The number of the first question that has the answer no; 15 where what was given is no spelling.
+/// The number of the first question that has the answer no.
 #[derive(Clone, Copy, Debug, PartialEq, Eq, PartialOrd, Ord, Hash)]
 pub struct Refused(pub u8);
 
@@ -127,17 +127,17 @@ pub fn note_name_len(chain: u16, octave: u16, tritave: u16, key: u16) -> Result<
     value(unsafe { c::vn_note_name_len(chain, octave, tritave, key) })
 }
 
-/// The key of the octave that a spelling sounds (1, 2, 3, 4, and 15 where it is no spelling).
+/// The key of the octave that a spelling sounds: a letter by its index along the chain,
+/// as many sharps as `signs` is above 0 or flats as it is below, and stars (1, 2, 3, 4, 16, 21).
 pub fn sounded_key(
     chain: u16,
     octave: u16,
     tritave: u16,
     letter: u16,
-    sharps: u32,
-    flats: u32,
+    signs: i32,
     stars: u16,
 ) -> Result<u16, Refused> {
-    value(unsafe { c::vn_sounded_key(chain, octave, tritave, letter, sharps, flats, stars) })
+    value(unsafe { c::vn_sounded_key(chain, octave, tritave, letter, signs, stars) })
 }
 
 /// How many layer numbers there are (1, 2, 3, 4).

@@ -8,6 +8,7 @@ unfolding joined
 examples-hold =
     record {
       numbers = refl;
+      later-numbers = refl;
       first-no = refl;
       all-yes = refl;
       goes-on = refl;

@@ -20,6 +20,8 @@ use Rattle.answer.specs.declared.Refusal.the-variants.{
   BookCover,
   BookKey,
   Line,
+  Letter,
+  Stars,
 }
 use Rattle.answer.specs.Outcome.{Outcome, given, refused, ask, andThen}
 use Rattle.answer.specs.Refusals.{numberOf}
@@ -46,6 +48,8 @@ further n = ask 4 true (given (n + 1))
 pub record ExamplesHold : Type 0 where
   -- "numbered": from 1 to 14, without a gap
   pub numbers : map numberOf inOrder ≡ 1 ∷ 2 ∷ 3 ∷ 4 ∷ 5 ∷ 6 ∷ 7 ∷ 8 ∷ 9 ∷ 10 ∷ 11 ∷ 12 ∷ 13 ∷ 14 ∷ []
+  -- document 02: "16 when the letter's place is not below the number of letters", "21 when the stars are not below" the cycles
+  pub later-numbers : map numberOf (Letter ∷ Stars ∷ []) ≡ 16 ∷ 21 ∷ []
   -- "the first no gives its number and nothing else", "a yes to all gives the answer"
   pub first-no : stopped ≡ refused 2
   pub all-yes : accepted ≡ given 7

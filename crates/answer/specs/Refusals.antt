@@ -1,4 +1,4 @@
--- The number of each refusal, and what the shared answers mean (document 01, "Questions before an answer").
+-- The number of each refusal, and what the shared answers mean (document 01, "Questions before an answer"; 16 and 21 of document 02).
 use Prim.Native.Nat.{ℕ}
 use Rattle.answer.specs.Outcome.{Outcome, given, refused}
 use Rattle.answer.specs.declared.Refusal.{Refusal}
@@ -17,13 +17,15 @@ use Rattle.answer.specs.declared.Refusal.the-variants.{
   BookCover,
   BookKey,
   Line,
+  Letter,
+  Stars,
 }
 use Rattle.answer.specs.declared.NumberAnswer.{NumberAnswer}
 use Rattle.answer.specs.declared.NumberAnswer.the-variants as Number
 use Rattle.answer.specs.declared.CountAnswer.{CountAnswer}
 use Rattle.answer.specs.declared.CountAnswer.the-variants as Count
 
--- The fourteen questions, by their numbers.
+-- The questions, by their numbers: document 01's, then those of document 02 that are asked.
 abbrev pub numberOf : Refusal → ℕ
 numberOf Chain = 1
 numberOf Period = 2
@@ -39,6 +41,8 @@ numberOf BookPairs = 11
 numberOf BookCover = 12
 numberOf BookKey = 13
 numberOf Line = 14
+numberOf Letter = 16
+numberOf Stars = 21
 
 -- A number that was given, or the number of the question.
 abbrev pub numberOutcome : NumberAnswer → Outcome ℕ

@@ -1,6 +1,6 @@
 // What every entry point answers: a value, or the number of the first question that it says no to.
 //
-// Holds the fourteen questions of document 01 ("Questions before an answer") as one enum with their numbers,
+// Holds the fourteen questions of document 01 ("Questions before an answer") and two of document 02 as one enum with their numbers,
 // the answers that several crates share, and in `writer` the stores that all texts are made of.
 // specs/: an outcome and how questions are asked (Outcome), the numbers (Refusals), what a lent slice holds
 // after an answer (Lent), and what writing a text means (Writing). Nothing is assumed.
@@ -39,10 +39,14 @@ pub enum Refusal {
     BookKey,
     // 14: is the program's line well formed?
     Line,
+    // 16: is the letter's place below the number of letters? (document 02)
+    Letter,
+    // 21: are the stars below the cycles? (document 02)
+    Stars,
 }
 
 impl Refusal {
-    // The question's number in document 01.
+    // The question's number.
     pub fn number(self) -> u8
         ensures { λ r. ⌜ r ≡ numberOf self ⌝ }
     {
@@ -61,6 +65,8 @@ impl Refusal {
             Refusal::BookCover => 12,
             Refusal::BookKey => 13,
             Refusal::Line => 14,
+            Refusal::Letter => 16,
+            Refusal::Stars => 21,
         }
     }
 }

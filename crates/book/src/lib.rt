@@ -1,18 +1,19 @@
 // Looking a key's name up in a book (document 01, "Lamps and book").
 //
 // Holds the reading of a book: how many keys it has, where a key's name stands, and the name as a part of the
-// caller's bytes. No public function has a `requires`: each is answered for any bytes whatever, damaged ones too,
-// with questions 11, 12 and 13, and no part outside the book's text is ever handed out. In `writer`, its numbers' store.
-// specs/: the format and its questions (Books); that the names of an accepted book are its text, and that a written
-// book is read back (Theorems). Nothing is assumed.
+// caller's bytes. Every public function here answers any bytes whatever, damaged ones too, with questions 11, 12 and 13,
+// and no byte outside the book's text is ever handed out. `writer` holds the store of a book's numbers, which asks for room.
+// specs/: the format and its questions (Books); which part of the caller's book a lookup hands back (Lookups); that the
+// names of an accepted book are its text, and that a written book is read back (Theorems). Nothing is assumed.
 pub mod writer;
 
 use answer::Refusal;
 ghost use mathlib.Core.Path.{_≡_};
 ghost use Prim.Native.Nat.{_+_, _<_, _≤_};
 ghost use lib.ListN.{length};
-ghost use Rattle.book.specs.Books.{value32, PairsHeld, textCovered, keysOutcome, findOutcome, nameIn};
+ghost use Rattle.book.specs.Books.{value32, PairsHeld, textCovered, keysOutcome, findOutcome};
 ghost use Rattle.book.specs.Answers.{keysAnswered, findAnswered};
+ghost use Rattle.book.specs.Lookups.{slice, LookedUp};
 
 // Where a name stands: its first byte, counted from the book's start, and how many bytes it has.
 pub struct Place {
@@ -111,17 +112,22 @@ pub fn find(book: &[u8], key: u32) -> FindAnswer
     }
 }
 
-// The key's name, as a part of the caller's book: 11, 12, 13.
-// A refusal hands back the empty part, which is never a name, since lengths are at least 1; `find` tells its number.
-pub fn name(book: &[u8], key: u32) -> &[u8]
-    ensures { λ r. ⌜ now r ≡ nameIn (now (book .entry)) key ⌝ }
+// The key's name, as the part of the caller's book that holds it: 11, 12, 13.
+// An enum cannot hold the part, so the refusal's number stands beside it in `refusal`: 0 where a name is found.
+// A refusal hands back the empty part at the book's front.
+pub fn name<'a>(book: &'a [u8], key: u32, refusal: &mut u8) -> &'a [u8]
+    ensures { λ r. ⌜ LookedUp (slice (book .entry)) key (slice r) (now (refusal .exit)) ⌝ }
 {
     match find(book, key) {
         FindAnswer::Found(place) => {
             let start = place.offset as usize;
             let end = start + place.length as usize;
+            *refusal = 0;
             &book[start..end]
         }
-        FindAnswer::Refused(_) => &book[0..0],
+        FindAnswer::Refused(question) => {
+            *refusal = question.number();
+            &book[0..0]
+        }
     }
 }

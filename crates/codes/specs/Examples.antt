@@ -10,7 +10,7 @@ use Rattle.codes.specs.Numbers.{asNumbers, walkNumbers}
 
 -- Theorem.
 pub record ExamplesHold : Type 0 where
-  pub codes : map codeOf (given 0 ∷ given 8 ∷ refused 1 ∷ refused 15 ∷ []) ≡ pos 0 ∷ pos 8 ∷ negsuc 0 ∷ negsuc 14 ∷ []
+  pub codes : map codeOf (given 0 ∷ given 8 ∷ refused 1 ∷ refused 21 ∷ []) ≡ pos 0 ∷ pos 8 ∷ negsuc 0 ∷ negsuc 20 ∷ []
   -- one number, with room for it and without
   pub one-room : oneWritten (oneHeld 2 (negsuc 4)) (pos 1 ∷ pos 2 ∷ []) ≡ negsuc 4 ∷ pos 2 ∷ []
   pub one-short : oneWritten (oneHeld 0 (negsuc 4)) [] ≡ []

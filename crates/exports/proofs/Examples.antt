@@ -3,11 +3,12 @@ use mathlib.Core.Path.{refl}
 use Rattle.mos.specs.Answers.{ofPattern, coprimeOutcome}
 use Rattle.mos.specs.Patterns.{childOf}
 use Rattle.pergen.specs.Answers.{getGeneration, getAccidentals}
-use Rattle.exports.specs.Written.{pergenOutput, findOutput, layoutOutput, soundedOutcome}
+use Rattle.layout.specs.Answers.{getSoundedKey}
+use Rattle.exports.specs.Written.{pergenOutput, findOutput, layoutOutput}
 use Rattle.exports.specs.Examples.{ExamplesHold}
 
 pub examples-hold : ExamplesHold
-unfolding pergenOutput getGeneration getAccidentals ofPattern childOf coprimeOutcome findOutput layoutOutput soundedOutcome
+unfolding pergenOutput getGeneration getAccidentals ofPattern childOf coprimeOutcome findOutput layoutOutput getSoundedKey
 examples-hold = record {
   pergens = refl;
   no-period = refl;

@@ -1,4 +1,3 @@
 pub mod Outputs
 pub mod Pairs
-pub mod Sounding
 pub mod Examples

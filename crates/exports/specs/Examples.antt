@@ -2,13 +2,15 @@
 use Prim.Native.Nat.{ℕ}
 use mathlib.Core.List.{List, [], _∷_, map}
 use mathlib.Core.Path.{_≡_}
+use lib.IntN.{ℤ, pos, negsuc}
 use Rattle.answer.specs.Outcome.{Outcome, given, refused}
+use Rattle.layout.specs.Answers.{getSoundedKey}
 use Rattle.mos.specs.Answers.{ofPattern, coprimeOutcome}
 use Rattle.mos.specs.Patterns.{mos, childOf}
 use Rattle.mos.specs.Walks.{fields}
 use Rattle.pergen.specs.Answers.{getGeneration, getAccidentals}
 use Rattle.codes.specs.Numbers.{asNumbers, accidentalsNumbers, walkNumbers}
-use Rattle.exports.specs.Written.{pergen, format, pergenOutput, generationNumbers, findOutput, layoutOutput, soundedOutcome}
+use Rattle.exports.specs.Written.{pergen, format, layout, spelling, pergenOutput, generationNumbers, findOutput, layoutOutput}
 
 -- A layout's three numbers, and what is written for it.
 pub record LayoutExample : Type 0 where
@@ -36,25 +38,18 @@ pub record SpellingExample : Type 0 where
   pub octave : ℕ
   pub tritave : ℕ
   pub letter : ℕ
-  pub sharps : ℕ
-  pub flats : ℕ
+  pub signs : ℤ
   pub stars : ℕ
   pub key : Outcome ℕ
 
--- In code 1, whose letters are F C G D A E B.
+-- In code 1, whose letters are F C G D A E B; `negsuc k` is −1 − k.
 abbrev pub spellingExamples : List SpellingExample
 spellingExamples =
     -- D# and Eb sound one key
-    record { octave = 12; tritave = 19; letter = 3; sharps = 1; flats = 0; stars = 0; key = given 1 }
-    ∷ record { octave = 12; tritave = 19; letter = 5; sharps = 0; flats = 1; stars = 0; key = given 1 }
-    -- D* in two cycles
-    ∷ record { octave = 24; tritave = 38; letter = 3; sharps = 0; flats = 0; stars = 1; key = given 1 }
-    -- no letter, both kinds of signs, too many stars
-    ∷ record { octave = 12; tritave = 19; letter = 7; sharps = 0; flats = 0; stars = 0; key = refused 15 }
-    ∷ record { octave = 12; tritave = 19; letter = 3; sharps = 1; flats = 1; stars = 0; key = refused 15 }
-    ∷ record { octave = 12; tritave = 19; letter = 3; sharps = 1; flats = 0; stars = 1; key = refused 15 }
-    -- the layout's questions come first
-    ∷ record { octave = 0; tritave = 19; letter = 7; sharps = 1; flats = 1; stars = 1; key = refused 2 }
+    record { octave = 12; tritave = 19; letter = 3; signs = pos 1; stars = 0; key = given 1 }
+    ∷ record { octave = 12; tritave = 19; letter = 5; signs = negsuc 0; stars = 0; key = given 1 }
+    -- no letter
+    ∷ record { octave = 12; tritave = 19; letter = 7; signs = pos 0; stars = 1; key = refused 16 }
     ∷ []
 
 -- Theorem.
@@ -76,6 +71,6 @@ pub record ExamplesHold : Type 0 where
   pub layouts : map (λ (e : LayoutExample). layoutOutput (e .code) (e .octave) (e .tritave)) layoutExamples
       ≡ map (λ (e : LayoutExample). e .output) layoutExamples
   pub spellings : map
-      (λ (e : SpellingExample). soundedOutcome 1 (e .octave) (e .tritave) (e .letter) (e .sharps) (e .flats) (e .stars))
+      (λ (e : SpellingExample). getSoundedKey (layout 1 (e .octave) (e .tritave)) (spelling (e .letter) (e .signs) (e .stars)))
       spellingExamples
       ≡ map (λ (e : SpellingExample). e .key) spellingExamples

@@ -1,15 +1,14 @@
 -- The lists of numbers that the calls write, each after the questions of its call.
 use Prim.Native.Nat.{ℕ}
-use mathlib.Core.Bool.{Bool, true, false, _&&_, _||_}
 use mathlib.Core.List.{List, [], _∷_, _++_}
-use lib.Dec.{eqb, ltb, leb}
+use lib.Dec.{leb}
+use lib.IntN.{ℤ}
 use Rattle.answer.specs.Outcome.{Outcome, given, ask, andThen}
 use Rattle.book.specs.declared.Place.{Place}
 use Rattle.book.specs.Books.{findOutcome}
 use Rattle.codes.specs.Numbers.{asNumbers, walkNumbers}
 use Rattle.layout.specs.declared.IsomorphicLayout.{IsomorphicLayout}
-use Rattle.layout.specs.Layouts.{Layout, layoutOutcome, lettersOf}
-use Rattle.layout.specs.Names.{keyOf}
+use Rattle.layout.specs.Layouts.{Layout, layoutOutcome}
 use Rattle.mos.specs.declared.Mos.{Mos}
 use Rattle.mos.specs.Walks.{children, firstWith, fields}
 use Rattle.mos.specs.Answers.{genesisOutcome}
@@ -18,11 +17,9 @@ use Rattle.pergen.specs.declared.Cycle.{Cycle}
 use Rattle.pergen.specs.declared.Cycle.the-variants.{Absent, Number}
 use Rattle.pergen.specs.declared.Generation.{Generation}
 use Rattle.pergen.specs.declared.PerGen.{PerGen}
-use Rattle.pergen.specs.declared.Signs.{Signs}
-use Rattle.pergen.specs.declared.Signs.the-variants.{Sharps, Flats}
 use Rattle.pergen.specs.declared.Spelling.{Spelling}
 use Rattle.pergen.specs.Pergen.{cycles, reduced, inverse}
-use Rattle.pergen.specs.Spelling.{starsOf}
+use Rattle.pergen.specs.Spelling.{signsOf, starsOf}
 
 -- ---- the records that a call's numbers make
 
@@ -37,6 +34,10 @@ format N origin = record { «num_symbols» = N; «genchain_origin» = origin }
 -- A chain code, an octave and a tritave.
 abbrev pub layout : ℕ → ℕ → ℕ → IsomorphicLayout
 layout code octave tritave = record { genchain = code; octave = octave; tritave = tritave }
+
+-- A letter's index along the chain, a signed number of signs, and stars.
+abbrev pub spelling : ℕ → ℤ → ℕ → Spelling
+spelling letter signs stars = record { index = letter; signs = signsOf signs; stars = stars }
 
 -- ---- pergens
 
@@ -79,34 +80,6 @@ unfoldable pub layoutOutput : ℕ → ℕ → ℕ → Outcome (List ℕ)
 unfolding layoutOutcome layoutNumbers
 layoutOutput code octave tritave =
     andThen (layoutOutcome code octave tritave) (λ (l : Layout). given (layoutNumbers octave l))
-
--- "a spelling there is a letter .., a number of sharps or of flats, 0 included, and stars below n": N letters, n cycles.
-unfoldable pub isSpelling : (N n letter sharps flats stars : ℕ) → Bool
-isSpelling N n letter sharps flats stars = ltb letter N && ltb stars n && (eqb sharps 0 || eqb flats 0)
-
--- One of two kinds of signs.
-abbrev pub pickSigns : Bool → Signs → Signs → Signs
-pickSigns true a b = a
-pickSigns false a b = b
-
--- The spelling with these numbers, one of `sharps` and `flats` being 0.
-unfoldable pub spelling : (letter sharps flats stars : ℕ) → Spelling
-spelling letter sharps flats stars =
-    record { index = letter; signs = pickSigns (eqb flats 0) (Sharps sharps) (Flats flats); stars = stars }
-
--- "it sounds key (G × place + stars) mod P of the octave". What is no spelling sounds none: document 01 has no question about it,
--- so it is refused with a number of its own, 15, the one after the last question's.
-unfoldable pub soundedIn : (code octave : ℕ) → Layout → (letter sharps flats stars : ℕ) → Outcome ℕ
-unfolding isSpelling spelling keyOf cycles
-soundedIn code octave l letter sharps flats stars =
-    ask 15 (isSpelling (lettersOf code) (cycles octave (l .generator)) letter sharps flats stars)
-    (given (keyOf code octave l (spelling letter sharps flats stars)))
-
--- Questions 1 to 4, then the key.
-unfoldable pub soundedOutcome : (code octave tritave letter sharps flats stars : ℕ) → Outcome ℕ
-unfolding layoutOutcome soundedIn
-soundedOutcome code octave tritave letter sharps flats stars =
-    andThen (layoutOutcome code octave tritave) (λ (l : Layout). soundedIn code octave l letter sharps flats stars)
 
 -- ---- books
 

@@ -1,26 +1,17 @@
 // Layouts: a chain code, an octave and a tritave; their numbers, names, spellings, layers and lamps.
-use answer::Refusal;
-use genchain::rows;
-use genchain::rows::ChainRow;
 use layout::IsomorphicLayout;
 use layout::parts::FoundAnswer;
-use pergen::AccidentalsFormat;
-use pergen::PerGen;
 use pergen::Signs;
 use pergen::Spelling;
 use pergen::euclid;
 ghost use mathlib.Core.Path.{_≡_};
-ghost use Prim.Native.Nat.{_<_};
-ghost use lib.IntN.{pos};
 ghost use Rattle.answer.specs.Lent.{counted};
-ghost use Rattle.genchain.specs.Chains.{TableRow};
 ghost use Rattle.lamps.specs.Answers.{getStrip};
-ghost use Rattle.layout.specs.Answers.{getAccidentals, getScaleName, getNoteName};
+ghost use Rattle.layout.specs.Answers.{getAccidentals, getScaleName, getNoteName, getSoundedKey};
 ghost use Rattle.layout_layers.specs.Answers.{getLayers, getLayerCount};
-ghost use Rattle.pergen.specs.Spelling.{soundedKey};
 ghost use Rattle.codes.specs.Codes.{codeOf, Fills};
 ghost use Rattle.codes.specs.Numbers.{asNumbers, accidentalsNumbers};
-ghost use Rattle.exports.specs.Written.{layout, layoutOutput, isSpelling, spelling, soundedOutcome};
+ghost use Rattle.exports.specs.Written.{layout, layoutOutput, spelling};
 
 // Generator, cycles, reduced period, inverse, then the pattern's four numbers (1, 2, 3, 4, 10).
 #[no_mangle]
@@ -116,97 +107,29 @@ pub extern "C" fn vn_layout_accidentals(
     codes::accidentals(out, layout.get_accidentals(key))
 }
 
-// Whether it is a spelling: a letter, sharps or flats, and stars below the cycles.
-fn is_spelling(
-    num_letters: u16,
-    cycles: u16,
-    letter: u16,
-    sharps: u32,
-    flats: u32,
-    stars: u16,
-) -> bool
-    ensures { λ r. ⌜ r ≡ isSpelling «num_letters» cycles letter sharps flats stars ⌝ }
-{
-    if num_letters <= letter {
-        return false;
-    }
-    if cycles <= stars {
-        return false;
-    }
-    if sharps == 0 {
-        return true;
-    }
-    flats == 0
-}
-
-// The spelling with these numbers.
-fn spelling_of(letter: u16, sharps: u32, flats: u32, stars: u16) -> Spelling
-    ensures { λ r. ⌜ r ≡ spelling letter sharps flats stars ⌝ }
-{
-    if flats == 0 {
-        return Spelling {
-            index: letter,
-            signs: Signs::Sharps(sharps),
-            stars,
-        };
-    }
-    Spelling {
-        index: letter,
-        signs: Signs::Flats(flats),
-        stars,
-    }
-}
-
-// The key that a spelling along the letters of a row sounds.
-fn sounded(row: ChainRow, octave: u16, generator: u16, spelling: Spelling) -> i64
-    requires { ⌜ TableRow row × (0 < octave) ⌝ }
-    ensures { λ r. ⌜ r ≡ pos (soundedKey octave generator (row .«num_letters») (row .start) spelling) ⌝ }
-{
-    let format = AccidentalsFormat {
-        num_symbols: row.num_letters,
-        genchain_origin: row.start,
-    };
-    let pergen = PerGen {
-        period: octave,
-        generator,
-    };
-    codes::number(sounding::get_sounded_key(pergen, format, spelling))
-}
-
-// The key of the octave that a spelling sounds (1, 2, 3, 4, and 15 where it is no spelling).
+// The key of the octave that a spelling sounds: a letter, signs (sharps above 0, flats below), stars (1, 2, 3, 4, 16, 21).
 #[no_mangle]
 pub extern "C" fn vn_sounded_key(
     chain: u16,
     octave: u16,
     tritave: u16,
     letter: u16,
-    sharps: u32,
-    flats: u32,
+    signs: i32,
     stars: u16,
 ) -> i64
-    ensures { λ r. ⌜ r ≡ codeOf (soundedOutcome chain octave tritave letter sharps flats stars) ⌝ }
+    ensures { λ r. ⌜ r ≡ codeOf (getSoundedKey (layout chain octave tritave) (spelling letter signs stars)) ⌝ }
 {
     let layout = IsomorphicLayout {
         genchain: chain,
         octave,
         tritave,
     };
-    if 6 <= chain {
-        return codes::refused(Refusal::Chain);
-    }
-    let row = rows::row(chain);
-    match layout::parts::find(layout, row.num_letters) {
-        FoundAnswer::Refused(question) => codes::refused(question),
-        FoundAnswer::Given(found) => {
-            let cycles = math::gcd_u16(octave, found.generator);
-            if is_spelling(row.num_letters, cycles, letter, sharps, flats, stars) {
-                let spelling = spelling_of(letter, sharps, flats, stars);
-                return sounded(row, octave, found.generator, spelling);
-            }
-            // no spelling: `soundedIn` says why 15
-            -15
-        }
-    }
+    let spelling = Spelling {
+        index: letter,
+        signs: Signs::from_number(signs),
+        stars,
+    };
+    codes::number(layout.get_sounded_key(spelling))
 }
 
 // How many layer numbers there are (1, 2, 3, 4).

@@ -4,7 +4,7 @@
 // stand in one constant table, in `rows`. `generators` has the chains' generators, `chain_names` their names.
 // specs/: Chains has the six chains as data, Answers says what each call answers, here and in these two crates, Theorems what is
 // proved of the letters.
-// Every public function here answers every input. Nothing is assumed.
+// Every entry point answers every input; the modules of parts ask for more, as their heads say. Nothing is assumed.
 pub mod rows;
 pub mod texts;
 

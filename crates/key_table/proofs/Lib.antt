@@ -1,1 +1,5 @@
 pub mod Fits
+pub mod OneLine
+pub mod Keeping
+pub mod Going
+pub mod Printing

@@ -73,4 +73,4 @@ lit code P l key h =
     others-lit (eqb key 0) key _ refl h (code-above (kindAt P (l .generator) (lettersOf code) (chainOf code .start) (l .pattern) key))
 
 pub one-home : OneHome
-one-home = record { zero = λ code P l. sym (lamp-home code P l 0 refl); others = lit }
+one-home = record { zero = λ code P l. sym (lamp-home code P l 0 refl); others = λ code P l key h below. lit code P l key h }

@@ -24,10 +24,10 @@ CodesFitBytes =
     (code octave tritave : ℕ) (l : Layout) → Accepted code octave tritave l → hasLampsIn code octave l ≡ true
     → (key : ℕ) → lampIn code octave l key < 256
 
--- Theorem: home is key 0's code and no other's.
+-- Theorem: of the keys of an octave, key 0 has home's code and no other has it.
 pub record OneHome : Type 0 where
   pub zero : (code octave : ℕ) (l : Layout) → lampIn code octave l 0 ≡ 0
-  pub others : (code octave : ℕ) (l : Layout) (key : ℕ) → 0 < key → 0 < lampIn code octave l key
+  pub others : (code octave : ℕ) (l : Layout) (key : ℕ) → 0 < key → key < octave → 0 < lampIn code octave l key
 
 -- Theorem: a strip has a code for each key of the octave.
 abbrev pub StripsAreWhole : Type 0

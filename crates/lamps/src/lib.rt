@@ -3,7 +3,7 @@
 // Home is 0, natural keys have 1, sharp layers 2 to 101, flat layers 102 to 201 and enharmonic ones 255.
 // specs/: Lamps defines, Answers says what each call answers, Theorems and Examples state what holds.
 // A layout with a sharp or flat layer of number 100 or more has no strip (9). Lamps follow the layers and not the names.
-// Every public function here answers every input. Nothing is assumed.
+// Every entry point answers every input; the modules of parts ask for more, as their heads say. Nothing is assumed.
 pub mod parts;
 
 use answer::CountAnswer;

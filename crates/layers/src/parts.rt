@@ -79,7 +79,7 @@ pub fn runs_over(m: Mos, cycles: u16) -> Runs
 }
 
 // The layers of a pattern.
-pub fn runs_in(m: Mos) -> Runs
+pub(crate) fn runs_in(m: Mos) -> Runs
     requires { ⌜ isPattern m ≡ true ⌝ }
     ensures { λ r. ⌜ runSizes r ≡ allSizes (primaries m) (secondaries m) (primary m / cyclesOf m) (secondary m / cyclesOf m) ⌝ }
 {
@@ -125,7 +125,7 @@ fn put_layers(out: &mut [u16], c: Cursor, size: u16, times: u16) -> Cursor
 }
 
 // The list of layer numbers.
-pub fn put_all_layers(out: &mut [u16], runs: Runs)
+pub(crate) fn put_all_layers(out: &mut [u16], runs: Runs)
     requires { ⌜ (sum (runSizes runs) ≤ 65535) × (sum (runSizes runs) ≤ length (now out)) ⌝ }
     ensures { λ r. ⌜ Wrote (now (out .entry)) 0 (numbered 0 (dropEmpty (runSizes runs))) (now (out .exit)) (sum (runSizes runs)) ⌝ }
 {
@@ -176,7 +176,7 @@ fn put_sizes(out: &mut [u16], at: usize, size: u16, times: u16) -> usize
 }
 
 // The list of layer sizes.
-pub fn put_all_sizes(out: &mut [u16], runs: Runs)
+pub(crate) fn put_all_sizes(out: &mut [u16], runs: Runs)
     requires { ⌜ Room (now out) 0 (dropEmpty (runSizes runs)) ⌝ }
     ensures { λ r. ⌜ Wrote (now (out .entry)) 0 (dropEmpty (runSizes runs)) (now (out .exit)) (length (dropEmpty (runSizes runs))) ⌝ }
 {

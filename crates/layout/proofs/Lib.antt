@@ -3,4 +3,5 @@ pub mod Keys
 pub mod PatternShape
 pub mod Calls
 pub mod Naming
+pub mod SoundedKeys
 pub mod Examples

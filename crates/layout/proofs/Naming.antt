@@ -1,15 +1,18 @@
 -- Which keys spellings and names mean, in an accepted layout: pergen's theorems for its period and generator, and the reading of names.
-use Prim.Native.Nat.{ℕ, _%_, _<_, _≤_}
-use mathlib.Core.Path.{_≡_, refl, sym, ap, ap₂, _∙_, subst}
-use mathlib.Core.Logic.{_↔_, _⊎_, inl, inr}
-use mathlib.Core.List.{List, List·Memᴰ}
+use Prim.Native.Nat.{ℕ, _%_, _<_}
+use mathlib.Core.Path.{_≡_, sym, ap, ap₂, _∙_, subst}
+use mathlib.Core.Logic.{_⊎_, inl, inr}
+use mathlib.Core.List.{List, [], _∷_, List·Memᴰ, List·Memᴰ·not-nil}
 use native.Mathlib.Omega.{arith}
-use lib.IntN.{ℤ}
+use lib.IntN.{ℤ, pos}
+use lib.ListN.{length}
 use Rattle.answer.specs.Outcome.{Outcome, given, andThen}
 use Rattle.answer.proofs.Asked.{given-same}
 use Rattle.genchain.specs.Chains.{chainOf}
 use Rattle.genchain.specs.Theorems.{GoodChain}
 use Rattle.genchain.proofs.GoodChains.{chains-are-good}
+use Rattle.math.specs.Division.{Apart}
+use Rattle.math.proofs.Division.{apart→remainder, remainder→apart}
 use Rattle.notes.specs.Names.{printed, firstPrinted, nameText}
 use Rattle.notes.specs.Answers.{chainName}
 use Rattle.notes.specs.Theorems.{Lettered, SameSpelling}
@@ -19,12 +22,12 @@ use Rattle.pergen.specs.declared.Cycle.{Cycle}
 use Rattle.pergen.specs.declared.Accidentals.{Accidentals}
 use Rattle.pergen.specs.declared.Spelling.{Spelling}
 use Rattle.pergen.specs.Pergen.{cycles, reduced, degree, cycle, cycleOf}
-use Rattle.pergen.specs.Spelling.{accidentalsOf, keyAccidentals, place, sounds, soundedKey, sharpSpelling, flatSpelling}
+use Rattle.pergen.specs.Spelling.{accidentalsOf, keyAccidentals, place, sounds, soundedKey, starsOf, sharpSpelling, flatSpelling}
 use Rattle.pergen.proofs.Keys.{spellings-of-one-key, degree-and-cycle-tell-keys-apart, cycle-below}
-use Rattle.pergen.proofs.DegreePlaces.{accidentals-sound-their-key, stars-are}
-use Rattle.layout.specs.Layouts.{Layout, Accepted, lettersOf, layoutOutcome, accidentalsIn, sharpFirst}
-use Rattle.layout.specs.Names.{IsSpelling, placeIn, keyOf, printedIn, nameIn, noteName}
-use Rattle.layout.specs.Theorems.{SpellingsSoundOneKey, NamesSoundTheirKey, NamesTellKeysApart, EnoughKeys}
+use Rattle.pergen.proofs.DegreePlaces.{accidentals-sound-their-key, cycle-kept, stars-are}
+use Rattle.layout.specs.Layouts.{Layout, Accepted, lettersOf, accidentalsIn, sharpFirst}
+use Rattle.layout.specs.Names.{placeIn, keyOf, printedIn, cycleIn, textIn, nameIn, noteName}
+use Rattle.layout.specs.Theorems.{SpellingsSoundOneKey, SoundsKey, NamesSoundTheirKey, NamesTellKeysApart, EnoughKeys}
 use Rattle.layout.proofs.Finding.{Parts, accepted}
 use Rattle.layout.proofs.Keys.{enough}
 
@@ -37,11 +40,10 @@ enough-keys code P tritave l e =
     enough code P tritave l a (omega (arith, good-chain code P tritave l a .at-least-five))
 
 pub spellings-sound-one-key : SpellingsSoundOneKey
-unfolding keyOf placeIn soundedKey
+unfolding keyOf
 spellings-sound-one-key code P tritave l e x y hx hy =
     spellings-of-one-key P (l .generator) (accepted code P tritave l e .positive)
-    (place (lettersOf code) (chainOf code .start) x) (place (lettersOf code) (chainOf code .start) y)
-    (x .stars) (y .stars) (hx .stars) (hy .stars)
+    (placeIn code x) (placeIn code y) (x .stars) (y .stars) (hx .stars) (hy .stars)
 
 -- ---- the spellings in a name
 
@@ -49,15 +51,16 @@ module _ (code P tritave : ℕ) (l : Layout) (a : Parts code P tritave l) (i : �
   start-below : chainOf code .start < lettersOf code
   start-below = good-chain code P tritave l a .start-below
 
-  -- both spellings of the key: letters of the chain, stars below n, and they sound it
-  record Sound (x : Spelling) : Type 0 where
-    spelling : IsSpelling code P l x
-    sounds-it : keyOf code P l x ≡ i % P
-
   stars-below : (s : ℕ) → s ≡ cycle P (l .generator) i → s < cycles P (l .generator)
   stars-below s e = subst (λ (n : ℕ). n < cycles P (l .generator)) (sym e) (cycle-below P (l .generator) (a .positive) i)
 
-  sharp-sound : Sound (sharpSpelling (accidentalsIn code P l i))
+  -- the cycle that the accidentals hold is the key's
+  cycle-is : (accidentalsIn code P l i) .cycle ≡ cycleIn P l i
+  unfolding accidentalsIn keyAccidentals
+  cycle-is = cycle-kept (reduced P (l .generator)) (lettersOf code) (chainOf code .start) (degree P (l .generator) i) (cycleIn P l i)
+
+  -- both spellings of the key: letters of the chain, its stars, and they sound it
+  sharp-sound : SoundsKey code P l i (sharpSpelling (accidentalsIn code P l i))
   unfolding keyOf accidentalsIn sharpSpelling
   sharp-sound =
       let t = accidentals-sound-their-key P (l .generator) (lettersOf code) (chainOf code .start) i (a .positive) start-below in
@@ -67,10 +70,11 @@ module _ (code P tritave : ℕ) (l : Layout) (a : Parts code P tritave l) (i : �
               letter = t .2 .0;
               stars = stars-below _ (stars-are P (l .generator) (lettersOf code) (chainOf code .start) i (a .positive) start-below);
             };
-        sounds-it = t .1 .0;
+        stars = ap starsOf cycle-is;
+        sounds = t .1 .0;
       }
 
-  flat-sound : Sound (flatSpelling (accidentalsIn code P l i))
+  flat-sound : SoundsKey code P l i (flatSpelling (accidentalsIn code P l i))
   unfolding keyOf accidentalsIn flatSpelling
   flat-sound =
       let t = accidentals-sound-their-key P (l .generator) (lettersOf code) (chainOf code .start) i (a .positive) start-below in
@@ -80,17 +84,18 @@ module _ (code P tritave : ℕ) (l : Layout) (a : Parts code P tritave l) (i : �
               letter = t .2 .1;
               stars = stars-below _ (stars-are P (l .generator) (lettersOf code) (chainOf code .start) i (a .positive) start-below);
             };
-        sounds-it = t .1 .1;
+        stars = ap starsOf cycle-is;
+        sounds = t .1 .1;
       }
 
-  printed-sound : (x : Spelling) → List·Memᴰ x (printed (sharpFirst l) (accidentalsIn code P l i)) → Sound x
+  printed-sound : (x : Spelling) → List·Memᴰ x (printed (sharpFirst l) (accidentalsIn code P l i)) → SoundsKey code P l i x
   printed-sound x m = by (spellings-in-a-name-are-the-keys (sharpFirst l) (accidentalsIn code P l i) .each x m)
     where
-      by : (x ≡ sharpSpelling (accidentalsIn code P l i)) ⊎ (x ≡ flatSpelling (accidentalsIn code P l i)) → Sound x
-      by (inl e) = subst Sound (sym e) sharp-sound
-      by (inr e) = subst Sound (sym e) flat-sound
+      by : (x ≡ sharpSpelling (accidentalsIn code P l i)) ⊎ (x ≡ flatSpelling (accidentalsIn code P l i)) → SoundsKey code P l i x
+      by (inl e) = subst (SoundsKey code P l i) (sym e) sharp-sound
+      by (inr e) = subst (SoundsKey code P l i) (sym e) flat-sound
 
-  first-sound : Sound (firstPrinted (sharpFirst l) (accidentalsIn code P l i))
+  first-sound : SoundsKey code P l i (firstPrinted (sharpFirst l) (accidentalsIn code P l i))
   first-sound = printed-sound _ (spellings-in-a-name-are-the-keys (sharpFirst l) (accidentalsIn code P l i) .some)
 
   lettered : Lettered code (accidentalsIn code P l i)
@@ -104,10 +109,23 @@ module _ (code P tritave : ℕ) (l : Layout) (a : Parts code P tritave l) (i : �
   unfolding noteName
   name-given e = ap (λ (o : Outcome Layout). andThen o (λ (k : Layout). given (nameIn code P k i))) e
 
+-- what has a member is not empty
+not-empty : {x : Spelling} (xs : List Spelling) → List·Memᴰ x xs → 0 < length xs
+not-empty [] m = absurd (List·Memᴰ·not-nil m)
+not-empty (y ∷ ys) m = omega arith
+
 pub names-sound-their-key : NamesSoundTheirKey
-unfolding printedIn
-names-sound-their-key code P tritave l e i x m =
-    let s = printed-sound code P tritave l (accepted code P tritave l e) i x m in (s .spelling, s .sounds-it)
+unfolding printedIn nameIn nameText
+names-sound-their-key code P tritave l e i =
+    let a = accepted code P tritave l e in
+    let x = accidentalsIn code P l i in
+    record {
+      bytes =
+          name-given code P tritave l a i e
+          ∙ ap (λ (c : Cycle). given (textIn code l c (printed (sharpFirst l) x))) (cycle-is code P tritave l a i);
+      some = not-empty _ (spellings-in-a-name-are-the-keys (sharpFirst l) x .some);
+      each = printed-sound code P tritave l a i;
+    }
 
 -- ---- names tell keys apart
 
@@ -134,17 +152,19 @@ names-tell-keys-apart code P tritave l e i j = (there, back)
     a : Parts code P tritave l
     a = accepted code P tritave l e
 
-    there : noteName code P tritave i ≡ noteName code P tritave j → i % P ≡ j % P
+    there : noteName code P tritave i ≡ noteName code P tritave j → Apart P (pos i) (pos j)
     there q =
         let names = given-same (sym (name-given code P tritave l a i e) ∙ q ∙ name-given code P tritave l a j e) in
         let same = equal-names-have-one-first-spelling code (a .chain) (sharpFirst l) (accidentalsIn code P l i) (accidentalsIn code P l j)
         (lettered code P tritave l a i) (lettered code P tritave l a j) names in
-        sym (first-sound code P tritave l a i .sounds-it)
+        remainder→apart P (a .positive) (pos i) (pos j)
+        (sym (first-sound code P tritave l a i .sounds)
         ∙ same-sound code P l _ _ same
-        ∙ first-sound code P tritave l a j .sounds-it
+        ∙ first-sound code P tritave l a j .sounds)
 
-    back : i % P ≡ j % P → noteName code P tritave i ≡ noteName code P tritave j
+    back : Apart P (pos i) (pos j) → noteName code P tritave i ≡ noteName code P tritave j
     back q =
         name-given code P tritave l a i e
-        ∙ ap (λ (x : Accidentals). given (nameText (chainOf code .letters) (sharpFirst l) x)) (same-accidentals code P tritave l a i j q)
+        ∙ ap (λ (x : Accidentals). given (nameText (chainOf code .letters) (sharpFirst l) x))
+        (same-accidentals code P tritave l a i j (apart→remainder P (a .positive) (pos i) (pos j) q))
         ∙ sym (name-given code P tritave l a j e)

@@ -1,15 +1,18 @@
 -- What the calls answer: the questions of document 01 that concern them, in rising order, then the value.
 use Prim.Native.Nat.{ℕ}
 use mathlib.Core.List.{List}
-use Rattle.answer.specs.Outcome.{Outcome, given, refused, andThen}
+use lib.Dec.{ltb}
+use Rattle.answer.specs.Outcome.{Outcome, given, refused, ask, andThen}
 use Rattle.answer.specs.Refusals.{numberOf}
 use Rattle.answer.specs.Lent.{heldIn}
 use Rattle.mos.specs.declared.Mos.{Mos}
 use Rattle.pergen.specs.declared.PerGen.{PerGen}
 use Rattle.pergen.specs.declared.Accidentals.{Accidentals}
-use Rattle.layout.specs.Layouts.{Layout, layoutOutcome, accidentalsIn}
+use Rattle.pergen.specs.declared.Spelling.{Spelling}
+use Rattle.pergen.specs.Pergen.{cycles}
+use Rattle.layout.specs.Layouts.{Layout, layoutOutcome, lettersOf, accidentalsIn}
 use Rattle.layout.specs.ScaleNames.{scaleName}
-use Rattle.layout.specs.Names.{noteName}
+use Rattle.layout.specs.Names.{keyOf, noteName}
 use Rattle.layout.specs.declared.IsomorphicLayout.{IsomorphicLayout}
 use Rattle.layout.specs.declared.LayoutAnswer.{LayoutAnswer}
 use Rattle.layout.specs.declared.LayoutAnswer.the-variants as LayoutAnswer
@@ -49,6 +52,18 @@ getScaleName r = ofLayout r (λ (l : Layout). given (scaleName (r .genchain) (l 
 unfoldable pub getNoteName : IsomorphicLayout → ℕ → Outcome (List ℕ)
 unfolding noteName
 getNoteName r key = noteName (r .genchain) (r .octave) (r .tritave) key
+
+-- 16. Is the letter's place below the number N of letters? 21. Are the stars below the number n of cycles? (Document 02.)
+abbrev pub askSpelling : {A : Type 0} → (N n : ℕ) → Spelling → Outcome A → Outcome A
+askSpelling N n x rest = ask 16 (ltb (x .index) N) (ask 21 (ltb (x .stars) n) rest)
+
+-- Questions 1 to 4, then 16 and 21, then the key of the octave that the spelling sounds.
+unfoldable pub getSoundedKey : IsomorphicLayout → Spelling → Outcome ℕ
+unfolding layoutOutcome cycles keyOf
+getSoundedKey r x =
+    ofLayout r
+    (λ (l : Layout).
+    askSpelling (lettersOf (r .genchain)) (cycles (r .octave) (l .generator)) x (given (keyOf (r .genchain) (r .octave) l x)))
 
 -- Then question 10, of an output slice with `room` elements.
 abbrev pub inRoom : ℕ → Outcome (List ℕ) → Outcome (List ℕ)

@@ -2,10 +2,16 @@
 use Prim.Native.Nat.{ℕ}
 use mathlib.Core.List.{List, [], _∷_, map}
 use mathlib.Core.Path.{_≡_}
+use lib.IntN.{ℤ, pos, negsuc}
 use Rattle.answer.specs.Outcome.{Outcome, given, refused}
 use Rattle.mos.specs.declared.Mos.{Mos}
 use Rattle.mos.specs.Patterns.{mos}
-use Rattle.layout.specs.Answers.{getMos, getScaleName, getNoteName}
+use Rattle.pergen.specs.declared.Signs.{Signs}
+use Rattle.pergen.specs.declared.Signs.the-variants.{Sharps, Flats}
+use Rattle.pergen.specs.declared.Spelling.{Spelling}
+use Rattle.layout.specs.Layouts.{Layout, Accepted}
+use Rattle.layout.specs.Names.{IsSpelling, placeIn, printedIn}
+use Rattle.layout.specs.Answers.{ofLayout, getMos, getScaleName, getNoteName, getSoundedKey}
 use Rattle.layout.specs.declared.IsomorphicLayout.{IsomorphicLayout}
 
 abbrev pub layout : ℕ → ℕ → ℕ → IsomorphicLayout
@@ -55,8 +61,90 @@ nameExamples =
     ∷ record { layout = layout 2 4 6; key = 0; name = refused 4 }
     ∷ []
 
+-- ---- spellings
+
+abbrev pub spelt : ℕ → Signs → ℕ → Spelling
+spelt index signs stars = record { index = index; signs = signs; stars = stars }
+
+pub record SpellingExample : Type 0 where
+  pub layout : IsomorphicLayout
+  pub spelling : Spelling
+  pub place : ℤ
+  pub key : Outcome ℕ
+
+abbrev pub spellingExamples : List SpellingExample
+spellingExamples =
+    -- D, the letter of key 0; F, three places below it (`negsuc 2` is −3); D# and Eb, which are one key
+    record { layout = layout 1 12 19; spelling = spelt 3 (Sharps 0) 0; place = pos 0; key = given 0 }
+    ∷ record { layout = layout 1 12 19; spelling = spelt 0 (Sharps 0) 0; place = negsuc 2; key = given 3 }
+    ∷ record { layout = layout 1 12 19; spelling = spelt 3 (Sharps 1) 0; place = pos 7; key = given 1 }
+    ∷ record { layout = layout 1 12 19; spelling = spelt 5 (Flats 1) 0; place = negsuc 4; key = given 1 }
+    -- D# with a star
+    ∷ record { layout = layout 1 24 38; spelling = spelt 3 (Sharps 1) 1; place = pos 7; key = given 3 }
+    -- the first letters of other chains: C, β and C
+    ∷ record { layout = layout 2 12 19; spelling = spelt 0 (Flats 0) 0; place = negsuc 1; key = given 10 }
+    ∷ record { layout = layout 0 16 25; spelling = spelt 0 (Flats 0) 0; place = negsuc 3; key = given 12 }
+    ∷ record { layout = layout 5 19 30; spelling = spelt 0 (Flats 0) 0; place = negsuc 2; key = given 15 }
+    -- A with as many flats as 32 bits hold
+    ∷ record { layout = layout 0 16 25; spelling = spelt 5 (Flats 4294967295) 0; place = negsuc 38654705653; key = given 10 }
+    ∷ []
+
+-- What is no spelling, and the number of the question that says so.
+pub record RefusedSpelling : Type 0 where
+  pub layout : IsomorphicLayout
+  pub spelling : Spelling
+  pub question : ℕ
+
+abbrev pub refusedSpellings : List RefusedSpelling
+refusedSpellings =
+    -- in two cycles: two stars; an eighth letter; 16 comes before 21
+    record { layout = layout 1 24 38; spelling = spelt 3 (Sharps 0) 2; question = 21 }
+    ∷ record { layout = layout 1 24 38; spelling = spelt 7 (Sharps 0) 1; question = 16 }
+    ∷ record { layout = layout 1 24 38; spelling = spelt 7 (Sharps 0) 2; question = 16 }
+    -- the layout's questions come first
+    ∷ record { layout = layout 6 0 0; spelling = spelt 9 (Sharps 0) 9; question = 1 }
+    ∷ record { layout = layout 1 0 19; spelling = spelt 9 (Sharps 0) 9; question = 2 }
+    ∷ record { layout = layout 1 12 11; spelling = spelt 9 (Sharps 0) 9; question = 3 }
+    ∷ record { layout = layout 2 4 6; spelling = spelt 9 (Sharps 0) 9; question = 4 }
+    ∷ []
+
+pub record PrintedExample : Type 0 where
+  pub layout : IsomorphicLayout
+  pub key : ℕ
+  pub spellings : Outcome (List Spelling)
+
+abbrev pub printedExamples : List PrintedExample
+printedExamples =
+    -- D; D#/Eb; Ebb
+    record { layout = layout 1 12 19; key = 0; spellings = given (spelt 3 (Sharps 0) 0 ∷ []) }
+    ∷ record { layout = layout 1 12 19; key = 1; spellings = given (spelt 3 (Sharps 1) 0 ∷ spelt 5 (Flats 1) 0 ∷ []) }
+    ∷ record { layout = layout 1 31 49; key = 1; spellings = given (spelt 5 (Flats 2) 0 ∷ []) }
+    -- (D#/Eb)*, in the next octave too
+    ∷ record { layout = layout 1 24 38; key = 3; spellings = given (spelt 3 (Sharps 1) 1 ∷ spelt 5 (Flats 1) 1 ∷ []) }
+    ∷ record { layout = layout 1 24 38; key = 27; spellings = given (spelt 3 (Sharps 1) 1 ∷ spelt 5 (Flats 1) 1 ∷ []) }
+    -- D+/E-
+    ∷ record { layout = layout 1 16 25; key = 1; spellings = given (spelt 3 (Flats 1) 0 ∷ spelt 5 (Sharps 1) 0 ∷ []) }
+    ∷ record { layout = layout 2 4 6; key = 0; spellings = refused 4 }
+    ∷ []
+
+-- Code 1, 24, 38: seven letters and two cycles.
+abbrev pub twoCycles : Layout
+twoCycles = record { generator = 14; pattern = mos 5 2 4 2 }
+
 -- Theorem.
 pub record ExamplesHold : Type 0 where
   pub patterns : map (λ (e : ScaleExample). getMos (e .layout)) scaleExamples ≡ map (λ (e : ScaleExample). e .pattern) scaleExamples
   pub scales : map (λ (e : ScaleExample). getScaleName (e .layout)) scaleExamples ≡ map (λ (e : ScaleExample). e .scale) scaleExamples
   pub names : map (λ (e : NameExample). getNoteName (e .layout) (e .key)) nameExamples ≡ map (λ (e : NameExample). e .name) nameExamples
+  pub places : map (λ (e : SpellingExample). placeIn (e .layout .genchain) (e .spelling)) spellingExamples ≡ map (λ (e : SpellingExample). e .place) spellingExamples
+  pub keys : map (λ (e : SpellingExample). getSoundedKey (e .layout) (e .spelling)) spellingExamples
+      ≡ map (λ (e : SpellingExample). e .key) spellingExamples
+  pub printings : map (λ (e : PrintedExample). ofLayout (e .layout) (λ (l : Layout). given (printedIn (e .layout .genchain) (e .layout .octave) l (e .key)))) printedExamples
+      ≡ map (λ (e : PrintedExample). e .spellings) printedExamples
+  pub refusals : map (λ (e : RefusedSpelling). getSoundedKey (e .layout) (e .spelling)) refusedSpellings
+      ≡ map (λ (e : RefusedSpelling). refused (e .question)) refusedSpellings
+  -- in two cycles B with three sharps and a star is a spelling; one with an eighth letter, or with a second star, is none
+  pub two-cycles : Accepted 1 24 38 twoCycles
+  pub b-sharps-star : IsSpelling 1 24 twoCycles (spelt 6 (Sharps 3) 1)
+  pub eighth-letter : IsSpelling 1 24 twoCycles (spelt 7 (Sharps 0) 0) → ⊥
+  pub second-star : IsSpelling 1 24 twoCycles (spelt 0 (Sharps 0) 2) → ⊥

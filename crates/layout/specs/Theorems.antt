@@ -1,14 +1,19 @@
 -- What a reader of key names may rely on, for every accepted layout: every chain code, octave and tritave that questions 1 to 4
--- let through. Proofs: proofs/. Two key numbers differ by whole octaves exactly when they leave one remainder by the octave.
-use Prim.Native.Nat.{ℕ, _%_, _≤_}
+-- let through. `Apart d x y` says that x and y differ by a multiple of d; "whole octaves" are multiples of the octave. Proofs: proofs/.
+use Prim.Native.Nat.{ℕ, _%_, _≤_, _<_}
 use mathlib.Core.Path.{_≡_}
 use mathlib.Core.Logic.{_↔_}
 use mathlib.Core.List.{List·Memᴰ}
+use lib.IntN.{pos}
+use lib.ListN.{length}
+use Rattle.answer.specs.Outcome.{given}
 use Rattle.math.specs.Division.{Apart}
 use Rattle.pergen.specs.declared.Spelling.{Spelling}
 use Rattle.pergen.specs.Pergen.{reduced}
+use Rattle.pergen.specs.Spelling.{starsOf}
 use Rattle.layout.specs.Layouts.{Layout, Accepted, lettersOf}
-use Rattle.layout.specs.Names.{IsSpelling, placeIn, keyOf, printedIn, noteName}
+use Rattle.layout.specs.Names.{IsSpelling, placeIn, keyOf, printedIn, cycleIn, textIn, noteName}
+use Rattle.layout.specs.Answers.{getSoundedKey}
 
 -- Take any two ways to write a note: each a letter, some sharps or some flats, and fewer stars than there are cycles, whether any
 -- cap bears them or not. They are the same key of the octave exactly when they have equally many stars and their places on the
@@ -20,21 +25,45 @@ SpellingsSoundOneKey =
     → (keyOf code octave l x ≡ keyOf code octave l y)
     ↔ ((x .stars ≡ y .stars) × Apart (reduced octave (l .generator)) (placeIn code x) (placeIn code y))
 
--- Every spelling that stands in a key's name is one that can be played, and it sounds that very key, in each octave.
+-- Of a spelling, and a key by its number:
+pub record SoundsKey (code octave : ℕ) (l : Layout) (key : ℕ) (x : Spelling) : Type 0 where
+  -- it is one of the layout's,
+  pub spelling : IsSpelling code octave l x
+  -- it has the stars of the key's name,
+  pub stars : x .stars ≡ starsOf (cycleIn octave l key)
+  -- and it sounds that very key, in each octave.
+  pub sounds : keyOf code octave l x ≡ key % octave
+
+-- Of the name of a key, as the naming call writes it:
+pub record NameSoundsKey (code octave tritave : ℕ) (l : Layout) (key : ℕ) : Type 0 where
+  -- its bytes are the text of the printed spellings, of all of them in their order and of no others, and then the key's stars;
+  pub bytes : noteName code octave tritave key ≡ given (textIn code l (cycleIn octave l key) (printedIn code octave l key))
+  -- there is at least one;
+  pub some : 0 < length (printedIn code octave l key)
+  -- and each of them sounds the key.
+  pub each : (x : Spelling) → List·Memᴰ x (printedIn code octave l key) → SoundsKey code octave l key x
+
+-- Every spelling that stands in a key's name, as the naming call writes it, is one that can be played, and it sounds that very key.
 abbrev pub NamesSoundTheirKey : Type 0
 NamesSoundTheirKey =
-    (code octave tritave : ℕ) (l : Layout) → Accepted code octave tritave l
-    → (key : ℕ) (x : Spelling) → List·Memᴰ x (printedIn code octave l key)
-    → IsSpelling code octave l x × (keyOf code octave l x ≡ key % octave)
+    (code octave tritave : ℕ) (l : Layout) → Accepted code octave tritave l → (key : ℕ) → NameSoundsKey code octave tritave l key
 
 -- No two keys of an octave have the same name, and the same key of another octave has the same name: the bytes that
 -- `get_note_name` writes for two key numbers are equal exactly when the numbers differ by whole octaves.
 abbrev pub NamesTellKeysApart : Type 0
 NamesTellKeysApart =
     (code octave tritave : ℕ) (l : Layout) → Accepted code octave tritave l
-    → (i j : ℕ) → (noteName code octave tritave i ≡ noteName code octave tritave j) ↔ (i % octave ≡ j % octave)
+    → (i j : ℕ) → (noteName code octave tritave i ≡ noteName code octave tritave j) ↔ Apart octave (pos i) (pos j)
 
 -- An accepted layout has at least as many keys in a cycle as its chain has letters: the branch "R below N" is never reached.
 abbrev pub EnoughKeys : Type 0
 EnoughKeys =
     (code octave tritave : ℕ) (l : Layout) → Accepted code octave tritave l → lettersOf code ≤ reduced octave (l .generator)
+
+-- A spelling is answered with a key exactly where it is one of those that `SpellingsSoundOneKey` speaks of: in an accepted layout, with a
+-- letter of the chain and stars below the cycles. The answer is then the key that it sounds, and no other.
+abbrev pub SpellingsHaveAKey : Type 0
+SpellingsHaveAKey =
+    (code octave tritave : ℕ) (x : Spelling) (key : ℕ)
+    → (getSoundedKey (record { genchain = code; octave = octave; tritave = tritave }) x ≡ given key)
+    ↔ ((l : Layout) × Accepted code octave tritave l × IsSpelling code octave l x × (key ≡ keyOf code octave l x))

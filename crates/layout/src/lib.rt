@@ -1,10 +1,10 @@
 // Layouts of the six chains, after `IsomorphicLayout` and `Genchain::create_layout` in src/layout.rs of the original.
 //
-// Holds making a layout from a chain code, an octave and a tritave, its pergen and pattern, and the spellings and names of its
+// Holds making a layout from chain code, octave and tritave, its pergen and pattern, a spelling's key, and spellings and names of its
 // keys (document 01, "The six chains", "Pergen and spelling", "Step patterns"). `scale_names` has the name of its scale.
-// specs/: Layouts, ScaleNames and Names define, Answers says what each call answers, there too, Theorems what a reader of key
-// names may rely on. A layout holds only the three numbers that a caller chose; each call asks questions 1 to 4 of them again.
-// Every public function here answers every input. Nothing is assumed.
+// specs/: Layouts, ScaleNames and Names define, Answers says what each call answers, in `scale_names` too, Theorems what a reader
+// of key names may rely on. A layout holds only the three numbers that a caller chose; each call asks questions 1 to 4 of them again.
+// Every entry point answers every input; the modules of parts ask for more, as their heads say. Nothing is assumed.
 pub mod parts;
 
 use answer::CountAnswer;
@@ -17,6 +17,7 @@ use parts::FoundAnswer;
 use pergen::AccidentalsAnswer;
 use pergen::PerGen;
 use pergen::PerGenAnswer;
+use pergen::Spelling;
 ghost use mathlib.Core.Path.{_≡_};
 ghost use lib.ListN.{length};
 ghost use Rattle.answer.specs.Refusals.{numberOutcome, countOutcome};
@@ -30,6 +31,7 @@ ghost use Rattle.layout.specs.Answers.{
   getMos,
   getAccidentals,
   getNoteName,
+  getSoundedKey,
   inRoom,
   answerOutcome,
 };
@@ -150,6 +152,26 @@ impl IsomorphicLayout {
         match parts::find(self, row.num_letters) {
             FoundAnswer::Refused(q) => CountAnswer::Refused(q),
             FoundAnswer::Given(found) => parts::write_name(row, self.octave, found, key, out),
+        }
+    }
+
+    // The key of the octave that a spelling sounds: a letter of the chain, sharps or flats, stars (1, 2, 3, 4, 16, 21).
+    pub fn get_sounded_key(self, spelling: Spelling) -> NumberAnswer
+        ensures { λ r. ⌜ numberOutcome r ≡ getSoundedKey self spelling ⌝ }
+    {
+        let code = self.genchain;
+        if 6 <= code {
+            return NumberAnswer::Refused(Refusal::Chain);
+        }
+        let row = rows::row(code);
+        match parts::find(self, row.num_letters) {
+            FoundAnswer::Refused(q) => NumberAnswer::Refused(q),
+            FoundAnswer::Given(found) => parts::sounded(
+                row,
+                self.octave,
+                found.generator,
+                spelling,
+            ),
         }
     }
 }

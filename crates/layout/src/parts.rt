@@ -11,12 +11,14 @@ use notes::plans::NamePlan;
 use notes::texts;
 use pergen::Accidentals;
 use pergen::AccidentalsFormat;
+use pergen::PerGen;
+use pergen::Spelling;
 use pergen::euclid;
 ghost use mathlib.Core.Path.{_≡_};
 ghost use Prim.Native.Nat.{_<_, _%_};
 ghost use lib.ListN.{length};
 ghost use Rattle.answer.specs.Lent.{heldIn, Filled};
-ghost use Rattle.answer.specs.Refusals.{countOutcome};
+ghost use Rattle.answer.specs.Refusals.{numberOutcome, countOutcome};
 ghost use Rattle.genchain.specs.Chains.{TableRow, lettersIn};
 ghost use Rattle.mos.specs.Patterns.{genesis};
 ghost use Rattle.mos.specs.Walks.{children, firstWith};
@@ -24,7 +26,7 @@ ghost use Rattle.notes.specs.Names.{nameText};
 ghost use Rattle.notes.specs.Parts.{Planned};
 ghost use Rattle.pergen.specs.Spelling.{keyAccidentals};
 ghost use Rattle.layout.specs.Layouts.{lettersOf, withPattern, layoutOutcome, sharpFirst};
-ghost use Rattle.layout.specs.Parts.{layoutOf, foundOutcome};
+ghost use Rattle.layout.specs.Parts.{layoutOf, foundOutcome, soundedAlong};
 
 // What an accepted layout has beside its three numbers.
 pub struct Found {
@@ -129,4 +131,33 @@ pub fn write_name(row: ChainRow, octave: u16, found: Found, key: u16, out: &mut 
     }
     texts::put_name(out, 0, plan);
     CountAnswer::Given(bytes)
+}
+
+// The key that a spelling along the letters of a row sounds (16, 21).
+pub(crate) fn sounded(
+    row: ChainRow,
+    octave: u16,
+    generator: u16,
+    spelling: Spelling,
+) -> NumberAnswer
+    requires { ⌜ 0 < octave ⌝ }
+    ensures { λ r. ⌜ numberOutcome r ≡ soundedAlong (row .«num_letters») (row .start) octave generator spelling ⌝ }
+{
+    let stars = spelling.stars;
+    if row.num_letters <= spelling.index {
+        return NumberAnswer::Refused(Refusal::Letter);
+    }
+    if math::gcd_u16(octave, generator) <= stars {
+        return NumberAnswer::Refused(Refusal::Stars);
+    }
+    let format = AccidentalsFormat {
+        num_symbols: row.num_letters,
+        genchain_origin: row.start,
+    };
+    let pergen = PerGen {
+        period: octave,
+        generator,
+    };
+    let sides = sounding::parts::sides_of(format, spelling);
+    NumberAnswer::Given(sounding::parts::sounded(pergen, sides, stars))
 }

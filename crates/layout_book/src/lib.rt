@@ -3,7 +3,7 @@
 // Holds how long the book of an octave's key names is, and its writing into a lent slice; the crate `book` reads it.
 // specs/: LayoutBooks defines the book and what each call answers, Theorems says that every offset and length fits 32 bits
 // and that a written book is read back, name for name.
-// `parts` measures the names along the chain and plans each degree's name once. Every public function here answers every input.
+// `parts` measures the names along the chain and plans each degree's name once. Every entry point answers every input.
 // Nothing is assumed.
 pub mod parts;
 

@@ -58,7 +58,7 @@ pub struct Plan {
     pub equalized: bool,
 }
 
-// The scale degree of the chain's first letter.
+// h: how many scale degrees key 0's letter lies above the chain's first letter, not brought round the octave.
 fn offset_of(generator: u16, start: u16, cycles: u16) -> u32
     requires { ⌜ (0 < cycles) × (start ≤ 8) ⌝ }
     ensures { λ r. ⌜ (r ≡ generator * start / cycles) × (r ≤ 524280) ⌝ }

@@ -64,7 +64,7 @@ fn leap_from(m: Mos) -> Leap
 }
 
 // How many patterns the walk of children has, m included. A self call leaps over all children that shorten the same step.
-pub fn count_children(m: Mos) -> u32
+pub(crate) fn count_children(m: Mos) -> u32
     requires { ⌜ isPattern m ≡ true ⌝ }
     ensures { λ r. ⌜ r ≡ length (children m) ⌝ }
 {
@@ -77,7 +77,7 @@ pub fn count_children(m: Mos) -> u32
 }
 
 // How many patterns the walk of parents has, m included: as many as the dual has children.
-pub fn count_parents(m: Mos) -> u32
+pub(crate) fn count_parents(m: Mos) -> u32
     requires { ⌜ isPattern m ≡ true ⌝ }
     ensures { λ r. ⌜ r ≡ length (parents m) ⌝ }
 {
@@ -85,7 +85,7 @@ pub fn count_parents(m: Mos) -> u32
 }
 
 // Do so many numbers hold the walk of children? There are no more children than the steps' sum, so a long slice needs no count.
-pub fn children_fit(m: Mos, room: usize) -> bool
+pub(crate) fn children_fit(m: Mos, room: usize) -> bool
     requires { ⌜ isPattern m ≡ true ⌝ }
     ensures { λ r. ⌜ r ≡ leb (length (listed (children m))) room ⌝ }
 {
@@ -97,7 +97,7 @@ pub fn children_fit(m: Mos, room: usize) -> bool
 }
 
 // Do so many numbers hold the walk of parents? There are no more parents than steps.
-pub fn parents_fit(m: Mos, room: usize) -> bool
+pub(crate) fn parents_fit(m: Mos, room: usize) -> bool
     requires { ⌜ isPattern m ≡ true ⌝ }
     ensures { λ r. ⌜ r ≡ leb (length (listed (parents m))) room ⌝ }
 {
@@ -182,7 +182,7 @@ fn list_parent_run(m: Mos, out: &mut [u16], at: usize) -> Reached
 
 // The walk of children from a place on; the place after it. Each self call lists one run: a self call that is lent a slice keeps
 // a frame, and there are few runs.
-pub fn list_children(m: Mos, out: &mut [u16], at: usize) -> usize
+pub(crate) fn list_children(m: Mos, out: &mut [u16], at: usize) -> usize
     requires { ⌜ (isPattern m ≡ true) × Room (now out) at (listed (children m)) ⌝ }
     ensures { λ r. ⌜ Wrote (now (out .entry)) at (listed (children m)) (now (out .exit)) r ⌝ }
 {
@@ -196,7 +196,7 @@ pub fn list_children(m: Mos, out: &mut [u16], at: usize) -> usize
 }
 
 // The walk of parents from a place on, in the same way.
-pub fn list_parents(m: Mos, out: &mut [u16], at: usize) -> usize
+pub(crate) fn list_parents(m: Mos, out: &mut [u16], at: usize) -> usize
     requires { ⌜ (isPattern m ≡ true) × Room (now out) at (listed (parents m)) ⌝ }
     ensures { λ r. ⌜ Wrote (now (out .entry)) at (listed (parents m)) (now (out .exit)) r ⌝ }
 {

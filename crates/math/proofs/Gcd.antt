@@ -98,7 +98,7 @@ gcd-none x y a h e =
 
 -- ---- "0 and 0 give 1": of any two numbers it is above 0 and divides both
 
-gcd-or-one-of : (x y : ℕ) → GcdOf x y (gcdOrOne x y)
+pub gcd-or-one-of : (x y : ℕ) → GcdOf x y (gcdOrOne x y)
 unfolding gcdOrOne
 gcd-or-one-of x y = go (gcd x y) refl
   where

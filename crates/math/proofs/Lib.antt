@@ -1,6 +1,7 @@
 pub mod Congruence
 pub mod Integers
 pub mod Gcd
+pub mod LowestTerms
 pub mod Division
 pub mod OddFactors
 pub mod Signed

@@ -77,6 +77,14 @@ module _ (w : Width) (z : ℤ) (f : SFits w z) where
     abs-is : mag z ≡ natAbs (toZ w (ofZ w mirror))
     abs-is = sym (ap natAbs mirror-read)
 
+    -- the number, by its mirror image
+    pub by-mirror : z ≡ negsuc (natAbs (toZ w (ofZ w mirror)))
+    by-mirror = z-is ∙ ap negsuc abs-is
+
+    -- one more than the mirror image has room in the whole range
+    pub mirror-below-half : natAbs (toZ w (ofZ w mirror)) < 2 ^ hbits w
+    mirror-below-half = subst (λ (a : ℕ). a < 2 ^ hbits w) abs-is (f .sfits)
+
     pub mirror-quotient-fits : (d : ℕ) → SFits w (pos (natAbs (toZ w (ofZ w mirror)) / d))
     mirror-quotient-fits d =
         subst (λ (a : ℕ). SFits w (pos (a / d))) abs-is (small-fits w (mag z / d) (quotient-small d))
@@ -114,6 +122,10 @@ module _ (w : Width) (z : ℤ) (f : SFits w z) where
 
     abs-is-pos : mag z ≡ natAbs (toZ w (ofZ w z))
     abs-is-pos = sym (ap natAbs (read-back ∙ z-is-pos))
+
+    -- the number, by its cast
+    pub by-cast : z ≡ pos (natAbs (toZ w (ofZ w z)))
+    by-cast = z-is-pos ∙ ap pos abs-is-pos
 
     pub positive-quotient-fits : (d : ℕ) → SFits w (pos (natAbs (toZ w (ofZ w z)) / d))
     positive-quotient-fits d =

@@ -3,11 +3,11 @@ use mathlib.Core.Path.{refl}
 use Rattle.mos.specs.Patterns.{isPattern, childOf, parentOf, cyclesOf, reducedSizeOf}
 use Rattle.mos.specs.Walks.{children, parents, genesisOf}
 use Rattle.mos.specs.Answers.{ofPattern, genesisOutcome, coprimeOutcome, listingOutcome}
-use Rattle.mos.specs.Scale.{round, climbed}
+use Rattle.mos.specs.Scale.{placeAbove, interval}
 use Rattle.mos.specs.Examples.{ExamplesHold}
 
 pub examples-hold : ExamplesHold
-unfolding isPattern childOf parentOf cyclesOf reducedSizeOf children parents genesisOf ofPattern genesisOutcome coprimeOutcome listingOutcome round climbed
+unfolding isPattern childOf parentOf cyclesOf reducedSizeOf children parents genesisOf ofPattern genesisOutcome coprimeOutcome listingOutcome placeAbove interval
 examples-hold = record {
   searches = refl;
   child = refl;
@@ -30,4 +30,6 @@ examples-hold = record {
   no-pattern = refl;
   diatonic = refl;
   pitches = refl;
+  classes = refl;
+  one-size = refl;
 }

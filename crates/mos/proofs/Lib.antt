@@ -6,4 +6,5 @@ pub mod CoprimeAnswers
 pub mod Keys
 pub mod Theorems
 pub mod Scale
+pub mod IntervalClasses
 pub mod Examples

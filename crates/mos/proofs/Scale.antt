@@ -1,12 +1,12 @@
 -- The pattern is the scale. Along the walk from a genesis, b generators make the primary step and a generators lack the secondary
--- step (`Chain`). Then one step upward adds b places modulo a + b, and after i steps, r of them primary and q secondary, i × b is
--- q × (a + b) and the place reached (`Reached`): after a + b steps that is place 0, a primary and b secondary steps up. The counts are
+-- step (`Chain`). Then one step upward adds b places modulo a + b, and after i steps from place j, r of them primary and q secondary, j + i × b is
+-- q × (a + b) and the place reached (`Reached`): after a + b steps from place 0 that is place 0, a primary and b secondary steps up. The counts are
 -- coprime, so no place is met twice.
 use mathlib.Core.Path.{_≡_, refl, ap, ap₂, sym, subst, _∙_}
 use mathlib.Core.Option.{some}
 use mathlib.Core.Bool.{Bool, true, false}
 use Prim.Native.Nat.{ℕ, zero, suc, _+_, _*_, _-_, _/_, _%_, _≤_, _<_}
-use native.Mathlib.Nat.{mod-lt, mod-mod, add-mod-right, mod-eq-of-lt, div-add-mod', mul-add, add-mul, mul-comm, mul-assoc, suc-mul, mul-one, mul-zero, zero-mul}
+use native.Mathlib.Nat.{mod-lt, mod-mod, add-mod-right, mod-eq-of-lt, div-add-mod', mul-add, add-mul, mul-comm, mul-assoc, suc-mul, mul-one, mul-zero, zero-mul, zero-mod, add-zero, zero-add}
 use native.Mathlib.Omega.{arith}
 use lib.Arith.{digits-div, digits-mod}
 use lib.ListN.{getElem?}
@@ -16,7 +16,7 @@ use Rattle.math.proofs.Congruence.{of-cong, add-cong, add-cancel, mul-cong}
 use Rattle.mos.specs.declared.Mos.{Mos}
 use Rattle.mos.specs.Patterns.{pick, primaries, secondaries, primary, secondary, countOf, sizeOf, genesis}
 use Rattle.mos.specs.Walks.{children}
-use Rattle.mos.specs.Scale.{keyOf, above, stepAbove, round, climbed, MomentOfSymmetry, InOrderOfPitch, PatternIsScale}
+use Rattle.mos.specs.Scale.{keyOf, above, stepAbove, placeAbove, interval, round, climbed, MomentOfSymmetry, InOrderOfPitch, PatternIsScale}
 use Rattle.mos.proofs.Descent.{Child, longer-primary, longer-secondary, child-at, child-keeps-size}
 use Rattle.mos.proofs.Theorems.{walk-keeps, genesis-size, steps-stay-above}
 
@@ -79,11 +79,11 @@ chain-walk P G h k m e =
 
 -- ---- one step upward, by its two cases
 
-data Upward (m : Mos) (k : ℕ) : ℕ → ℕ → Type 0 where
+pub data Upward (m : Mos) (k : ℕ) : ℕ → ℕ → Type 0 where
   by-primary : k < primaries m → Upward m k (k + secondaries m) (primary m)
   by-secondary : primaries m ≤ k → Upward m k (k - primaries m) (secondary m)
 
-upward : (m : Mos) (k : ℕ) → Upward m k (above m k) (stepAbove m k)
+pub upward : (m : Mos) (k : ℕ) → Upward m k (above m k) (stepAbove m k)
 unfolding above stepAbove
 upward m k = go (ltb k (primaries m)) refl
   where
@@ -110,19 +110,33 @@ module _ (P G : ℕ) (m : Mos) (c : Chain P G m) where
       ∙ add-cong P (G * (k - primaries m)) (G * primaries m + secondary m) 0 (c .down)
       ∙ ap (λ (n : ℕ). n % P) (omega arith)
 
+  -- so is the key of a place, an interval higher, that of the place where it ends
+  pub interval-leads : (j i : ℕ) → (keyOf P G j + interval m j i) % P ≡ keyOf P G (placeAbove m j i)
+  unfolding interval placeAbove
+  interval-leads j zero = ap (λ (n : ℕ). n % P) (add-zero (keyOf P G j)) ∙ mod-mod (G * j) P
+  interval-leads j (suc i) =
+      let at = placeAbove m j i in
+      ap (λ (n : ℕ). n % P) (let t : keyOf P G j + (interval m j i + stepAbove m at) ≡ keyOf P G j + interval m j i + stepAbove m at = omega arith in t)
+      ∙ sym (add-cong P (stepAbove m at) ((keyOf P G j + interval m j i) % P) (keyOf P G j + interval m j i) (mod-mod _ P))
+      ∙ ap (λ (n : ℕ). (n + stepAbove m at) % P) (interval-leads j i)
+      ∙ upward-apart (upward m at)
+
+pub key-zero : (P G : ℕ) → keyOf P G 0 ≡ 0
+key-zero P G = ap (λ (n : ℕ). n % P) (mul-zero G) ∙ zero-mod P
+
 -- ---- the round
 
--- after i steps, r primary and q secondary ones
-record Reached (m : Mos) (i place height : ℕ) : Type 0 where
+-- after i steps from place j, r primary and q secondary ones
+pub record Reached (m : Mos) (j i place height : ℕ) : Type 0 where
   pub r : ℕ
   pub q : ℕ
   pub steps : i ≡ r + q
   pub inside : place < countOf m
-  pub places : i * secondaries m ≡ q * countOf m + place
+  pub places : j + i * secondaries m ≡ q * countOf m + place
   pub high : height ≡ r * primary m + q * secondary m
 
-reached-more : (m : Mos) (i : ℕ) {place height next d : ℕ} → Reached m i place height → Upward m place next d → Reached m (suc i) next (height + d)
-reached-more m i x (by-primary h) = record {
+reached-more : (m : Mos) (j i : ℕ) {place height next d : ℕ} → Reached m j i place height → Upward m place next d → Reached m j (suc i) next (height + d)
+reached-more m j i x (by-primary h) = record {
   r = suc (x .r);
   q = x .q;
   steps = omega (arith, x .steps);
@@ -130,7 +144,7 @@ reached-more m i x (by-primary h) = record {
   places = omega (arith, x .places, suc-mul i (secondaries m));
   high = omega (arith, x .high, suc-mul (x .r) (primary m));
 }
-reached-more m i x (by-secondary h) = record {
+reached-more m j i x (by-secondary h) = record {
   r = x .r;
   q = suc (x .q);
   steps = omega (arith, x .steps);
@@ -139,9 +153,9 @@ reached-more m i x (by-secondary h) = record {
   high = omega (arith, x .high, suc-mul (x .q) (secondary m));
 }
 
-reached : (m : Mos) → 0 < countOf m → (i : ℕ) → Reached m i (round m i) (climbed m i)
-unfolding round climbed
-reached m h zero = record {
+pub reached : (m : Mos) (j : ℕ) → j < countOf m → (i : ℕ) → Reached m j i (placeAbove m j i) (interval m j i)
+unfolding placeAbove interval
+reached m j h zero = record {
   r = 0;
   q = 0;
   steps = refl;
@@ -149,7 +163,7 @@ reached m h zero = record {
   places = omega (arith, zero-mul (secondaries m), zero-mul (countOf m));
   high = omega (arith, zero-mul (primary m), zero-mul (secondary m));
 }
-reached m h (suc i) = reached-more m i (reached m h i) (upward m (round m i))
+reached m j h (suc i) = reached-more m j i (reached m j h i) (upward m (placeAbove m j i))
 
 -- a multiple of n is no multiple of n and a rest
 quotients-agree : (n b q k : ℕ) → k < n → n * b ≡ q * n + k → (b ≡ q) × (0 ≡ k)
@@ -170,11 +184,11 @@ module _ (P G : ℕ) (m : Mos) (c : Chain P G m) where
       go (suc a) e = omega arith
 
   -- the whole round
-  last : Reached m (countOf m) (round m (countOf m)) (climbed m (countOf m))
-  last = reached m some-places (countOf m)
+  last : Reached m 0 (countOf m) (round m (countOf m)) (climbed m (countOf m))
+  last = reached m 0 some-places (countOf m)
 
   last-agrees : (secondaries m ≡ last .q) × (0 ≡ round m (countOf m))
-  last-agrees = quotients-agree (countOf m) (secondaries m) (last .q) (round m (countOf m)) (last .inside) (last .places)
+  last-agrees = quotients-agree (countOf m) (secondaries m) (last .q) (round m (countOf m)) (last .inside) (sym (zero-add _) ∙ last .places)
 
   climbs-the-period : climbed m (countOf m) ≡ P
   unfolding sizeOf
@@ -204,10 +218,10 @@ module _ (P G : ℕ) (m : Mos) (c : Chain P G m) where
   -- i + w × place is a multiple of a + b
   opposite : (i : ℕ) → (i + w * round m i) % countOf m ≡ 0 % countOf m
   opposite i =
-      let x = reached m some-places i in
+      let x = reached m 0 some-places i in
       of-cong (countOf m) (i + w * round m i) 0 (w * x .q) (i * c .u)
       (let e : i * (secondaries m * w + 1) ≡ i * (c .u * countOf m) = ap (λ (n : ℕ). i * n) inverse in
-      let f : w * (i * secondaries m) ≡ w * (x .q * countOf m + round m i) = ap (λ (n : ℕ). w * n) (x .places) in
+      let f : w * (i * secondaries m) ≡ w * (x .q * countOf m + round m i) = ap (λ (n : ℕ). w * n) (sym (zero-add _) ∙ x .places) in
       omega (
         arith,
         e,
@@ -280,7 +294,7 @@ module _ (P G : ℕ) (m : Mos) (c : Chain P G m) where
 
   met-at : (k : ℕ) → k < countOf m → round m (turn k) ≡ k
   met-at k h =
-      place-of (turn k) (round m (turn k)) k (reached m some-places (turn k) .inside) h (opposite (turn k)) (turn-opposite k)
+      place-of (turn k) (round m (turn k)) k (reached m 0 some-places (turn k) .inside) h (opposite (turn k)) (turn-opposite k)
 
   pub moment-of-symmetry : MomentOfSymmetry P G m
   moment-of-symmetry = record {
@@ -303,7 +317,7 @@ module _ (P G : ℕ) (h : 0 < P) (m : Mos) (c : Chain P G m) (hp : 0 < primary m
   step-above k = upward-above (upward m k)
 
   climbs : (i : ℕ) → climbed m i < climbed m (suc i)
-  unfolding climbed
+  unfolding interval
   climbs i = omega (arith, step-above (round m i))
 
   climbs-to : (i d : ℕ) → climbed m i + d ≤ climbed m (i + d)
@@ -319,19 +333,17 @@ module _ (P G : ℕ) (h : 0 < P) (m : Mos) (c : Chain P G m) (hp : 0 < primary m
 
   -- the key of the place reached is how far the round has climbed, first modulo P
   climbs-keys : (i : ℕ) → climbed m i % P ≡ keyOf P G (round m i)
-  unfolding climbed round
-  climbs-keys zero = ap (λ (n : ℕ). n % P) (sym (mul-zero G))
-  climbs-keys (suc i) =
-      sym (add-cong P (stepAbove m (round m i)) (climbed m i % P) (climbed m i) (mod-mod (climbed m i) P))
-      ∙ ap (λ (n : ℕ). (n + stepAbove m (round m i)) % P) (climbs-keys i)
-      ∙ upward-apart P G m c (upward m (round m i))
+  climbs-keys i =
+      ap (λ (n : ℕ). n % P) (sym (zero-add (climbed m i)))
+      ∙ ap (λ (n : ℕ). (n + climbed m i) % P) (sym (key-zero P G))
+      ∙ interval-leads P G m c 0 i
 
   pitch-is : (i : ℕ) → i < countOf m → keyOf P G (round m i) ≡ climbed m i
   pitch-is i l = sym (climbs-keys i) ∙ mod-eq-of-lt (below-period i l)
 
   -- of two places of the round, by which comes first
   apart-at : (i j : ℕ) → i < countOf m → j < countOf m → (i ≡ j → ⊥) → stepAbove m (round m i) ≤ (climbed m j + P - climbed m i) % P
-  unfolding climbed
+  unfolding interval
   apart-at i j hi hj d = go (ltb i j) refl
     where
       go : (t : Bool) → ltb i j ≡ t → stepAbove m (round m i) ≤ (climbed m j + P - climbed m i) % P

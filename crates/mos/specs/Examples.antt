@@ -11,7 +11,7 @@ use Rattle.mos.specs.declared.Mos.{Mos}
 use Rattle.mos.specs.Patterns.{mos, isPattern, genesis, childOf, parentOf, dualOf, mirrorOf, sharpnessOf, cyclesOf, reducedSizeOf, keyAt}
 use Rattle.mos.specs.Walks.{children, parents, firstWith, genesisOf}
 use Rattle.mos.specs.Answers.{ofPattern, genesisOutcome, coprimeOutcome, listingOutcome}
-use Rattle.mos.specs.Scale.{round, climbed}
+use Rattle.mos.specs.Scale.{interval, round, climbed}
 
 -- The pattern with as many steps as a chain has letters.
 pub record SearchExample : Type 0 where
@@ -126,6 +126,22 @@ keyExamples =
     ∷ record { p = pos 1; s = pos 2; key = pos 11 }
     ∷ []
 
+-- An interval class of the diatonic scale in 12 keys, with its interval above each of F C G D A E B.
+pub record ClassExample : Type 0 where
+  pub steps : ℕ
+  pub intervals : List ℕ
+
+abbrev pub classExamples : List ClassExample
+classExamples =
+    -- seconds, thirds, fourths, fifths, sixths, sevenths
+    record { steps = 1; intervals = 2 ∷ 2 ∷ 2 ∷ 2 ∷ 2 ∷ 1 ∷ 1 ∷ [] }
+    ∷ record { steps = 2; intervals = 4 ∷ 4 ∷ 4 ∷ 3 ∷ 3 ∷ 3 ∷ 3 ∷ [] }
+    ∷ record { steps = 3; intervals = 6 ∷ 5 ∷ 5 ∷ 5 ∷ 5 ∷ 5 ∷ 5 ∷ [] }
+    ∷ record { steps = 4; intervals = 7 ∷ 7 ∷ 7 ∷ 7 ∷ 7 ∷ 7 ∷ 6 ∷ [] }
+    ∷ record { steps = 5; intervals = 9 ∷ 9 ∷ 9 ∷ 9 ∷ 8 ∷ 8 ∷ 8 ∷ [] }
+    ∷ record { steps = 6; intervals = 11 ∷ 11 ∷ 10 ∷ 10 ∷ 10 ∷ 10 ∷ 10 ∷ [] }
+    ∷ []
+
 -- Theorem: the definitions give what the examples say.
 pub record ExamplesHold : Type 0 where
   pub searches : map (λ (e : SearchExample). firstWith (e .letters) (children (genesis (e .period) (e .generator)))) searchExamples
@@ -156,3 +172,7 @@ pub record ExamplesHold : Type 0 where
   -- the diatonic scale F C G D A E B, in order of pitch: F G A B C D E
   pub diatonic : map (round (mos 5 2 2 1)) (0 ∷ 1 ∷ 2 ∷ 3 ∷ 4 ∷ 5 ∷ 6 ∷ 7 ∷ []) ≡ 0 ∷ 2 ∷ 4 ∷ 6 ∷ 1 ∷ 3 ∷ 5 ∷ 0 ∷ []
   pub pitches : map (climbed (mos 5 2 2 1)) (0 ∷ 1 ∷ 2 ∷ 3 ∷ 4 ∷ 5 ∷ 6 ∷ 7 ∷ []) ≡ 0 ∷ 2 ∷ 4 ∷ 6 ∷ 7 ∷ 9 ∷ 11 ∷ 12 ∷ []
+  -- its interval classes have two sizes each, and one where both steps are equal
+  pub classes : map (λ (e : ClassExample). map (λ (j : ℕ). interval (mos 5 2 2 1) j (e .steps)) (0 ∷ 1 ∷ 2 ∷ 3 ∷ 4 ∷ 5 ∷ 6 ∷ [])) classExamples
+      ≡ map (λ (e : ClassExample). e .intervals) classExamples
+  pub one-size : map (λ (j : ℕ). interval (mos 5 2 1 1) j 2) (0 ∷ 1 ∷ 2 ∷ 3 ∷ 4 ∷ 5 ∷ 6 ∷ []) ≡ 2 ∷ 2 ∷ 2 ∷ 2 ∷ 2 ∷ 2 ∷ 2 ∷ []

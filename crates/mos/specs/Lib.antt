@@ -5,4 +5,5 @@ pub mod Answers
 pub mod Parts
 pub mod Theorems
 pub mod Scale
+pub mod IntervalClasses
 pub mod Examples

@@ -90,6 +90,6 @@ unfoldable pub reducedSizeOf : Mos → ℕ
 unfolding sizeOf cyclesOf
 reducedSizeOf m = sizeOf m / cyclesOf m
 
--- The key at a place of the keyboard (`get_key`): x primary steps to one side and y secondary steps to the other.
+-- The key at a place of the keyboard (`get_key`): x primary and y secondary steps from the origin, each forward or, below 0, backward.
 abbrev pub keyAt : Mos → ℤ → ℤ → ℤ
 keyAt m x y = x *ℤ pos (primary m) +ℤ y *ℤ pos (secondary m)

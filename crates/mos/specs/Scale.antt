@@ -21,16 +21,23 @@ above m k = pick (ltb k (primaries m)) (k + secondaries m) (k - primaries m)
 unfoldable pub stepAbove : Mos → ℕ → ℕ
 stepAbove m k = pick (ltb k (primaries m)) (primary m) (secondary m)
 
--- The place that i steps upward lead to from place 0, and how far above it that is.
-unfoldable pub round : Mos → ℕ → ℕ
+-- The place that k steps upward lead to from place j, and how far above it that is.
+unfoldable pub placeAbove : Mos → ℕ → ℕ → ℕ
 unfolding above
-round m zero = 0
-round m (suc i) = above m (round m i)
+placeAbove m j zero = j
+placeAbove m j (suc k) = above m (placeAbove m j k)
 
-unfoldable pub climbed : Mos → ℕ → ℕ
-unfolding round stepAbove
-climbed m zero = 0
-climbed m (suc i) = climbed m i + stepAbove m (round m i)
+unfoldable pub interval : Mos → ℕ → ℕ → ℕ
+unfolding placeAbove stepAbove
+interval m j zero = 0
+interval m j (suc k) = interval m j k + stepAbove m (placeAbove m j k)
+
+-- The round: i steps upward from place 0.
+abbrev pub round : Mos → ℕ → ℕ
+round m i = placeAbove m 0 i
+
+abbrev pub climbed : Mos → ℕ → ℕ
+climbed m i = interval m 0 i
 
 -- A scale of two step sizes that its generator makes.
 pub record MomentOfSymmetry (P G : ℕ) (m : Mos) : Type 0 where

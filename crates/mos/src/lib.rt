@@ -4,8 +4,8 @@
 // modules hold the parts that the entry points are made of. `walks` goes on to further children and parents, `listings` lists
 // them, `layers` has a pattern's layers.
 // Every entry point answers any four numbers; what is no pattern is refused (7).
-// specs/: Patterns, Walks and Coprime define, Answers says what each call answers, here and in `walks` and `listings`, Theorems
-// and Scale state what holds of every pattern and every walk. Nothing is assumed.
+// specs/: Patterns, Walks and Coprime define, Answers says what each call answers, here and in `walks` and `listings`, Theorems,
+// Scale and IntervalClasses state what holds of every pattern and every walk. Nothing is assumed.
 pub mod coprime;
 pub mod parts;
 
@@ -292,7 +292,7 @@ impl Mos {
         MosAnswer::Refused(Refusal::Size)
     }
 
-    // The key at a place of the keyboard: p primary and s secondary steps from the origin (7).
+    // The key at a place of the keyboard: p primary and s secondary steps from the origin, backward where below 0 (7).
     pub fn get_key(self, p: i16, s: i16) -> KeyAnswer
         ensures { λ r. ⌜ keyOutcome r ≡ ofPattern self (keyAt self p s) ⌝ }
     {

@@ -89,15 +89,23 @@ abbrev pub inParentheses : Cycle → List ℕ → List ℕ
 inParentheses Absent text = text
 inParentheses (Number c) text = (40 ∷ []) ++ text ++ (41 ∷ [])
 
--- one spelling, or "both with / between": 47 is /
+-- "with / between": 47 is /
+abbrev pub slashed : List ℕ → Bool → List Spelling → List ℕ
+slashed letters sharpFirst [] = []
+slashed letters sharpFirst (s ∷ []) = spellingText letters sharpFirst s
+slashed letters sharpFirst (s ∷ t ∷ more) = spellingText letters sharpFirst s ++ (47 ∷ []) ++ slashed letters sharpFirst (t ∷ more)
+
+-- one spelling alone, or both so
 abbrev pub spellingsText : List ℕ → Bool → Cycle → List Spelling → List ℕ
 spellingsText letters sharpFirst c [] = []
 spellingsText letters sharpFirst c (s ∷ []) = spellingText letters sharpFirst s
-spellingsText letters sharpFirst c (s ∷ t ∷ more) =
-    inParentheses c (spellingText letters sharpFirst s ++ (47 ∷ []) ++ spellingText letters sharpFirst t)
+spellingsText letters sharpFirst c (s ∷ t ∷ more) = inParentheses c (slashed letters sharpFirst (s ∷ t ∷ more))
 
--- "Then one * per cycle number": 42 is *
+-- The text of a name that holds these spellings. "Then one * per cycle number": 42 is *
+abbrev pub printedText : List ℕ → Bool → Cycle → List Spelling → List ℕ
+printedText letters sharpFirst c spellings = spellingsText letters sharpFirst c spellings ++ replicate (starsOf c) 42
+
+-- The name of a key with these accidentals.
 unfoldable pub nameText : List ℕ → Bool → Accidentals → List ℕ
 unfolding spellingText printed
-nameText letters sharpFirst a =
-    spellingsText letters sharpFirst (a .cycle) (printed sharpFirst a) ++ replicate (starsOf (a .cycle)) 42
+nameText letters sharpFirst a = printedText letters sharpFirst (a .cycle) (printed sharpFirst a)

@@ -4,7 +4,7 @@
 // into a lent slice (document 01, "Pergen and spelling", the paragraph "Name").
 // specs/: Names defines the text, Reading a reader of it, Answers says what each call answers, Theorems what a name tells.
 // `sharp_first` is the style: the primary step is at least the secondary. Signs are then # and b, else - and +.
-// Every public function here answers every input. Nothing is assumed.
+// Every entry point answers every input; the modules of parts ask for more, as their heads say. Nothing is assumed.
 pub mod plans;
 pub mod texts;
 

@@ -146,7 +146,7 @@ stars-of-key P G i hP = by (ltb 1 (cycles P G)) refl
         one : cycles P G ≤ 1 → cycles P G ≡ 1
         one h = omega (arith, cycles-positive P G hP)
 
-cycle-kept : (R N o e : ℕ) (c : Cycle) → (accidentalsOf R N o e c) .cycle ≡ c
+pub cycle-kept : (R N o e : ℕ) (c : Cycle) → (accidentalsOf R N o e c) .cycle ≡ c
 unfolding accidentalsOf byCoordinates byIndices
 cycle-kept R N o e c = by (leb N R)
   where

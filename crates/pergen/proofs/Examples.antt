@@ -16,6 +16,7 @@ examples-hold =
       generations = refl;
       large-product = refl;
       accidentals = refl;
+      signs-are = refl;
       places = refl;
       keys = refl;
     }

@@ -5,4 +5,5 @@ pub mod Indices
 pub mod DegreePlaces
 pub mod Calls
 pub mod CarriedWalk
+pub mod SignedNumbers
 pub mod Examples

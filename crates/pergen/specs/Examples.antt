@@ -12,7 +12,9 @@ use Rattle.pergen.specs.declared.Cycle.the-variants.{Absent, Number}
 use Rattle.pergen.specs.declared.Generation.{Generation}
 use Rattle.pergen.specs.declared.AccidentalsFormat.{AccidentalsFormat}
 use Rattle.pergen.specs.declared.Accidentals.{Accidentals}
+use Rattle.pergen.specs.declared.Signs.{Signs}
 use Rattle.pergen.specs.declared.Signs.the-variants.{Sharps, Flats}
+use Rattle.pergen.specs.Spelling.{signsOf}
 use Rattle.pergen.specs.declared.Spelling.{Spelling}
 
 -- ---- cycles, reduced period and inverse
@@ -102,6 +104,24 @@ spellingExamples =
     ∷ record { pergen = pergen 12 7; format = format 7 8; spelling = record { index = 0; signs = Sharps 0; stars = 0 }; place = refused 6; key = refused 6 }
     ∷ []
 
+-- ---- signs as one signed number
+
+pub record SignsExample : Type 0 where
+  pub number : ℤ
+  pub signs : Signs
+
+-- none, one and two of each kind, and both ends of 32 signed bits; `negsuc k` is −1 − k
+abbrev pub signsExamples : List SignsExample
+signsExamples =
+    record { number = pos 0; signs = Sharps 0 }
+    ∷ record { number = pos 1; signs = Sharps 1 }
+    ∷ record { number = pos 2; signs = Sharps 2 }
+    ∷ record { number = negsuc 0; signs = Flats 1 }
+    ∷ record { number = negsuc 1; signs = Flats 2 }
+    ∷ record { number = pos 2147483647; signs = Sharps 2147483647 }
+    ∷ record { number = negsuc 2147483647; signs = Flats 2147483648 }
+    ∷ []
+
 -- Theorem: the definitions give what the examples say.
 pub record ExamplesHold : Type 0 where
   pub cycles-are : map (λ (e : NumbersExample). cycles (e .period) (e .generator)) numbersExamples ≡ map (λ (e : NumbersExample). e .cycles) numbersExamples
@@ -114,5 +134,6 @@ pub record ExamplesHold : Type 0 where
   -- the product with the inverse, 32,769 × 65,535, passes 2,147,483,647 and is exact
   pub large-product : getGeneration (pergen 65521 19271) 65535 ≡ given (record { cycle = Absent; degree = 119 })
   pub accidentals : map (λ (e : KeyExample). getAccidentals (e .pergen) (e .format) (e .key)) keyExamples ≡ map (λ (e : KeyExample). e .accidentals) keyExamples
+  pub signs-are : map (λ (e : SignsExample). signsOf (e .number)) signsExamples ≡ map (λ (e : SignsExample). e .signs) signsExamples
   pub places : map (λ (e : SpellingExample). getPlace (e .format) (e .spelling)) spellingExamples ≡ map (λ (e : SpellingExample). e .place) spellingExamples
   pub keys : map (λ (e : SpellingExample). getSoundedKey (e .pergen) (e .format) (e .spelling)) spellingExamples ≡ map (λ (e : SpellingExample). e .key) spellingExamples

@@ -1,7 +1,7 @@
 -- What the parts behind the calls promise: the definitions of Pergen, by the numbers that the code carries.
 use Prim.Native.Nat.{ℕ, _+_, _*_, _-_, _/_, _%_, _≤_, _<_}
 use mathlib.Core.Path.{_≡_}
-use mathlib.Core.Bool.{true, false}
+use mathlib.Core.Bool.{Bool, true, false}
 use lib.Dec.{ltb}
 use Rattle.math.specs.Gcd.{gcd}
 use Rattle.pergen.specs.Pergen.{cycles, reduced, inverse, pickCycle}
@@ -45,3 +45,14 @@ pub record Walkable (s : Solved) : Type 0 where
 pub record At (s : Solved) (k : ℕ) (step : Step) : Type 0 where
   pub degree-is : step .degree ≡ s .«generator_inverse» * (k / s .«num_cycles») % s .«reduced_period»
   pub cycle-is : step .cycle ≡ k % s .«num_cycles»
+
+abbrev pub pickStep : Bool → Step → Step → Step
+pickStep true x y = x
+pickStep false x y = y
+
+-- The step after: a cycle further with the same degree, or from the last cycle to the first, and on to the next degree.
+unfoldable pub nextStep : Solved → Step → Step
+nextStep s step =
+    pickStep (ltb (step .cycle + 1) (s .«num_cycles»))
+    (record { degree = step .degree; cycle = step .cycle + 1 })
+    (record { degree = (step .degree + s .«generator_inverse») % s .«reduced_period»; cycle = 0 })

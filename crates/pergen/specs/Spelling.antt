@@ -3,7 +3,7 @@
 use Prim.Native.Nat.{ℕ, zero, suc, _+_, _*_, _-_, _/_, _%_}
 use mathlib.Core.Bool.{Bool, true, false}
 use lib.Dec.{eqb, ltb, leb}
-use lib.IntN.{ℤ, pos, negℤ, _+ℤ_, _-ℤ_, _*ℤ_}
+use lib.IntN.{ℤ, pos, negsuc, negℤ, _+ℤ_, _-ℤ_, _*ℤ_}
 use Rattle.math.specs.Division.{remainder}
 use Rattle.pergen.specs.Pergen.{cycles, reduced, degree, cycleOf}
 use Rattle.pergen.specs.declared.Cycle.{Cycle}
@@ -74,6 +74,11 @@ unfolding accidentalsOf reduced degree cycleOf
 keyAccidentals P G N origin i = accidentalsOf (reduced P G) N origin (degree P G i) (cycleOf P G i)
 
 -- ---- any spelling: an index, a number of sharps or of flats, and stars
+
+-- A number of signs as one signed number: sharps above 0, flats below; `negsuc k` is −1 − k. So no number has both kinds.
+abbrev pub signsOf : ℤ → Signs
+signsOf (pos k) = Sharps k
+signsOf (negsuc k) = Flats (suc k)
 
 -- N × sharps, or − N × flats
 abbrev pub shift : ℕ → Signs → ℤ

@@ -3,10 +3,10 @@
 use Prim.Native.Nat.{ℕ, _+_, _*_, _%_, _≤_, _<_}
 use mathlib.Core.Path.{_≡_}
 use mathlib.Core.Logic.{_↔_}
-use lib.IntN.{ℤ, pos}
+use lib.IntN.{ℤ, pos, _*ℤ_}
 use Rattle.math.specs.Division.{Apart}
 use Rattle.pergen.specs.Pergen.{cycles, reduced, IsInverse, inverse, degree, cycle}
-use Rattle.pergen.specs.Spelling.{keyAccidentals, place, sounds, soundedKey, sharpSpelling, flatSpelling}
+use Rattle.pergen.specs.Spelling.{signsOf, shift, keyAccidentals, place, sounds, soundedKey, sharpSpelling, flatSpelling}
 
 -- The inverse exists and there is only one.
 abbrev pub OneInverse : Type 0
@@ -69,3 +69,7 @@ abbrev pub FewSigns : Type 0
 FewSigns =
     (P G N origin i : ℕ) → 0 < P → origin < N → N ≤ reduced P G
     → N * ((keyAccidentals P G N origin i) .«sharp_count» + (keyAccidentals P G N origin i) .«flat_count») < reduced P G + N
+
+-- Signs that are told by one signed number z add N × z to a spelling's place, whether z is above or below 0.
+abbrev pub SignsAddToThePlace : Type 0
+SignsAddToThePlace = (N : ℕ) (z : ℤ) → shift N (signsOf z) ≡ pos N *ℤ z

@@ -4,7 +4,7 @@
 // spelling"). The crate `spelling` goes from a key to its spellings in a free format, `sounding` from a spelling to its key.
 // specs/: Pergen and Spelling define them, Answers says what each call answers, Theorems what is proved of them.
 // A record holds only what a caller chose; each call asks its questions of it again, so a made-up record is refused.
-// Every public function answers every input, exactly. Nothing is assumed.
+// Every entry point answers every input, exactly. `euclid` and `stepping` hold parts, of which some ask for more. Nothing is assumed.
 pub mod euclid;
 pub mod stepping;
 
@@ -14,7 +14,7 @@ ghost use mathlib.Core.Path.{_≡_};
 ghost use Prim.Native.Nat.{_<_};
 ghost use Rattle.answer.specs.Refusals.{numberOutcome};
 ghost use Rattle.pergen.specs.Pergen.{cycles, reduced, inverse, generationOf};
-ghost use Rattle.pergen.specs.Spelling.{starsOf, sharpSpelling, flatSpelling};
+ghost use Rattle.pergen.specs.Spelling.{signsOf, starsOf, sharpSpelling, flatSpelling};
 ghost use Rattle.pergen.specs.Answers.{
   newOutcome,
   ofPergen,
@@ -167,6 +167,19 @@ impl Cycle {
             Cycle::Absent => 0,
             Cycle::Number(number) => number,
         }
+    }
+}
+
+impl Signs {
+    // As many sharps as a number above 0 says, as many flats as one below; 0 is no sign.
+    pub fn from_number(number: i32) -> Signs
+        ensures { λ r. ⌜ r ≡ signsOf number ⌝ }
+    {
+        if number < 0 {
+            // by -1 - number, since 32 signed bits hold no 2,147,483,648
+            return Signs::Flats((-1 - number) as u32 + 1);
+        }
+        Signs::Sharps(number as u32)
     }
 }
 

@@ -1,8 +1,8 @@
 // The walk from key to key: parts, and no entry points. Degree and cycle are carried along, so that no key costs a division.
 use crate::euclid::Solved;
 ghost use mathlib.Core.Path.{_≡_};
-ghost use Prim.Native.Nat.{ℕ, _+_, _%_, _<_};
-ghost use Rattle.pergen.specs.Parts.{Walkable, At};
+ghost use Prim.Native.Nat.{_+_, _%_, _<_};
+ghost use Rattle.pergen.specs.Parts.{Walkable, At, nextStep};
 
 // Degree and cycle of a key; the cycle is 0 where there is only one.
 pub struct Step {
@@ -36,7 +36,7 @@ pub fn next_degree(solved: Solved, degree: u16) -> u16
 // From any key to the next.
 pub fn next(solved: Solved, step: Step) -> Step
     requires { ⌜ Walkable solved × (step .degree < solved .«reduced_period») × (step .cycle < solved .«num_cycles») ⌝ }
-    ensures { λ r. ⌜ ((k : ℕ) → At solved k step → At solved (k + 1) r) ⌝ }
+    ensures { λ r. ⌜ r ≡ nextStep solved step ⌝ }
 {
     let cycle = step.cycle + 1;
     if cycle < solved.num_cycles {

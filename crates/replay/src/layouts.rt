@@ -18,122 +18,101 @@ use layout::IsomorphicLayout;
 use layout::LayoutAnswer;
 use layout_layers::Layer;
 
-pub(crate) fn answer(kind: usize, n: Values) {
+pub(crate) fn answer(kind: usize, n: Values, out: &mut [u8]) {
     if kind == names::CHAIN {
-        put_chain(n.first);
+        put_chain(n.first, out);
         return;
     }
-    let layout = IsomorphicLayout {
-        genchain: n.first,
-        octave: n.second,
-        tritave: n.third,
-    };
+    let layout = layout_of(n);
     if kind == names::SPELLING {
         pergens::put_spelled(layout.get_accidentals(n.fourth));
         return;
     }
     if kind == names::NAME {
-        put_name(layout, n.fourth);
+        put_name(layout, n.fourth, out);
         print::end_line();
         return;
     }
-    answer_layout(kind, layout);
-}
-
-fn answer_layout(kind: usize, layout: IsomorphicLayout) {
     if kind == names::KEY_LAYERS {
-        put_layers(layout);
+        answer_layers(layout, n.room);
         return;
     }
+    answer_layout(kind, layout, out);
+}
+
+pub(crate) fn layout_of(n: Values) -> IsomorphicLayout {
+    IsomorphicLayout {
+        genchain: n.first,
+        octave: n.second,
+        tritave: n.third,
+    }
+}
+
+fn answer_layout(kind: usize, layout: IsomorphicLayout, out: &mut [u8]) {
     if kind == names::LAMPS {
-        put_lamps(layout);
+        put_lamps(layout, out);
         return;
     }
     match layout::create_layout(layout.genchain, layout.octave, layout.tritave) {
         LayoutAnswer::Refused(q) => print::refused(q),
         LayoutAnswer::Given(made) => {
             if kind == names::NAMES {
-                put_names(made);
+                put_names(made, out);
                 return;
             }
-            put_layout(made);
+            put_layout(made, out);
         }
     }
 }
 
-fn put_chain(code: u16) {
-    let mut out: [u8; 64] = [0; 64];
-    let answer = chain_names::name(code, &mut out);
-    print::written(&out, answer);
+fn put_chain(code: u16, out: &mut [u8]) {
+    let answer = chain_names::name(code, out);
+    print::written(out, answer);
     print::end_line();
 }
 
-fn put_layout(layout: IsomorphicLayout) {
-    put_scale(layout);
+fn put_layout(layout: IsomorphicLayout, out: &mut [u8]) {
+    let answer = scale_names::get_scale_name(layout, out);
+    print::written(out, answer);
     print::space();
     pergens::put_pergen(layout.pergen());
     print::space();
     patterns::put_made(layout.mos());
 }
 
-fn put_scale(layout: IsomorphicLayout) {
-    let mut out: [u8; 64] = [0; 64];
-    let answer = scale_names::get_scale_name(layout, &mut out);
-    print::written(&out, answer);
+fn put_name(layout: IsomorphicLayout, key: u16, out: &mut [u8]) {
+    let answer = layout.get_note_name(key, out);
+    print::written(out, answer);
 }
 
-// A name has at most 13,109 bytes.
-fn put_name(layout: IsomorphicLayout, key: u16) {
-    let mut out = io::large_buffer();
-    let answer = layout.get_note_name(key, &mut out);
-    print::written(&out, answer);
-}
-
-fn put_names(layout: IsomorphicLayout) {
+fn put_names(layout: IsomorphicLayout, out: &mut [u8]) {
     let octave = layout.octave;
     let mut key: u16 = 0;
     while key < octave {
         if 0 < key {
             print::space();
         }
-        put_name(layout, key);
+        put_name(layout, key, out);
         key += 1;
     }
     print::end_line();
 }
 
-fn put_lamps(layout: IsomorphicLayout) {
-    let mut out = io::large_buffer();
-    match lamps::lamp_strip(layout, &mut out) {
-        CountAnswer::Refused(q) => print::refused(q),
-        CountAnswer::Given(count) => put_codes(&out, count),
-    }
+fn put_lamps(layout: IsomorphicLayout, out: &mut [u8]) {
+    let answer = lamps::lamp_strip(layout, out);
+    print::bytes(out, answer);
 }
 
-fn put_codes(codes: &[u8], count: usize) {
-    let mut i: usize = 0;
-    while i < count {
-        if codes.len() <= i {
-            return;
-        }
-        if 0 < i {
-            print::space();
-        }
-        put_code(codes[i]);
-        i += 1;
-    }
-    print::end_line();
-}
-
-fn put_code(code: u8) {
-    print::number(code as u64);
-}
-
-fn put_layers(layout: IsomorphicLayout) {
+fn answer_layers(layout: IsomorphicLayout, room: u16) {
     let mut out = print::list_room();
-    match layout_layers::get_layers(layout, &mut out) {
+    let end = room as usize;
+    put_layers(layout, &mut out[..end]);
+}
+
+fn put_layers(layout: IsomorphicLayout, out: &mut [u16]) {
+    match layout_layers::get_layers(layout, out) {
         CountAnswer::Refused(q) => print::refused(q),
-        CountAnswer::Given(count) => put_kinds(layout_layers::layer_count(layout), &out, count),
+        CountAnswer::Given(count) => put_kinds(layout_layers::layer_count(layout), out, count),
     }
 }
 

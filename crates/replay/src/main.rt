@@ -1,10 +1,12 @@
 // Replays questions: reads a list of them from standard input, a line each, asks the library, and prints its answers.
 //
-// A line is a name and numbers with one space before each; the modules say what each name asks. An answer is one line, but for
-// a key table, which is several: values with one space between, or `refused` and the number of the question with the answer
-// no. A line that is no question is answered with `?`.
+// A line is a name and numbers with one space before each; the modules say what each name asks. A number before the name is
+// how many elements the slice has that is lent for the answer; without one it has 65,535. An answer is one line, but for a key
+// table, which is several: values with one space between, or `refused` and the number of the question with the answer no. A
+// line that is no question is answered with `?`.
 // The files `stdin` and `stdout` beside src/ hold a list of questions and the answers that were given by others: by the Rust
 // original, and where it has none, by a reading of document 01. docs/DIFFERENCES.md says how they were made.
+mod books;
 mod layouts;
 mod names;
 mod numbers;
@@ -16,22 +18,41 @@ mod words;
 
 use libc::STDIN_FILENO;
 use words::Values;
+use words::Wide;
 ghost use Rattle.io.specs.Counts.{Counts};
 
 // Whether the line is a question; if so, it is answered.
-fn answered(line: &[u8]) -> bool {
+fn answered(line: &[u8], room: u16) -> bool {
     let end = words::word_end(line);
     let kind = names::kind_of(line, end);
     if names::LAST_PLAIN < kind {
-        return answered_other(kind, line, end);
+        return answered_other(kind, line, end, room);
     }
     let asked = words::numbers_after(line, end, names::count_of(kind));
     if asked.whole {
         let values = asked.values;
-        answer(kind, words::values_of(values));
+        answer(kind, words::values_of(values, room));
         return true;
     }
     false
+}
+
+// The same, where the room may stand before the question.
+fn answered_with_room(line: &[u8]) -> bool {
+    let Wide::Read(room, next) = words::wide_at(line, 0) else {
+        return answered(line, 65535);
+    };
+    if 65535 < room {
+        return false;
+    }
+    if line.len() <= next {
+        return false;
+    }
+    if line[next] != b' ' {
+        return false;
+    }
+    let from = next + 1;
+    answered(&line[from..], room as u16)
 }
 
 // The names of each module stand together.
@@ -48,27 +69,41 @@ fn answer(kind: usize, n: Values) {
         patterns::answer(kind, n);
         return;
     }
-    layouts::answer(kind, n);
+    answer_in_room(kind, n);
 }
 
-fn answered_other(kind: usize, line: &[u8], end: usize) -> bool {
+fn answer_in_room(kind: usize, n: Values) {
+    let mut out = io::large_buffer();
+    let end = n.room as usize;
+    answer_text(kind, n, &mut out[..end]);
+}
+
+fn answer_text(kind: usize, n: Values, out: &mut [u8]) {
+    if kind < names::BOOK_LEN {
+        layouts::answer(kind, n, out);
+        return;
+    }
+    books::answer(kind, n, out);
+}
+
+fn answered_other(kind: usize, line: &[u8], end: usize, room: u16) -> bool {
     if kind == names::GET_KEY {
         return patterns::get_key(line, end);
     }
-    if kind == names::DIVIDE16 {
-        return numbers::divide16(line, end);
-    }
-    if kind == names::DIVIDE32 {
-        return numbers::divide32(line, end);
+    if kind <= names::DIVIDE32 {
+        return numbers::divide(kind, line, end);
     }
     if kind == names::TABLE {
-        return tables::answer(line, end);
+        return tables::answer(line, end, room);
+    }
+    if kind == names::FIND_IN {
+        return books::find_in(line, end);
     }
     false
 }
 
 fn answer_line(line: &[u8]) {
-    if answered(line) {
+    if answered_with_room(line) {
         return;
     }
     print::text(b"?\n");
@@ -93,9 +128,9 @@ fn read_line(line: &mut [u8]) -> usize
     len
 }
 
-// Reads a line and answers it; false at the end of the input. A line has at most 64 bytes.
+// Reads a line and answers it; false at the end of the input. A line has at most 512 bytes.
 fn answer_next() -> bool {
-    let mut line = [0u8; 64];
+    let mut line = [0u8; 512];
     let bytes = read_line(&mut line);
     if bytes == 0 {
         return false;

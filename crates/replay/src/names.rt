@@ -57,18 +57,27 @@ pub(crate) const SPELLING: usize = 24;
 
 pub(crate) const NAME: usize = 25;
 
-pub(crate) const LAST_PLAIN: usize = 25;
+// On books.
+pub(crate) const BOOK_LEN: usize = 26;
+
+pub(crate) const BOOK: usize = 27;
+
+pub(crate) const FIND: usize = 28;
+
+pub(crate) const LAST_PLAIN: usize = 28;
 // With other numbers.
-pub(crate) const GET_KEY: usize = 26;
+pub(crate) const GET_KEY: usize = 29;
 
-pub(crate) const DIVIDE16: usize = 27;
+pub(crate) const DIVIDE16: usize = 30;
 
-pub(crate) const DIVIDE32: usize = 28;
+pub(crate) const DIVIDE32: usize = 31;
 
-pub(crate) const TABLE: usize = 29;
+pub(crate) const TABLE: usize = 32;
+
+pub(crate) const FIND_IN: usize = 33;
 
 // How many 16-bit numbers come behind each name up to `LAST_PLAIN`.
-const COUNTS: [usize; 26] = [
+const COUNTS: [usize; 29] = [
     2,
     2,
     1,
@@ -95,10 +104,13 @@ const COUNTS: [usize; 26] = [
     3,
     4,
     4,
+    3,
+    3,
+    4,
 ];
 
 pub(crate) fn count_of(kind: usize) -> usize
-    requires { ⌜ kind < 26 ⌝ }
+    requires { ⌜ kind < 29 ⌝ }
 {
     COUNTS[kind]
 }
@@ -106,7 +118,7 @@ pub(crate) fn count_of(kind: usize) -> usize
 // The place of the name that a line has up to `end`, or a place behind the last.
 pub(crate) fn kind_of(line: &[u8], end: usize) -> usize {
     let names =
-        b"gcd simplify odd pergen generation accidentals new_genesis new_collapsed pattern child parent genesis dual mirror coprime children parents layer_sizes layers chain layout names key_layers lamps spelling name get_key divide16 divide32 table ";
+        b"gcd simplify odd pergen generation accidentals new_genesis new_collapsed pattern child parent genesis dual mirror coprime children parents layer_sizes layers chain layout names key_layers lamps spelling name book_len book find get_key divide16 divide32 table find_in ";
     place_in(names, line, end)
 }
 

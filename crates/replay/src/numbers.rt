@@ -9,7 +9,6 @@ use crate::names;
 use crate::print;
 use crate::words;
 use crate::words::Long;
-use crate::words::Natural;
 use crate::words::Values;
 use crate::words::Wide;
 use math::DividedU16Answer;
@@ -35,18 +34,30 @@ fn put_fraction(fraction: Fraction) {
 }
 
 // Whether the line asks for a division; if so, it is answered.
-pub(crate) fn divide16(line: &[u8], at: usize) -> bool {
+pub(crate) fn divide(kind: usize, line: &[u8], at: usize) -> bool {
     let Long::Read(numer, next) = words::long_after(line, at) else {
         return false;
     };
-    let Natural::Read(denom, end) = words::natural_after(line, next) else {
+    let Wide::Read(denom, end) = words::wide_after(line, next) else {
         return false;
     };
     if words::is_at(line, end, b'\n') {
-        put_divided16(math::i32_dr_u16(numer, denom));
-        return true;
+        return divided(kind, numer, denom);
     }
     false
+}
+
+// Whether the denominator has no more bits than the kind allows; if so, the division is answered.
+fn divided(kind: usize, numer: i32, denom: u32) -> bool {
+    if kind == names::DIVIDE32 {
+        put_divided32(math::i32_dr_u32(numer, denom));
+        return true;
+    }
+    if 65535 < denom {
+        return false;
+    }
+    put_divided16(math::i32_dr_u16(numer, denom as u16));
+    true
 }
 
 fn put_divided16(answer: DividedU16Answer) {
@@ -56,21 +67,6 @@ fn put_divided16(answer: DividedU16Answer) {
             put_divided(divided.quotient, divided.remainder as u32);
         }
     }
-}
-
-// Whether the line asks for a division; if so, it is answered.
-pub(crate) fn divide32(line: &[u8], at: usize) -> bool {
-    let Long::Read(numer, next) = words::long_after(line, at) else {
-        return false;
-    };
-    let Wide::Read(denom, end) = words::wide_after(line, next) else {
-        return false;
-    };
-    if words::is_at(line, end, b'\n') {
-        put_divided32(math::i32_dr_u32(numer, denom));
-        return true;
-    }
-    false
 }
 
 fn put_divided32(answer: DividedU32Answer) {

@@ -40,7 +40,7 @@ pub(crate) fn answer(kind: usize, n: Values) {
         answer_pattern(kind, m);
         return;
     }
-    answer_list(kind, m);
+    answer_list(kind, m, n.room);
 }
 
 fn pattern_of(n: Values) -> Mos {
@@ -131,10 +131,15 @@ fn put_steps(answer: TotalAnswer) {
     }
 }
 
-fn answer_list(kind: usize, m: Mos) {
+fn answer_list(kind: usize, m: Mos, room: u16) {
     let mut out = print::list_room();
-    let count = write_list(kind, m, &mut out);
-    print::list(&out, count);
+    let end = room as usize;
+    put_list(kind, m, &mut out[..end]);
+}
+
+fn put_list(kind: usize, m: Mos, out: &mut [u16]) {
+    let count = write_list(kind, m, out);
+    print::list(out, count);
     print::end_line();
 }
 
@@ -165,7 +170,7 @@ pub(crate) fn get_key(line: &[u8], at: usize) -> bool {
     };
     if words::is_at(line, end, b'\n') {
         let values = asked.values;
-        let n = words::values_of(values);
+        let n = words::values_of(values, 0);
         put_key(pattern_of(n).get_key(primary, secondary));
         return true;
     }

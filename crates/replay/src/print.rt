@@ -86,11 +86,11 @@ pub(crate) fn written(bytes: &[u8], answer: CountAnswer) {
     }
 }
 
-// Room for a list of 4,096 numbers; a longer one is refused with 10. The `ensures` is what lending the array needs.
-pub(crate) fn list_room() -> [u16; 4096]
-    ensures { λ r. ⌜ 4096 ≡ length r ⌝ }
+// Room for a list of 65,536 numbers. The `ensures` is what lending the array needs.
+pub(crate) fn list_room() -> [u16; 65536]
+    ensures { λ r. ⌜ 65536 ≡ length r ⌝ }
 {
-    [0; 4096]
+    [0; 65536]
 }
 
 // As many numbers of a slice as were written to its front, `-` where that is none, or the refusal to write them.
@@ -118,4 +118,31 @@ fn front(numbers: &[u16], count: usize) {
         short(numbers[i]);
         i += 1;
     }
+}
+
+// As many bytes of a slice as were written to its front, as numbers, or the refusal to write them; alone on the line.
+pub(crate) fn bytes(written: &[u8], answer: CountAnswer) {
+    match answer {
+        CountAnswer::Given(count) => codes(written, count),
+        CountAnswer::Refused(q) => refused(q),
+    }
+}
+
+fn codes(written: &[u8], count: usize) {
+    let mut i: usize = 0;
+    while i < count {
+        if written.len() <= i {
+            return;
+        }
+        if 0 < i {
+            space();
+        }
+        code(written[i]);
+        i += 1;
+    }
+    end_line();
+}
+
+pub(crate) fn code(byte: u8) {
+    number(byte as u64);
 }

@@ -2,9 +2,10 @@
 //
 //     table LINE     all that the program prints for the line
 use crate::print;
+use answer::CountAnswer;
 
 // Whether the line asks this; if so, it is answered.
-pub(crate) fn answer(line: &[u8], at: usize) -> bool {
+pub(crate) fn answer(line: &[u8], at: usize, room: u16) -> bool {
     if line.len() <= at {
         return false;
     }
@@ -12,12 +13,19 @@ pub(crate) fn answer(line: &[u8], at: usize) -> bool {
         return false;
     }
     let from = at + 1;
-    put_table(&line[from..]);
+    answer_table(&line[from..], room);
     true
 }
 
-fn put_table(line: &[u8]) {
+fn answer_table(line: &[u8], room: u16) {
     let mut out = io::large_buffer();
-    let answer = table::respond(line, &mut out);
-    print::written(&out, answer);
+    let end = room as usize;
+    put_table(line, &mut out[..end]);
+}
+
+fn put_table(line: &[u8], out: &mut [u8]) {
+    match table::respond(line, out) {
+        CountAnswer::Refused(q) => print::refused(q),
+        CountAnswer::Given(count) => print::written(out, CountAnswer::Given(count)),
+    }
 }

@@ -26,16 +26,10 @@ pub(crate) enum Long {
     Nothing,
 }
 
-// Digits read as a number, and the place behind them; or no digit, or too many.
-enum Digits {
-    Read(u64, usize),
-    Nothing,
-}
-
 // A number with a sign, and the place behind it: `Negative(n, _)` is -1 - n.
 enum Signed {
-    Positive(u64, usize),
-    Negative(u64, usize),
+    Positive(u32, usize),
+    Negative(u32, usize),
     Nothing,
 }
 
@@ -48,23 +42,31 @@ pub(crate) struct Numbers {
     pub(crate) whole: bool,
 }
 
-// The numbers of a question in the order of the line, 0 where it has no more. Fields, since the prover has less to do with a
-// field than with an element of an array.
+// How many bytes were read, and the place behind them.
+pub(crate) struct Bytes {
+    pub(crate) count: usize,
+    pub(crate) end: usize,
+}
+
+// The numbers of a question in the order of the line, 0 where it has no more, and the room that it lends. Fields, since the
+// prover has less to do with a field than with an element of an array.
 pub(crate) struct Values {
     pub(crate) first: u16,
     pub(crate) second: u16,
     pub(crate) third: u16,
     pub(crate) fourth: u16,
     pub(crate) fifth: u16,
+    pub(crate) room: u16,
 }
 
-pub(crate) fn values_of(values: [u16; 5]) -> Values {
+pub(crate) fn values_of(values: [u16; 5], room: u16) -> Values {
     Values {
         first: values[0],
         second: values[1],
         third: values[2],
         fourth: values[3],
         fifth: values[4],
+        room,
     }
 }
 
@@ -94,8 +96,8 @@ pub(crate) fn word_end(line: &[u8]) -> usize
     at
 }
 
-// The digits from a place on, at most eleven.
-fn digits_at(line: &[u8], from: usize) -> Digits {
+// The number of 32 bits that the digits from a place on are.
+pub(crate) fn wide_at(line: &[u8], from: usize) -> Wide {
     let mut value: u64 = 0;
     let mut at = from;
     while at < line.len() {
@@ -107,7 +109,7 @@ fn digits_at(line: &[u8], from: usize) -> Digits {
             return digits_read(value, from, at);
         }
         if 4294967295 < value {
-            return Digits::Nothing;
+            return Wide::Nothing;
         }
         value = 10 * value + (byte - b'0') as u64;
         at += 1;
@@ -115,25 +117,22 @@ fn digits_at(line: &[u8], from: usize) -> Digits {
     digits_read(value, from, at)
 }
 
-// At least one digit was read.
-fn digits_read(value: u64, from: usize, at: usize) -> Digits {
+// At least one digit was read, and the number has 32 bits.
+fn digits_read(value: u64, from: usize, at: usize) -> Wide {
     if at <= from {
-        return Digits::Nothing;
+        return Wide::Nothing;
     }
-    Digits::Read(value, at)
+    if 4294967295 < value {
+        return Wide::Nothing;
+    }
+    Wide::Read(value as u32, at)
 }
 
 // The number of 16 bits behind a space at a place.
 pub(crate) fn natural_after(line: &[u8], at: usize) -> Natural {
-    if line.len() <= at {
-        return Natural::Nothing;
-    }
-    if line[at] != b' ' {
-        return Natural::Nothing;
-    }
-    match digits_at(line, at + 1) {
-        Digits::Nothing => Natural::Nothing,
-        Digits::Read(value, next) => {
+    match wide_after(line, at) {
+        Wide::Nothing => Natural::Nothing,
+        Wide::Read(value, next) => {
             if 65535 < value {
                 return Natural::Nothing;
             }
@@ -150,15 +149,7 @@ pub(crate) fn wide_after(line: &[u8], at: usize) -> Wide {
     if line[at] != b' ' {
         return Wide::Nothing;
     }
-    match digits_at(line, at + 1) {
-        Digits::Nothing => Wide::Nothing,
-        Digits::Read(value, next) => {
-            if 4294967295 < value {
-                return Wide::Nothing;
-            }
-            Wide::Read(value as u32, next)
-        }
-    }
+    wide_at(line, at + 1)
 }
 
 // The number behind a space at a place, with a minus before it where it is below 0.
@@ -174,19 +165,19 @@ fn signed_after(line: &[u8], at: usize) -> Signed {
         return Signed::Nothing;
     }
     if line[first] == b'-' {
-        return below_zero(digits_at(line, first + 1));
+        return below_zero(wide_at(line, first + 1));
     }
-    match digits_at(line, first) {
-        Digits::Nothing => Signed::Nothing,
-        Digits::Read(value, next) => Signed::Positive(value, next),
+    match wide_at(line, first) {
+        Wide::Nothing => Signed::Nothing,
+        Wide::Read(value, next) => Signed::Positive(value, next),
     }
 }
 
 // The number with a minus before it; there is no -0.
-fn below_zero(digits: Digits) -> Signed {
+fn below_zero(digits: Wide) -> Signed {
     match digits {
-        Digits::Nothing => Signed::Nothing,
-        Digits::Read(value, next) => {
+        Wide::Nothing => Signed::Nothing,
+        Wide::Read(value, next) => {
             if value == 0 {
                 return Signed::Nothing;
             }
@@ -266,4 +257,22 @@ pub(crate) fn numbers_after(line: &[u8], from: usize, count: usize) -> Numbers {
         end: at,
         whole: is_at(line, at, b'\n'),
     }
+}
+
+// The bytes behind a place, each a number, into the front of `out` as far as it goes.
+pub(crate) fn bytes_after(line: &[u8], from: usize, out: &mut [u8]) -> Bytes {
+    let mut at = from;
+    let mut count: usize = 0;
+    while count < out.len() {
+        let Natural::Read(value, next) = natural_after(line, at) else {
+            return Bytes { count, end: at };
+        };
+        if 255 < value {
+            return Bytes { count, end: at };
+        }
+        out[count] = value as u8;
+        at = next;
+        count += 1;
+    }
+    Bytes { count, end: at }
 }

@@ -37,7 +37,7 @@ pub fn sides_of(format: AccidentalsFormat, spelling: Spelling) -> Sides
 }
 
 // The place itself.
-pub fn difference(sides: Sides) -> i64
+pub(crate) fn difference(sides: Sides) -> i64
     requires { ⌜ SmallSides sides ⌝ }
     ensures { λ r. ⌜ r ≡ pos (sides .above) -ℤ pos (sides .below) ⌝ }
 {

@@ -4,8 +4,8 @@
 // Holds what asks for one pattern of a walk (document 01, "Step patterns"); `listings` writes whole walks. `parts` holds the
 // walks themselves.
 // Every entry point answers any four numbers; what is no pattern is refused (7).
-// The definitions and theorems are those of `mos`: Walks defines, Answers says what each call answers, Theorems and Scale state
-// what holds of every walk. Nothing is assumed; that the self calls become loops is measured and not proved.
+// The definitions and theorems are those of `mos`: Walks defines, Answers says what each call answers, Theorems, Scale and
+// IntervalClasses state what holds of every walk. Nothing is assumed; that the self calls become loops is measured and not proved.
 pub mod parts;
 
 use answer::Refusal;
@@ -81,7 +81,7 @@ pub fn nth_parent(mos: Mos, k: u32) -> WalkAnswer
     WalkAnswer::Refused(Refusal::Size)
 }
 
-// The pattern that this one's walk started from, which shows its generator (7).
+// The last of its parents, itself where it has none (7). For a pattern on the walk from a genesis, that genesis, which shows the generator.
 pub fn genesis(mos: Mos) -> MosAnswer
     ensures { λ r. ⌜ mosOutcome r ≡ ofPattern mos (genesisOf mos) ⌝ }
 {

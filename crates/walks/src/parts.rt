@@ -2,21 +2,21 @@
 // sum of the counts with each parent.
 //
 // Parts, and no entry points: each asks for a pattern by question 7. The deepest walks are 65,534 self calls, so a self call
-// stands in the last place and returns a bool, the pattern going into a lent array: that compiles to a loop.
+// stands in the last place and returns a bool, the pattern going into a lent array, which else is untouched: that compiles to a loop.
 use mos::Mos;
 ghost use mathlib.Core.Path.{_≡_};
 ghost use mathlib.Core.Bool.{true};
 ghost use mathlib.Core.Option.{some};
 ghost use lib.ListN.{getElem?};
 ghost use Rattle.mos.specs.Patterns.{mos, isPattern};
-ghost use Rattle.mos.specs.Parts.{met};
+ghost use Rattle.mos.specs.Parts.{Meets};
 ghost use Rattle.mos.specs.Walks.{children, parents, firstWith, genesisOf};
 
 // The first child with n steps of the pattern with counts a and b and steps p and s, itself included. Counts only grow, so a pattern
 // with more ends the search. The four numbers go separately: a pattern would be packed into one register at each self call.
 pub fn seek(a: u16, b: u16, p: u16, s: u16, n: u32, found: &mut [u16; 4]) -> bool
     requires { ⌜ isPattern (mos a b p s) ≡ true ⌝ }
-    ensures { λ r. ⌜ met r (now (found .exit)) ≡ firstWith n (children (mos a b p s)) ⌝ }
+    ensures { λ r. ⌜ Meets (firstWith n (children (mos a b p s))) r (now (found .entry)) (now (found .exit)) ⌝ }
 {
     let here = Mos {
         num_primary_steps: a,
@@ -47,9 +47,9 @@ pub fn seek(a: u16, b: u16, p: u16, s: u16, n: u32, found: &mut [u16; 4]) -> boo
 }
 
 // The k-th child, m itself for 0.
-pub fn descend(m: Mos, k: u32, found: &mut [u16; 4]) -> bool
+pub(crate) fn descend(m: Mos, k: u32, found: &mut [u16; 4]) -> bool
     requires { ⌜ isPattern m ≡ true ⌝ }
-    ensures { λ r. ⌜ met r (now (found .exit)) ≡ getElem? (children m) k ⌝ }
+    ensures { λ r. ⌜ Meets (getElem? (children m) k) r (now (found .entry)) (now (found .exit)) ⌝ }
 {
     if k == 0 {
         *found = [
@@ -67,9 +67,9 @@ pub fn descend(m: Mos, k: u32, found: &mut [u16; 4]) -> bool
 }
 
 // The k-th parent, m itself for 0.
-pub fn ascend(m: Mos, k: u32, found: &mut [u16; 4]) -> bool
+pub(crate) fn ascend(m: Mos, k: u32, found: &mut [u16; 4]) -> bool
     requires { ⌜ isPattern m ≡ true ⌝ }
-    ensures { λ r. ⌜ met r (now (found .exit)) ≡ getElem? (parents m) k ⌝ }
+    ensures { λ r. ⌜ Meets (getElem? (parents m) k) r (now (found .entry)) (now (found .exit)) ⌝ }
 {
     if k == 0 {
         *found = [
@@ -87,9 +87,9 @@ pub fn ascend(m: Mos, k: u32, found: &mut [u16; 4]) -> bool
 }
 
 // The last parent; true, so that a self call returns a number.
-pub fn root(m: Mos, found: &mut [u16; 4]) -> bool
+pub(crate) fn root(m: Mos, found: &mut [u16; 4]) -> bool
     requires { ⌜ isPattern m ≡ true ⌝ }
-    ensures { λ r. ⌜ met r (now (found .exit)) ≡ some (genesisOf m) ⌝ }
+    ensures { λ r. ⌜ Meets (some (genesisOf m)) r (now (found .entry)) (now (found .exit)) ⌝ }
 {
     if mos::parts::has_parent(m) {
         return root(mos::parts::parent_of(m), found);

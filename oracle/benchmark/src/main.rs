@@ -17,9 +17,18 @@ const ROUNDS: usize = 6;
 
 fn main() {
     let words: Vec<String> = env::args().skip(1).collect();
-    let mut rows = rows::all();
-    rows.retain(|row| words.iter().all(|word| title(row).contains(word.as_str())));
+    println!("Processor: {}", processor());
+    println!("Best of {} rounds for each side.", SWEEPS * ROUNDS);
+    table("the original's", rows::of_the_original(), &words);
+    table("a fill", rows::of_a_fill(), &words);
+}
 
+/// Times the rows that have every word, and prints them.
+fn table(other: &str, mut rows: Vec<Row>, words: &[String]) {
+    rows.retain(|row| words.iter().all(|word| title(row).contains(word.as_str())));
+    if rows.is_empty() {
+        return;
+    }
     // The same work has the same result.
     for row in &mut rows {
         assert_eq!((row.ours)(), (row.theirs)(), "{}", title(row));
@@ -30,18 +39,16 @@ fn main() {
             *best = timing::best_of(ROUNDS, *best, &mut row.ours, &mut row.theirs);
         }
     }
-    print(&rows, &times);
+    print(other, &rows, &times);
 }
 
 fn title(row: &Row) -> String {
     format!("{}, {}", row.what, row.input)
 }
 
-fn print(rows: &[Row], times: &[Times]) {
-    println!("Processor: {}", processor());
-    println!("Best of {} rounds for each side.", SWEEPS * ROUNDS);
+fn print(other: &str, rows: &[Row], times: &[Times]) {
     println!();
-    println!("| work | input | per | ours, ns | the original's, ns | ratio |");
+    println!("| work | input | per | ours, ns | {other}, ns | ratio |");
     println!("|---|---|---|---:|---:|---:|");
     for (row, times) in rows.iter().zip(times) {
         let nanoseconds = 1e9 / row.units as f64;

@@ -5,7 +5,10 @@
 //! row says so, the original has its layout made beforehand; ours makes it in
 //! every call, since a call takes the three numbers.
 
+use std::cell::RefCell;
 use std::fmt::Write;
+use std::hint;
+use std::rc::Rc;
 
 use judge::layouts::CHAINS;
 use tune::layout;
@@ -41,8 +44,11 @@ const LARGEST: Numbers = Numbers(2, 65534, 65535);
 /// Larger layouts have too many layers for a strip.
 const LARGEST_STRIP: Numbers = Numbers(0, 1817, 3432);
 
-pub fn all() -> Vec<Row> {
-    let sizes = [SMALL, MIDDLE, LARGE, LARGEST];
+const SIZES: [Numbers; 4] = [SMALL, MIDDLE, LARGE, LARGEST];
+
+/// Work that the original does too.
+pub fn of_the_original() -> Vec<Row> {
+    let sizes = SIZES;
     let with_strip = [SMALL, MIDDLE, LARGEST_STRIP];
     let mut rows = making();
     rows.extend(sizes.map(one_name));
@@ -50,13 +56,17 @@ pub fn all() -> Vec<Row> {
     rows.extend(sizes.map(accidentals));
     rows.extend(sizes.map(accidentals_of_ready));
     rows.extend(sizes.map(book));
-    rows.extend(sizes.map(book_floor));
     rows.extend(sizes.map(layout_layers));
     rows.extend(sizes.map(pattern_layers));
     rows.extend(with_strip.map(strip));
     rows.extend(with_strip.map(key_table));
     rows.extend(walks());
     rows
+}
+
+/// Books, beside a plain fill of the memory that they were written to.
+pub fn of_a_fill() -> Vec<Row> {
+    SIZES.map(book_and_fill).into()
 }
 
 impl Numbers {
@@ -251,20 +261,22 @@ fn book(n: Numbers) -> Row {
     )
 }
 
-fn book_floor(n: Numbers) -> Row {
+/// The other side fills the very bytes of the book, which both sides have touched.
+fn book_and_fill(n: Numbers) -> Row {
     let length = vetchnoon::book_len(n.0, n.1, n.2).unwrap();
-    let mut bytes = vec![0; length];
-    let mut fill = 0;
-    let head = 4 + 8 * usize::from(n.1);
+    let memory = Rc::new(RefCell::new(vec![1_u8; length]));
+    let filled = Rc::clone(&memory);
+    let mut value = 0;
     n.row(
-        "a book, against filling as many bytes with one value",
+        "all names of an octave, as a book",
         "key",
         n.1.into(),
-        our_book(n),
+        move || vetchnoon::book(n.0, n.1, n.2, &mut memory.borrow_mut()).unwrap(),
         move || {
-            fill ^= 1;
-            bytes.fill(fill);
-            std::hint::black_box(&mut bytes).len() - head
+            value ^= 1;
+            let mut bytes = filled.borrow_mut();
+            bytes.fill(value);
+            hint::black_box(&mut bytes).len()
         },
     )
 }

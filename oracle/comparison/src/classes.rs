@@ -2,11 +2,11 @@
 //! answers otherwise, on purpose. A class is told from the input alone, by exact
 //! arithmetic, never from what the two sides answered.
 
-use crate::reading::LARGEST;
-use crate::reading::Whole;
-use crate::reading::layouts::Layout;
-use crate::reading::patterns::Pattern;
-use crate::reading::pergens::Pergen;
+use reading::LARGEST;
+use reading::Whole;
+use reading::layouts::Layout;
+use reading::patterns::Pattern;
+use reading::pergens::Pergen;
 
 #[derive(Clone, Copy, Debug, PartialEq, Eq, PartialOrd, Ord)]
 pub enum Class {

@@ -6,9 +6,9 @@
 
 use std::fmt::Debug;
 
+use reading::Outcome;
 use vetchnoon::Refused;
 
-use crate::reading::Outcome;
 use crate::shown::shown;
 use crate::tally::outcome;
 

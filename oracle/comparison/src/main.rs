@@ -7,7 +7,6 @@ mod lending;
 mod plan;
 mod question;
 mod randoms;
-mod reading;
 mod report;
 mod shown;
 mod subjects;

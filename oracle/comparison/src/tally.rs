@@ -4,6 +4,7 @@ use std::collections::BTreeMap;
 use std::fmt::Debug;
 
 use judge::asking::Answer;
+use reading::Outcome;
 use vetchnoon::Refused;
 
 use crate::classes::Class;
@@ -12,7 +13,6 @@ use crate::lending::Element;
 use crate::question::Call;
 use crate::question::Kept;
 use crate::question::Question;
-use crate::reading::Outcome;
 use crate::shown::shown;
 
 /// What the original has to say of a question.

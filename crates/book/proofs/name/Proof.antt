@@ -33,8 +33,11 @@ part-result-end c =
     let b = c .before .before .before in
     found-lies-in-text _ _ _ (sym (sym (ap findAnswered (b .place .given .1)) ∙ b .before .before .find .ensures)) .to-end
 
-enum-told : tie.Need-enum-told
-enum-told c = search needs
+enum-known-question : tie.Need-enum-known-question
+enum-known-question c = search needs
+
+number-requires : tie.Need-number-requires
+number-requires c κs = search needs
 
 sub-result-2 : tie.Need-sub-result-2
 sub-result-2 c = search needs
@@ -52,7 +55,8 @@ returns c =
 
 returns-2 : tie.Need-returns-2
 returns-2 c =
-    name-refused _ _ _ (sym (ap findAnswered (c .before .enum-told .given .1)) ∙ c .before .before .before .find .ensures)
+    let b = c .before .before .before in
+    name-refused _ _ _ _ (sym (ap findAnswered (b .question .given .1)) ∙ b .before .before .find .ensures) (c .before .number .ensures)
 
 pub name-spec : {M : Type 1} → statement M
 name-spec =
@@ -66,7 +70,8 @@ name-spec =
     sub-result
     part-result-start
     part-result-end
-    enum-told
+    enum-known-question
+    number-requires
     sub-result-2
     part-result-start-2
     part-result-end-2

@@ -2,7 +2,7 @@
 use mathlib.Core.Path.{sym, _∙_}
 use Rattle.mos.proofs.Sizes.{pattern-given, pattern-refused}
 use Rattle.mos.specs.Walks.{genesisOf}
-use Rattle.mos.proofs.Sequences.{met-always}
+use Rattle.mos.proofs.Sequences.{meets-always}
 use borrow.Author.Needs.{needs}
 use Rattle.walks.proofs.genesis.Statement.{statement}
 use Rattle.walks.proofs.genesis.Tie as tie
@@ -26,7 +26,7 @@ array-read-t17 : tie.Need-array-read-t17
 array-read-t17 c = search needs
 
 returns : tie.Need-returns
-returns c = pattern-given _ (c .before .before .before .is-pattern .ensures) (c .before .before .if1 .taken) (met-always (genesisOf (c .before .before .before .before .args .mos)) (c .root .result) (c .root .last .1 .0) (c .root .ensures))
+returns c = pattern-given _ (c .before .before .before .is-pattern .ensures) (c .before .before .if1 .taken) (meets-always _ _ (c .root .ensures))
 
 returns-2 : tie.Need-returns-2
 returns-2 c = pattern-refused _ _ (c .before .is-pattern .ensures) (c .if1 .left)

@@ -1,10 +1,11 @@
 //! Books that were damaged, and bytes that never were a book.
 
+use reading::books;
+use reading::layouts::Layout;
+
 use super::Mode;
 use super::Task;
 use crate::randoms::Randoms;
-use crate::reading::books;
-use crate::reading::layouts::Layout;
 use crate::subjects::books as subject;
 use crate::tally::Tally;
 

@@ -1,12 +1,13 @@
 //! Layouts.
 
+use reading::Whole;
+use reading::fitted;
+use reading::names::Spelling;
+
 use super::Mode;
 use super::Task;
 use crate::randoms::LIMITS;
 use crate::randoms::Randoms;
-use crate::reading::Whole;
-use crate::reading::fitted;
-use crate::reading::names::Spelling;
 use crate::subjects::layouts::GivenLayout;
 use crate::tally::Tally;
 
@@ -56,18 +57,17 @@ fn all_of_octave(tally: &mut Tally, octave: u16) {
     }
 }
 
-/// All letters and one beyond, up to two signs of each kind and of both, and stars
-/// up to one that is too many.
+/// All letters and one beyond, up to two signs of each kind and as many flats as can
+/// be asked for, and stars up to one that is too many.
 fn compare_small_spellings(tally: &mut Tally, layout: &GivenLayout) {
     let letters = layout.read(|layout| layout.chain.count()).unwrap_or(0);
     let cycles = layout.read(|layout| layout.pergen.cycles).unwrap_or(0);
     for letter in 0..=letters {
-        for (sharps, flats) in [(0, 0), (1, 0), (2, 0), (0, 1), (0, 2), (1, 1)] {
+        for signs in [0, 1, 2, -1, -2, i32::MIN] {
             for stars in [0, cycles - 1, cycles, cycles + 1] {
                 let spelling = Spelling {
                     letter,
-                    sharps,
-                    flats,
+                    signs: signs.into(),
                     stars: stars.max(0),
                 };
                 layout.compare_sounded(tally, spelling);
@@ -165,18 +165,11 @@ fn compare_some(tally: &mut Tally, code: u16, octave: u16, tritave: u16, randoms
 /// Mostly a spelling, with any number of signs; at times none.
 fn random_spelling(layout: &GivenLayout, randoms: &mut Randoms) -> Spelling {
     let cycles = layout.read(|layout| layout.pergen.cycles).unwrap_or(1);
-    let signs = Whole::from((randoms.next() as u32) >> randoms.below(32));
-    let (sharps, flats) = randoms.of(&[
-        (signs, 0),
-        (0, signs),
-        (u32::MAX.into(), 0),
-        (0, u32::MAX.into()),
-        (1, signs),
-    ]);
+    let signs = (randoms.next() as i32) >> randoms.below(32);
+    let signs = randoms.of(&[signs, !signs, i32::MAX, i32::MIN, i32::MIN + 1]);
     Spelling {
         letter: randoms.between(0, 9).into(),
-        sharps,
-        flats,
+        signs: signs.into(),
         stars: (Whole::from(randoms.any()) % cycles) + Whole::from(randoms.below(8) == 0),
     }
 }

@@ -1,11 +1,11 @@
 //! Looking keys up in books, which may be any bytes.
 
 use judge::asking;
+use reading::books;
 use vetchnoon::Refused;
 
 use crate::question::Call;
 use crate::question::Question;
-use crate::reading::books;
 use crate::tally::Tally;
 use crate::tally::outcome;
 

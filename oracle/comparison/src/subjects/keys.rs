@@ -1,15 +1,15 @@
 //! Keys of a layout: spellings, names, and what spellings sound.
 
 use judge::layouts;
+use reading::Outcome;
+use reading::fitted;
+use reading::names;
+use reading::names::Spelling;
 
 use crate::classes;
 use crate::classes::Class;
 use crate::question::Call;
 use crate::question::Question;
-use crate::reading::Outcome;
-use crate::reading::fitted;
-use crate::reading::names;
-use crate::reading::names::Spelling;
 use crate::subjects::layouts::GivenLayout;
 use crate::subjects::pergens;
 use crate::tally::Answers;
@@ -112,8 +112,7 @@ impl GivenLayout {
             self.octave,
             self.tritave,
             fitted(spelling.letter),
-            fitted(spelling.sharps),
-            fitted(spelling.flats),
+            fitted(spelling.signs),
             fitted(spelling.stars),
         ))
     }
@@ -122,14 +121,13 @@ impl GivenLayout {
         [self.code, self.octave, self.tritave, key].map(i64::from)
     }
 
-    fn arguments_of(&self, spelling: Spelling) -> [i64; 7] {
+    fn arguments_of(&self, spelling: Spelling) -> [i64; 6] {
         [
             self.code.into(),
             self.octave.into(),
             self.tritave.into(),
             fitted(spelling.letter),
-            fitted(spelling.sharps),
-            fitted(spelling.flats),
+            fitted(spelling.signs),
             fitted(spelling.stars),
         ]
     }
@@ -139,7 +137,7 @@ impl GivenLayout {
     }
 }
 
-fn sounding(arguments: &[i64; 7]) -> Question<'_> {
+fn sounding(arguments: &[i64; 6]) -> Question<'_> {
     Question {
         call: Call::SoundedKey,
         arguments,

@@ -2,6 +2,15 @@
 
 use judge::layouts;
 use judge::spelling;
+use reading::Outcome;
+use reading::Whole;
+use reading::books;
+use reading::chains;
+use reading::fitted;
+use reading::layers;
+use reading::layers::Kind;
+use reading::layouts::Layout;
+use reading::layouts::strip_of;
 use tune::layout::IsomorphicLayout;
 use tune::layout::Layer;
 
@@ -9,15 +18,6 @@ use crate::classes;
 use crate::classes::Class;
 use crate::question::Call;
 use crate::question::Question;
-use crate::reading::Outcome;
-use crate::reading::Whole;
-use crate::reading::books;
-use crate::reading::chains;
-use crate::reading::fitted;
-use crate::reading::layers;
-use crate::reading::layers::Kind;
-use crate::reading::layouts::Layout;
-use crate::reading::layouts::strip_of;
 use crate::subjects::patterns::original_numbers;
 use crate::tally::Answers;
 use crate::tally::Original;

@@ -1,10 +1,11 @@
 //! Greatest common divisor and remainder.
 
+use reading::fitted;
+use reading::numbers;
+
 use crate::classes::Class;
 use crate::question::Call;
 use crate::question::Question;
-use crate::reading::fitted;
-use crate::reading::numbers as reading;
 use crate::tally::Answers;
 use crate::tally::Original;
 use crate::tally::Tally;
@@ -17,7 +18,7 @@ pub fn gcd(tally: &mut Tally, x: u16, y: u16) {
     };
     let answers = Answers {
         library: Ok(vetchnoon::gcd(x, y)),
-        reading: Ok(fitted(reading::gcd(x.into(), y.into()))),
+        reading: Ok(fitted(numbers::gcd(x.into(), y.into()))),
         original: Original::of(judge::numbers::gcd(x, y)),
     };
     tally.compare(question, &answers, None);
@@ -30,7 +31,7 @@ pub fn remainder(tally: &mut Tally, numer: i32, denom: u16) {
     };
     let answers = Answers {
         library: outcome(vetchnoon::rem(numer, denom)),
-        reading: reading::remainder(numer.into(), denom.into()).map(fitted),
+        reading: numbers::remainder(numer.into(), denom.into()).map(fitted),
         original: Original::of(judge::numbers::remainder(numer, denom)),
     };
     let class = (denom == 0).then_some(Class::DenominatorZero);

@@ -2,6 +2,11 @@
 
 use judge::asking::Answer;
 use judge::patterns;
+use reading::Outcome;
+use reading::ask;
+use reading::fitted;
+use reading::layers;
+use reading::patterns::Pattern;
 use tune::pergen::Mos;
 use vetchnoon::Refused;
 
@@ -9,12 +14,6 @@ use crate::classes;
 use crate::classes::Class;
 use crate::question::Call;
 use crate::question::Question;
-use crate::reading::Outcome;
-use crate::reading::ask;
-use crate::reading::fitted;
-use crate::reading::layers;
-use crate::reading::patterns as reading;
-use crate::reading::patterns::Pattern;
 use crate::tally::Original;
 use crate::tally::Tally;
 
@@ -172,7 +171,7 @@ pub fn find(tally: &mut Tally, period: u16, generator: u16, steps: u16) {
         arguments: &[period, generator, steps].map(i64::from),
     };
     let reading = ask(2, period >= 1).map(|()| {
-        let found = reading::find(period.into(), generator.into(), steps.into());
+        let found = reading::patterns::find(period.into(), generator.into(), steps.into());
         or_nothing(found)
     });
     let original = Original::of(

@@ -1,6 +1,11 @@
 //! Free pergens with free formats.
 
 use judge::spelling;
+use reading::Outcome;
+use reading::fitted;
+use reading::pergens::Format;
+use reading::pergens::Pergen;
+use reading::pergens::Spellings;
 use tune::pergen::AccidentalsFormat;
 use tune::pergen::PerGen;
 
@@ -8,11 +13,6 @@ use crate::classes;
 use crate::classes::Class;
 use crate::question::Call;
 use crate::question::Question;
-use crate::reading::Outcome;
-use crate::reading::fitted;
-use crate::reading::pergens::Format;
-use crate::reading::pergens::Pergen;
-use crate::reading::pergens::Spellings;
 use crate::tally::Original;
 use crate::tally::Tally;
 

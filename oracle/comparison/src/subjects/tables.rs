@@ -1,8 +1,9 @@
 //! What the key table program prints for a line.
 
+use reading::tables;
+
 use crate::question::Call;
 use crate::question::Question;
-use crate::reading::tables;
 use crate::tally::Original;
 use crate::tally::Tally;
 

@@ -6,7 +6,7 @@ use native.Mathlib.Omega.{arith}
 use Rattle.mos.specs.Patterns.{mos}
 use Rattle.mos.specs.Walks.{children, firstWith}
 use Rattle.mos.proofs.Theorems.{made-patterns}
-use Rattle.mos.proofs.Sequences.{met-found, met-nothing}
+use Rattle.mos.proofs.Sequences.{meets-found, meets-nothing}
 use Rattle.layout.specs.Layouts.{withPattern}
 use borrow.Author.Needs.{needs}
 use Rattle.layout.proofs.parts.with_pattern.Statement.{statement}
@@ -36,14 +36,14 @@ array-read-t21 c = search needs
 returns : tie.Need-returns
 returns c =
     let args = c .before .before .before .before .args in
-    ap (withPattern (args .generator)) (met-found _ _ (c .before .seek .ensures) (c .if1 .taken))
+    ap (withPattern (args .generator)) (meets-found _ _ (c .before .seek .ensures) (c .if1 .taken))
     ∙ ap (λ (step : ℕ). withPattern (args .generator) (firstWith (args .num-letters) (children (mos 1 1 step (args .octave - step)))))
     (c .before .before .before .within-octave .ensures)
 
 returns-2 : tie.Need-returns-2
 returns-2 c =
     let args = c .before .before .before .before .args in
-    ap (withPattern (args .generator)) (met-nothing _ _ (c .before .seek .ensures) (c .if1 .left))
+    ap (withPattern (args .generator)) (meets-nothing _ _ (c .before .seek .ensures) (c .if1 .left))
     ∙ ap (λ (step : ℕ). withPattern (args .generator) (firstWith (args .num-letters) (children (mos 1 1 step (args .octave - step)))))
     (c .before .before .before .within-octave .ensures)
 

@@ -1,14 +1,16 @@
 -- The names before `key` are printed.
 use Prim.Native.Nat.{_≤_, _-_}
+use mathlib.Core.Path.{_≡_}
+use lib.ListN.{length}
 use borrow.Author.Needs.{needs}
 use Rattle.replay.proofs.layouts.put_names.Statement.{statement}
 use Rattle.replay.proofs.layouts.put_names.Tie as tie
 
 abbrev Inv-loop : tie.InvT-loop
-Inv-loop layout octave key₀ key = key ≤ octave
+Inv-loop layout out₀ octave key₀ out key = (key ≤ octave) × (length out ≡ length out₀)
 
 abbrev μ-loop : tie.MeasureT-loop
-μ-loop layout octave key₀ key = octave - key
+μ-loop layout out₀ octave key₀ out key = octave - key
 
 loop-holds : tie.Need-loop-holds Inv-loop μ-loop
 loop-holds c = search needs
@@ -31,6 +33,9 @@ loop-again c = search needs
 end-line-requires : tie.Need-end-line-requires Inv-loop μ-loop
 end-line-requires c κs = search needs
 
+same-length : tie.Need-same-length Inv-loop μ-loop
+same-length c = search needs
+
 returns : tie.Need-returns Inv-loop μ-loop
 returns c = search needs
 
@@ -47,4 +52,5 @@ put-names-spec =
     loop-less
     loop-again
     end-line-requires
+    same-length
     returns)

@@ -10,6 +10,7 @@ use Rattle.answer.proofs.Writing.{wrote-as, wrote-length}
 use Rattle.answer.proofs.Joined.{joined-start, joined-step, joined-room}
 use Rattle.layout_book.proofs.Spelled.{on-walk, name-planned}
 use Rattle.pergen.specs.Parts.{At}
+use Rattle.pergen.proofs.CarriedWalk.{at-next}
 use Rattle.table.specs.Parts.{lineOf}
 use Rattle.table.proofs.Lines.{line-is}
 use Rattle.table.proofs.parts.put_lines.Statement.{statement}
@@ -78,7 +79,7 @@ loop-again c =
     let s = l .before .before .before .before .before in
     let name = name-planned _ (s .pre .0) _ _ (l .loop .inv .0) _ (p .before .before .before .plan-at .ensures) in
     let w = wrote-as (line-is (s .args .speller) (s .args .strip .now) (l .loop .key) _ name) (p .put-line .ensures) in (
-      c .next .ensures _ (l .loop .inv .0),
+      rw (c .next .ensures) (at-next _ (s .pre .0 .walkable) _ _ (l .loop .inv .0)),
       joined-step _ _ (l .loop .inv .1) w,
       omega arith,
       wrote-length w ∙ l .loop .inv .3,

@@ -7,7 +7,7 @@ use borrow.Fn.Kinds.{In}
 use borrow.Fn.PlainCycle.{Measures, is, falls, and}
 use Rattle.mos.specs.Patterns.{countOf}
 use Rattle.mos.proofs.Descent.{parent-falls, parent-keeps-pattern}
-use Rattle.mos.proofs.Sequences.{parent-here, parent-later, parent-never}
+use Rattle.mos.proofs.Sequences.{parent-here, parent-later, parent-never, meets-here, meets-none, meets-as}
 use Rattle.walks.proofs.parts.ascend.Reads as ascend
 use Rattle.walks.proofs.parts.ascend.Kinds as ascend-kinds
 use Rattle.walks.proofs.parts.+ascend.Lts-ascend as ascend-lts
@@ -37,7 +37,7 @@ calls t = (
 )
 
 returns : (t : ℕ) → ascend-lts.Need-returns (calls t) (ascend-at t) ascend.Post
-returns t c = parent-here _ _ (c .before .if1 .taken)
+returns t c = meets-here _ _ (parent-here _ _ (c .before .if1 .taken))
 
 has-parent-requires : (t : ℕ) → ascend-lts.Need-has-parent-requires (calls t) (ascend-at t) ascend.Post
 has-parent-requires t c κs = search needs
@@ -58,11 +58,11 @@ ascend-requires t c κs =
 
 returns-2 : (t : ℕ) → ascend-lts.Need-returns-2 (calls t) (ascend-at t) ascend.Post
 returns-2 t c =
-    c .ascend .ensures
-    ∙ parent-later _ _ (c .before .before .parent-of .result) (c .before .before .before .before .before .if1 .left) (c .before .before .parent-of .ensures)
+    meets-as (c .ascend .ensures)
+    (parent-later _ _ (c .before .before .parent-of .result) (c .before .before .before .before .before .if1 .left) (c .before .before .parent-of .ensures))
 
 returns-3 : (t : ℕ) → ascend-lts.Need-returns-3 (calls t) (ascend-at t) ascend.Post
-returns-3 t c = parent-never _ _ (c .before .before .if1 .left) (sym (c .before .has-parent .ensures) ∙ c .if2 .left)
+returns-3 t c = meets-none _ (parent-never _ _ (c .before .before .if1 .left) (sym (c .before .has-parent .ensures) ∙ c .if2 .left))
 
 pub +ascend-spec : {M : Type 1} → statement M
 +ascend-spec =

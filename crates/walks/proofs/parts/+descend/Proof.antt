@@ -7,7 +7,7 @@ use borrow.Fn.Kinds.{In}
 use borrow.Fn.PlainCycle.{Measures, is, falls, and}
 use Rattle.mos.specs.Patterns.{stepsOf}
 use Rattle.mos.proofs.Descent.{child-at, child-falls, child-keeps-pattern}
-use Rattle.mos.proofs.Sequences.{child-here, child-later, child-never}
+use Rattle.mos.proofs.Sequences.{child-here, child-later, child-never, meets-here, meets-none, meets-as}
 use Rattle.walks.proofs.parts.descend.Reads as descend
 use Rattle.walks.proofs.parts.descend.Kinds as descend-kinds
 use Rattle.walks.proofs.parts.+descend.Lts-descend as descend-lts
@@ -37,7 +37,7 @@ calls t = (
 )
 
 returns : (t : ℕ) → descend-lts.Need-returns (calls t) (descend-at t) descend.Post
-returns t c = child-here _ _ (c .before .if1 .taken)
+returns t c = meets-here _ _ (child-here _ _ (c .before .if1 .taken))
 
 has-child-requires : (t : ℕ) → descend-lts.Need-has-child-requires (calls t) (descend-at t) descend.Post
 has-child-requires t c κs = search needs
@@ -58,11 +58,11 @@ descend-requires t c κs =
 
 returns-2 : (t : ℕ) → descend-lts.Need-returns-2 (calls t) (descend-at t) descend.Post
 returns-2 t c =
-    c .descend .ensures
-    ∙ child-later _ _ (c .before .before .child-of .result) (c .before .before .before .before .before .if1 .left) (c .before .before .child-of .ensures)
+    meets-as (c .descend .ensures)
+    (child-later _ _ (c .before .before .child-of .result) (c .before .before .before .before .before .if1 .left) (c .before .before .child-of .ensures))
 
 returns-3 : (t : ℕ) → descend-lts.Need-returns-3 (calls t) (descend-at t) descend.Post
-returns-3 t c = child-never _ _ (c .before .before .if1 .left) (sym (c .before .has-child .ensures) ∙ c .if2 .left)
+returns-3 t c = meets-none _ (child-never _ _ (c .before .before .if1 .left) (sym (c .before .has-child .ensures) ∙ c .if2 .left))
 
 pub +descend-spec : {M : Type 1} → statement M
 +descend-spec =

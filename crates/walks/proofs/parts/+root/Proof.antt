@@ -7,7 +7,7 @@ use borrow.Fn.Kinds.{In}
 use borrow.Fn.PlainCycle.{Measures, is, falls, and}
 use Rattle.mos.specs.Patterns.{countOf}
 use Rattle.mos.proofs.Descent.{parent-falls, parent-keeps-pattern}
-use Rattle.mos.proofs.Sequences.{genesis-here, genesis-next}
+use Rattle.mos.proofs.Sequences.{genesis-here, genesis-next, meets-here, meets-as}
 use Rattle.walks.proofs.parts.root.Reads as root
 use Rattle.walks.proofs.parts.root.Kinds as root-kinds
 use Rattle.walks.proofs.parts.+root.Lts-root as root-lts
@@ -51,10 +51,10 @@ root-requires t c κs =
     )
 
 returns : (t : ℕ) → root-lts.Need-returns (calls t) (root-at t) root.Post
-returns t c = c .root .ensures ∙ ap some (genesis-next _ _ (c .before .before .parent-of .ensures))
+returns t c = meets-as (c .root .ensures) (ap some (genesis-next _ _ (c .before .before .parent-of .ensures)))
 
 returns-2 : (t : ℕ) → root-lts.Need-returns-2 (calls t) (root-at t) root.Post
-returns-2 t c = ap some (genesis-here _ (sym (c .before .before .has-parent .ensures) ∙ c .before .if1 .left))
+returns-2 t c = meets-here _ _ (ap some (genesis-here _ (sym (c .before .before .has-parent .ensures) ∙ c .before .if1 .left)))
 
 pub +root-spec : {M : Type 1} → statement M
 +root-spec =

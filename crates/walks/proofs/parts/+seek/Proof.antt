@@ -7,6 +7,7 @@ use borrow.Fn.Kinds.{In}
 use borrow.Fn.PlainCycle.{Measures, is, falls, and}
 use Rattle.mos.specs.Patterns.{mos, stepsOf}
 use Rattle.mos.proofs.Descent.{child-at, child-falls, child-keeps-pattern}
+use Rattle.mos.proofs.Sequences.{meets-here, meets-none, meets-as}
 use Rattle.walks.proofs.Searches.{find-here, find-past, find-end, find-next}
 use Rattle.walks.proofs.parts.seek.Reads as seek
 use Rattle.walks.proofs.parts.seek.Kinds as seek-kinds
@@ -43,10 +44,10 @@ count-of-requires : (t : ℕ) → seek-lts.Need-count-of-requires (calls t) (see
 count-of-requires t c κs = search needs
 
 returns : (t : ℕ) → seek-lts.Need-returns (calls t) (seek-at t) seek.Post
-returns t c = find-here _ _ (sym (c .before .before .count-of .ensures) ∙ c .before .if1 .taken)
+returns t c = meets-here _ _ (find-here _ _ (sym (c .before .before .count-of .ensures) ∙ c .before .if1 .taken))
 
 returns-2 : (t : ℕ) → seek-lts.Need-returns-2 (calls t) (seek-at t) seek.Post
-returns-2 t c = find-past _ _ (omega arith)
+returns-2 t c = meets-none _ (find-past _ _ (omega arith))
 
 has-child-requires : (t : ℕ) → seek-lts.Need-has-child-requires (calls t) (seek-at t) seek.Post
 has-child-requires t c κs = search needs
@@ -68,11 +69,11 @@ seek-requires t c κs =
 
 returns-3 : (t : ℕ) → seek-lts.Need-returns-3 (calls t) (seek-at t) seek.Post
 returns-3 t c =
-    c .seek .ensures
-    ∙ find-next _ _ (c .before .before .child-of .result) (omega arith) (c .before .before .child-of .ensures)
+    meets-as (c .seek .ensures)
+    (find-next _ _ (c .before .before .child-of .result) (omega arith) (c .before .before .child-of .ensures))
 
 returns-4 : (t : ℕ) → seek-lts.Need-returns-4 (calls t) (seek-at t) seek.Post
-returns-4 t c = find-end _ _ (omega arith) (sym (c .before .has-child .ensures) ∙ c .if3 .left)
+returns-4 t c = meets-none _ (find-end _ _ (omega arith) (sym (c .before .has-child .ensures) ∙ c .if3 .left))
 
 pub +seek-spec : {M : Type 1} → statement M
 +seek-spec =

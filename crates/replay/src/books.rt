@@ -1,0 +1,91 @@
+// Questions on books. LAYOUT is a chain code and the step counts of octave and tritave.
+//
+//     book_len LAYOUT       how many bytes the layout's book has
+//     book LAYOUT           its bytes, as numbers
+//     find LAYOUT KEY       a key looked up in it: offset and length of the name, and the name; or a refusal, told twice
+//     find_in KEY BYTE..    the same in any bytes, at most 256; KEY has 32 bits
+use crate::layouts;
+use crate::names;
+use crate::print;
+use crate::words;
+use crate::words::Values;
+use crate::words::Wide;
+use answer::CountAnswer;
+use book::FindAnswer;
+
+pub(crate) fn answer(kind: usize, n: Values, out: &mut [u8]) {
+    let layout = layouts::layout_of(n);
+    if kind == names::BOOK_LEN {
+        put_length(layout_book::book_len(layout));
+        return;
+    }
+    let written = layout_book::write_book(layout, out);
+    if kind == names::BOOK {
+        print::bytes(out, written);
+        return;
+    }
+    put_found(out, written, n.fourth as u32);
+}
+
+fn put_length(answer: CountAnswer) {
+    match answer {
+        CountAnswer::Refused(q) => print::refusal(q),
+        CountAnswer::Given(count) => print::number(count as u64),
+    }
+    print::end_line();
+}
+
+// A lookup in what was written to the front of a slice.
+fn put_found(bytes: &[u8], answer: CountAnswer, key: u32) {
+    match answer {
+        CountAnswer::Refused(q) => print::refused(q),
+        CountAnswer::Given(count) => {
+            if count <= bytes.len() {
+                put_lookup(&bytes[..count], key);
+            }
+        }
+    }
+}
+
+// What the two calls give: offset and length, and the name; each tells a refusal.
+fn put_lookup(book: &[u8], key: u32) {
+    put_place(book::find(book, key));
+    print::space();
+    put_name(book, key);
+}
+
+fn put_place(answer: FindAnswer) {
+    match answer {
+        FindAnswer::Refused(q) => print::refusal(q),
+        FindAnswer::Found(place) => {
+            print::number(place.offset as u64);
+            print::next_number(place.length as u64);
+        }
+    }
+}
+
+// A name that is found sets the refusal to 0; a refusal hands back the empty part.
+fn put_name(book: &[u8], key: u32) {
+    let mut refusal: u8 = 99;
+    let name = book::name(book, key, &mut refusal);
+    if refusal != 0 {
+        print::text(b"refused ");
+        print::code(refusal);
+    }
+    print::text(name);
+    print::end_line();
+}
+
+// Whether the line asks for a lookup; if so, it is answered.
+pub(crate) fn find_in(line: &[u8], at: usize) -> bool {
+    let Wide::Read(key, next) = words::wide_after(line, at) else {
+        return false;
+    };
+    let mut book = [0u8; 256];
+    let read = words::bytes_after(line, next, &mut book);
+    if words::is_at(line, read.end, b'\n') {
+        put_found(&book, CountAnswer::Given(read.count), key);
+        return true;
+    }
+    false
+}

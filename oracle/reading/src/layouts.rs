@@ -1,0 +1,191 @@
+//! Layouts: questions 1 to 4, the layers of keys, and the lamp strip.
+
+use super::Outcome;
+use super::Whole;
+use super::ask;
+use super::chains;
+use super::chains::Chain;
+use super::fitted;
+use super::layers;
+use super::layers::Kind;
+use super::patterns;
+use super::patterns::Pattern;
+use super::pergens::Format;
+use super::pergens::Pergen;
+use super::pergens::Spellings;
+
+/// An accepted layout.
+#[derive(Debug)]
+pub struct Layout {
+    pub chain: &'static Chain,
+    pub pergen: Pergen,
+    pub pattern: Pattern,
+}
+
+impl Layout {
+    /// Questions 1 to 4.
+    pub fn new(code: u16, octave: u16, tritave: u16) -> Outcome<Self> {
+        let (octave, tritave) = (Whole::from(octave), Whole::from(tritave));
+        let chain = chains::chain(code)?;
+        ask(2, octave >= 1)?;
+        let generator = chain.generator(octave, tritave)?;
+        let pattern = patterns::find(octave, generator, chain.count()).ok_or(4)?;
+        Ok(Self {
+            chain,
+            pergen: Pergen::new(octave, generator)?,
+            pattern,
+        })
+    }
+
+    pub fn scale_name(&self) -> &'static str {
+        self.chain.scale_name(self.pattern.sharpness())
+    }
+
+    pub fn format(&self) -> Format {
+        Format {
+            symbols: self.chain.count(),
+            origin: self.chain.start,
+        }
+    }
+
+    pub fn spellings(&self, key: u16) -> Spellings {
+        self.pergen.spellings(self.format(), key.into())
+    }
+
+    /// T: "layers × n; 2 × n at sharpness 0".
+    pub fn layer_count(&self) -> Whole {
+        let layers = match self.pattern.sharpness() {
+            0 => 2,
+            _ => layers::sizes(self.pattern).len() as Whole,
+        };
+        layers * self.pergen.cycles
+    }
+
+    /// The layer numbers of "P entries, or 2 × P when sharpness is 0".
+    pub fn layers(&self) -> Vec<u16> {
+        let Pergen { period, cycles, .. } = self.pergen;
+        if self.pattern.sharpness() == 0 {
+            return (0..2 * period)
+                .map(|i| fitted(self.alternating(i) * cycles + i % cycles))
+                .collect();
+        }
+        let numbers = layers::numbers(self.pattern);
+        (0..period)
+            .map(|i| {
+                let place = (self.chain.start + self.pergen.degree(i)) % self.pergen.reduced;
+                fitted(Whole::from(numbers[place as usize]) * cycles + i % cycles)
+            })
+            .collect()
+    }
+
+    /// "At sharpness 0, with h = G × start div n and s the secondary count, a is 1
+    /// where (h × s) div N and ((i div n + h) × s) div N differ in parity, else 0."
+    fn alternating(&self, i: Whole) -> Whole {
+        let Pergen {
+            generator, cycles, ..
+        } = self.pergen;
+        let h = generator * self.chain.start / cycles;
+        let s = self.pattern.secondary_count;
+        let n = self.chain.count();
+        ((h * s) / n % 2 - ((i / cycles + h) * s) / n % 2).abs()
+    }
+
+    /// The lamp strip, "from the first P layer entries".
+    pub fn strip(&self) -> Outcome<Vec<u8>> {
+        let total = self.layer_count();
+        let octave = self.pergen.period as usize;
+        let kinds: Vec<Kind> = self.layers()[..octave]
+            .iter()
+            .map(|number| layers::kind((*number).into(), total))
+            .collect();
+        strip_of(&kinds)
+    }
+}
+
+/// The lamp codes of the keys of an octave. Question 9: "is every sharp and flat
+/// layer number of the lamp strip below 100?"
+pub fn strip_of(kinds: &[Kind]) -> Outcome<Vec<u8>> {
+    let below_100 = |kind: &Kind| match kind {
+        Kind::Sharp(level) | Kind::Flat(level) => *level < 100,
+        Kind::Natural | Kind::Enharmonic(_) => true,
+    };
+    ask(9, kinds.iter().all(below_100))?;
+
+    let mut strip: Vec<u8> = kinds.iter().copied().map(lamp).collect();
+    strip[0] = HOME;
+    Ok(strip)
+}
+
+/// "Key 0 is 0, home."
+const HOME: u8 = 0;
+
+/// "Natural 1, sharp k 2 + k, flat k 102 + k, enharmonic 255."
+fn lamp(kind: Kind) -> u8 {
+    fitted(match kind {
+        Kind::Natural => 1,
+        Kind::Sharp(level) => 2 + level,
+        Kind::Flat(level) => 102 + level,
+        Kind::Enharmonic(_) => 255,
+    })
+}
+
+#[cfg(test)]
+mod tests {
+    use super::*;
+
+    fn pattern_and_scale(code: u16, octave: u16, tritave: u16) -> ([u16; 4], &'static str) {
+        let layout = Layout::new(code, octave, tritave).unwrap();
+        (layout.pattern.numbers(), layout.scale_name())
+    }
+
+    fn refusal(code: u16, octave: u16, tritave: u16) -> u8 {
+        Layout::new(code, octave, tritave).unwrap_err()
+    }
+
+    #[test]
+    fn patterns_and_scale_names() {
+        assert_eq!(pattern_and_scale(1, 12, 19), ([5, 2, 2, 1], "diatonic"));
+        assert_eq!(pattern_and_scale(1, 31, 49).0, [5, 2, 5, 3]);
+        assert_eq!(pattern_and_scale(5, 19, 30).0, [4, 3, 4, 1]);
+        assert_eq!(pattern_and_scale(3, 15, 24).1, "pine");
+        assert_eq!(pattern_and_scale(0, 16, 25).1, "armotonic");
+        assert_eq!(pattern_and_scale(1, 7, 11).1, "equalized");
+    }
+
+    #[test]
+    fn refusals() {
+        assert_eq!(refusal(0, 12, 19), 4);
+        assert_eq!(refusal(3, 12, 19), 3);
+        assert_eq!(refusal(3, 0, 1), 2);
+        assert_eq!(refusal(6, 0, 1), 1);
+        assert_eq!(refusal(3, 32_768, 0), 3);
+        assert!(Layout::new(3, 32_767, 65_534 - 3 * 4_096).is_ok());
+    }
+
+    #[test]
+    fn strips() {
+        let strip = |octave, tritave| Layout::new(1, octave, tritave).unwrap().strip();
+        assert_eq!(strip(7, 11), Ok(vec![0, 1, 255, 255, 255, 255, 1]));
+        assert_eq!(
+            strip(12, 19),
+            Ok(vec![0, 255, 1, 1, 255, 1, 255, 1, 255, 1, 1, 255])
+        );
+        assert_eq!(strip(2400, 3800), Err(9));
+    }
+
+    #[test]
+    fn layers_up_to_99_have_a_lamp() {
+        let kinds = [
+            Kind::Natural,
+            Kind::Natural,
+            Kind::Sharp(0),
+            Kind::Sharp(99),
+            Kind::Flat(0),
+            Kind::Flat(99),
+            Kind::Enharmonic(400),
+        ];
+        assert_eq!(strip_of(&kinds), Ok(vec![0, 1, 2, 101, 102, 201, 255]));
+        assert_eq!(strip_of(&[Kind::Natural, Kind::Sharp(100)]), Err(9));
+        assert_eq!(strip_of(&[Kind::Natural, Kind::Flat(100)]), Err(9));
+    }
+}

@@ -1,0 +1,491 @@
+//! The answer to each question, as the program `replay` has to print it: what the
+//! original says, or the refusal that document 01 gives. Where the two
+//! contradict each other, the list is not made.
+
+use std::fmt::Display;
+use std::fmt::Write;
+
+use judge::asking::Answer;
+use judge::layouts;
+use judge::numbers;
+use judge::patterns;
+use judge::patterns::Pattern;
+use judge::spelling;
+use judge::spelling::Accidentals;
+use reading::Outcome;
+use reading::ask;
+use reading::books;
+use reading::chains;
+use reading::layers::Kind;
+use reading::layouts::strip_of;
+use reading::numbers::remainder;
+use reading::pergens::Format;
+use reading::tables;
+use tune::layout::Genchain;
+use tune::layout::IsomorphicLayout;
+use tune::layout::Layer;
+use tune::pergen::AccidentalsFormat;
+use tune::pergen::Mos;
+use tune::pergen::PerGen;
+
+use crate::questions::FreePergen;
+use crate::questions::Layout;
+use crate::questions::OfLayout;
+use crate::questions::OfPattern;
+use crate::questions::Question;
+use crate::questions::pattern_text;
+use crate::questions::read_pattern;
+
+/// Why there is no answer.
+enum Absent {
+    /// Document 01 refuses it.
+    Refused(u8),
+    /// The original overflows where document 01 has an answer, so nobody is
+    /// there to say which: docs/DIFFERENCES.md lists the classes.
+    Overflow,
+}
+
+impl From<u8> for Absent {
+    fn from(number: u8) -> Self {
+        Self::Refused(number)
+    }
+}
+
+type Text = Result<String, Absent>;
+
+/// The room of a question that names none.
+const USUAL_ROOM: u16 = 65_535;
+
+/// The answer's lines, or `None` where the original overflows.
+pub fn answer(question: &Question) -> Option<String> {
+    let (room, question) = match question {
+        Question::InRoom(room, question) => (*room, &**question),
+        _ => (USUAL_ROOM, question),
+    };
+    match text_in_room(question, room.into()) {
+        Ok(mut text) => {
+            // A table ends its own lines.
+            if !matches!(question, Question::Table(_)) {
+                text.push('\n');
+            }
+            Some(text)
+        }
+        Err(Absent::Refused(number)) => Some(format!("refused {number}\n")),
+        Err(Absent::Overflow) => None,
+    }
+}
+
+/// Question 10 comes after 1 to 9, and before those on a book.
+fn text_in_room(question: &Question, room: usize) -> Text {
+    if let Question::Find(layout, _) = question {
+        ask(10, book(*layout)?.len() <= room)?;
+    }
+    let text = text(question)?;
+    ask(10, elements(question, &text) <= room)?;
+    Ok(text)
+}
+
+/// How many elements of the lent slice an answer fills.
+fn elements(question: &Question, text: &str) -> usize {
+    match question {
+        Question::Chain(_) | Question::Name(..) | Question::Table(_) => text.len(),
+        Question::OfPattern(..) | Question::OfLayout(..) | Question::Book(_) if text != "-" => {
+            text.split(' ').count()
+        }
+        _ => 0,
+    }
+}
+
+fn text(question: &Question) -> Text {
+    match question {
+        Question::Gcd(x, y) => given(numbers::gcd(*x, *y)).map(|gcd| gcd.to_string()),
+        Question::Simplify(x, y) => {
+            given(numbers::simplified(*x, *y)).map(|(numer, denom)| format!("{numer} {denom}"))
+        }
+        Question::Odd(x) => given(numbers::odd_factors(*x)).map(|odd| odd.to_string()),
+        Question::Divide16(numer, denom) => {
+            let read = remainder((*numer).into(), (*denom).into());
+            settled(read, numbers::divided(*numer, *denom)).map(divided_text)
+        }
+        Question::Divide32(numer, denom) => {
+            let read = remainder((*numer).into(), (*denom).into());
+            settled(read, numbers::divided(*numer, *denom)).map(divided_text)
+        }
+        Question::Pergen(pergen) => pergen_text(&created(*pergen)?),
+        Question::Generation(pergen, key) => given(spelling::generation(&created(*pergen)?, *key))
+            .map(|generation| format!("{} {}", generation.degree, or_dash(generation.cycle))),
+        Question::Accidentals {
+            pergen,
+            num_symbols,
+            genchain_origin,
+            key,
+        } => {
+            let read = Format {
+                symbols: (*num_symbols).into(),
+                origin: (*genchain_origin).into(),
+            };
+            pergen.read()?.accidentals(read, (*key).into())?;
+            let format = AccidentalsFormat {
+                num_symbols: *num_symbols,
+                genchain_origin: *genchain_origin,
+            };
+            given(spelling::accidentals(&created(*pergen)?, &format, *key)).map(spelling_text)
+        }
+        Question::NewGenesis(pergen) => {
+            let genesis = patterns::create_genesis(pergen.period, pergen.generator);
+            settled(pergen.read(), genesis).map(mos_text)
+        }
+        Question::NewCollapsed(large, small) => {
+            given(patterns::create_collapsed(*large, *small)).map(mos_text)
+        }
+        Question::OfPattern(asked, pattern) => of_pattern(*asked, *pattern),
+        Question::GetKey(pattern, primary, secondary) => {
+            let mos = created_pattern(*pattern)?;
+            given(patterns::key(mos, *primary, *secondary)).map(|key| key.to_string())
+        }
+        Question::Chain(code) => {
+            chains::chain(*code)?;
+            Ok(original_chain(*code).to_string())
+        }
+        Question::OfLayout(asked, layout) => of_layout(*asked, &created_layout(*layout)?),
+        Question::Spelling(layout, key) => {
+            given(layouts::accidentals(&created_layout(*layout)?, *key)).map(spelling_text)
+        }
+        Question::Name(layout, key) => given(layouts::note_name(&created_layout(*layout)?, *key)),
+        Question::BookLength(layout) => Ok(book(*layout)?.len().to_string()),
+        Question::Book(layout) => book(*layout).map(words),
+        Question::Find(layout, key) => Ok(found_text(&book(*layout)?, (*key).into())),
+        Question::FindIn(key, book) => Ok(found_text(book, *key)),
+        Question::Table(line) => table_text(line),
+        Question::InRoom(..) => unreachable!("a question has one room"),
+        Question::Unreadable(_) => Ok("?".to_owned()),
+    }
+}
+
+/// What the original answers to a question that the document does not refuse.
+fn given<T>(answer: Answer<T>) -> Result<T, Absent> {
+    match answer {
+        Ok(value) => Ok(value),
+        Err(panicked) if panicked.message.contains("overflow") => Err(Absent::Overflow),
+        Err(panicked) => unreachable!("document 01 has an answer; the original {panicked}"),
+    }
+}
+
+/// A question that the original panics at wherever the document refuses it.
+fn settled<R, T>(read: Outcome<R>, answer: Answer<T>) -> Result<T, Absent> {
+    match (read, answer) {
+        (Ok(_), answer) => given(answer),
+        (Err(number), Err(_)) => Err(number.into()),
+        (Err(number), Ok(_)) => {
+            unreachable!("document 01 refuses with {number}; the original has an answer")
+        }
+    }
+}
+
+fn created(asked: FreePergen) -> Result<PerGen, Absent> {
+    settled(
+        asked.read(),
+        spelling::create(asked.period, asked.generator),
+    )
+}
+
+fn created_pattern(pattern: Pattern) -> Result<Mos, Absent> {
+    match (read_pattern(pattern), patterns::create(pattern)) {
+        (Ok(_), Ok(Some(mos))) => Ok(mos),
+        (Err(number), Ok(None)) => Err(number.into()),
+        (read, answer) => {
+            unreachable!("document 01 reads {read:?}; the original: {answer:?}")
+        }
+    }
+}
+
+fn created_layout(layout: Layout) -> Result<IsomorphicLayout, Absent> {
+    let read = layout.read().map(|_| ());
+    // The original knows the chains by name, so it cannot be asked for a code above 5.
+    chains::chain(layout.code)?;
+    let chain = original_chain(layout.code);
+    match (read, layouts::create(chain, layout.octave, layout.tritave)) {
+        (Ok(()), Ok(Some(layout))) => Ok(layout),
+        (Err(number), Ok(None)) => Err(number.into()),
+        // The original divides by an octave of 0.
+        (Err(2), Err(_)) => Err(Absent::Refused(2)),
+        (read, answer) => unreachable!(
+            "{layout}: document 01 says {read:?}; the original has a layout: {:?}",
+            answer.map(|layout| layout.is_some())
+        ),
+    }
+}
+
+fn original_chain(code: u16) -> Genchain {
+    layouts::chain(code).expect("document 01 and the original have the same chains")
+}
+
+fn of_pattern(asked: OfPattern, pattern: Pattern) -> Text {
+    let mos = created_pattern(pattern)?;
+    match asked {
+        OfPattern::Numbers => given(patterns::derived(mos)).map(|derived| {
+            format!(
+                "{} {} {} {} {}",
+                derived.sharpness,
+                derived.num_steps,
+                derived.size,
+                derived.num_cycles,
+                derived.reduced_size
+            )
+        }),
+        OfPattern::Child => given(patterns::child(mos)).map(mos_or_none),
+        OfPattern::Parent => given(patterns::parent(mos)).map(mos_or_none),
+        OfPattern::Genesis => given(patterns::genesis(mos)).map(mos_text),
+        OfPattern::Dual => given(patterns::dual(mos)).map(mos_text),
+        OfPattern::Mirror => given(patterns::mirror(mos)).map(mos_text),
+        OfPattern::Coprime => {
+            let read = read_pattern(pattern)?.coprime();
+            settled(read, patterns::coprime(mos)).map(mos_text)
+        }
+        OfPattern::Children => given(patterns::children(mos)).map(walk_text),
+        OfPattern::Parents => given(patterns::parents(mos)).map(walk_text),
+        OfPattern::LayerSizes => {
+            given(patterns::layers(mos)).map(|layers| words(patterns::layer_sizes(&layers)))
+        }
+        OfPattern::Layers => given(patterns::layers(mos)).map(words),
+    }
+}
+
+fn of_layout(asked: OfLayout, layout: &IsomorphicLayout) -> Text {
+    match asked {
+        OfLayout::Numbers => {
+            let pergen = pergen_text(layout.pergen())?;
+            let pattern = mos_text(layout.mos());
+            let scale = given(layouts::scale_name(layout))?;
+            Ok(format!("{scale} {pergen} {pattern}"))
+        }
+        OfLayout::Names => names(layout).map(words),
+        OfLayout::KeyLayers => {
+            given(layouts::layers(layout)).map(|layers| words(layers.into_iter().map(layer_text)))
+        }
+        OfLayout::Lamps => lamps(layout).map(words),
+    }
+}
+
+fn names(layout: &IsomorphicLayout) -> Result<Vec<String>, Absent> {
+    (0..layout.pergen().period())
+        .map(|key| given(layouts::note_name(layout, key)))
+        .collect()
+}
+
+/// The original's names, laid down as document 01 says.
+fn book(layout: Layout) -> Result<Vec<u8>, Absent> {
+    Ok(books::of_names(&names(&created_layout(layout)?)?))
+}
+
+/// Offset and length, and the name; or the refusal, which both calls tell.
+fn found_text(book: &[u8], key: u32) -> String {
+    match books::find(book, key) {
+        Ok([offset, length]) => {
+            let name = &book[offset as usize..][..length as usize];
+            let name = str::from_utf8(name).expect("the list asks for text alone");
+            format!("{offset} {length} {name}")
+        }
+        Err(number) => format!("refused {number} refused {number}"),
+    }
+}
+
+/// The codes of the octave's keys, by the layers that the original gives them.
+fn lamps(layout: &IsomorphicLayout) -> Result<Vec<u8>, Absent> {
+    let layers = given(layouts::layers(layout))?;
+    let octave = usize::from(layout.pergen().period());
+    let kinds: Vec<Kind> = layers[..octave].iter().copied().map(kind_of).collect();
+    Ok(strip_of(&kinds)?)
+}
+
+fn kind_of(layer: Layer) -> Kind {
+    match layer {
+        Layer::Natural => Kind::Natural,
+        Layer::Sharp(level) => Kind::Sharp(level.into()),
+        Layer::Enharmonic(level) => Kind::Enharmonic(level.into()),
+        Layer::Flat(level) => Kind::Flat(level.into()),
+    }
+}
+
+/// All that the key table program prints for a line, a refusal too.
+fn table_text(line: &str) -> Text {
+    match table_lines(line) {
+        Err(Absent::Refused(number)) => Ok(format!("refused {number}\n")),
+        lines => lines,
+    }
+}
+
+fn table_lines(line: &str) -> Text {
+    let [code, octave, tritave] = tables::line(format!("{line}\n").as_bytes())?;
+    let layout = created_layout(Layout {
+        code,
+        octave,
+        tritave,
+    })?;
+    let mut text = String::new();
+    for (key, lamp) in (0..).zip(lamps(&layout)?) {
+        let name = given(layouts::note_name(&layout, key))?;
+        writeln!(text, "{key} {name} {lamp}").expect("a string takes any text");
+    }
+    Ok(text)
+}
+
+fn divided_text<D: Display>((quotient, remainder): (i32, D)) -> String {
+    format!("{quotient} {remainder}")
+}
+
+fn pergen_text(pergen: &PerGen) -> Text {
+    let derived = given(spelling::derived(pergen))?;
+    Ok(format!(
+        "{} {} {} {} {}",
+        pergen.period(),
+        pergen.generator(),
+        derived.num_cycles,
+        derived.reduced_period,
+        derived.inverse
+    ))
+}
+
+fn spelling_text(spelt: Accidentals) -> String {
+    format!(
+        "{} {} {} {} {}",
+        spelt.sharp_index,
+        spelt.sharp_count,
+        spelt.flat_index,
+        spelt.flat_count,
+        or_dash(spelt.cycle)
+    )
+}
+
+fn layer_text(layer: Layer) -> String {
+    match layer {
+        Layer::Natural => "n".to_owned(),
+        Layer::Sharp(level) => format!("s{level}"),
+        Layer::Enharmonic(level) => format!("e{level}"),
+        Layer::Flat(level) => format!("f{level}"),
+    }
+}
+
+fn mos_text(mos: Mos) -> String {
+    pattern_text(mos.into())
+}
+
+fn mos_or_none(mos: Option<Mos>) -> String {
+    mos.map(mos_text).unwrap_or_else(|| "none".to_owned())
+}
+
+fn walk_text(walk: Vec<Mos>) -> String {
+    words(walk.into_iter().map(mos_text))
+}
+
+fn words<T: Display>(values: impl IntoIterator<Item = T>) -> String {
+    let words: Vec<String> = values.into_iter().map(|value| value.to_string()).collect();
+    if words.is_empty() {
+        "-".to_owned()
+    } else {
+        words.join(" ")
+    }
+}
+
+fn or_dash(value: Option<u16>) -> String {
+    value
+        .map(|value| value.to_string())
+        .unwrap_or_else(|| "-".to_owned())
+}
+
+#[cfg(test)]
+mod tests {
+    use super::*;
+
+    fn table(line: &str) -> Option<String> {
+        answer(&Question::Table(line.to_owned()))
+    }
+
+    #[test]
+    fn the_printed_table() {
+        assert_eq!(
+            table("1 12 19").as_deref(),
+            Some(
+                "\
+0 D 0
+1 D#/Eb 255
+2 E 1
+3 F 1
+4 F#/Gb 255
+5 G 1
+6 G#/Ab 255
+7 A 1
+8 A#/Bb 255
+9 B 1
+10 C 1
+11 C#/Db 255
+"
+            )
+        );
+    }
+
+    #[test]
+    fn refused_tables() {
+        for (line, number) in [
+            ("6 12 19", 1),
+            ("1 0 19", 2),
+            ("3 12 19", 3),
+            ("0 12 19", 4),
+            ("1 2400 3800", 9),
+            ("1 12", 14),
+        ] {
+            assert_eq!(table(line), Some(format!("refused {number}\n")), "{line}");
+        }
+    }
+
+    #[test]
+    fn a_strip() {
+        let layout = Layout {
+            code: 1,
+            octave: 7,
+            tritave: 11,
+        };
+        assert_eq!(
+            answer(&Question::OfLayout(OfLayout::Lamps, layout)).as_deref(),
+            Some("0 1 255 255 255 255 1\n")
+        );
+    }
+
+    #[test]
+    fn a_lookup() {
+        let layout = Layout {
+            code: 1,
+            octave: 12,
+            tritave: 19,
+        };
+        let find = |key| Question::Find(layout, key);
+        assert_eq!(answer(&find(1)).as_deref(), Some("101 5 D#/Eb\n"));
+        assert_eq!(
+            answer(&find(12)).as_deref(),
+            Some("refused 13 refused 13\n")
+        );
+        let in_room = |room| answer(&Question::InRoom(room, Box::new(find(12))));
+        assert_eq!(in_room(132).as_deref(), Some("refused 13 refused 13\n"));
+        assert_eq!(in_room(131).as_deref(), Some("refused 10\n"));
+    }
+
+    #[test]
+    fn rooms() {
+        let in_room = |room, question| answer(&Question::InRoom(room, Box::new(question)));
+        let table = |line: &str| Question::Table(line.to_owned());
+        assert_eq!(in_room(11, table("1 12")).as_deref(), Some("refused 14\n"));
+        assert_eq!(in_room(10, table("1 12")).as_deref(), Some("refused 10\n"));
+        let chain = Question::Chain(1);
+        assert_eq!(in_room(11, chain.clone()).as_deref(), Some("Meantone[7]\n"));
+        assert_eq!(in_room(10, chain).as_deref(), Some("refused 10\n"));
+    }
+
+    #[test]
+    fn an_overflow_is_no_answer() {
+        let pergen = FreePergen {
+            period: 32_770,
+            generator: 32_769,
+        };
+        assert_eq!(answer(&Question::Generation(pergen, 65_535)), None);
+    }
+}

@@ -1,0 +1,228 @@
+//! The questions, as the program `replay` reads them: a name and numbers with one
+//! space before each, and the room in front where a short slice is lent.
+
+use std::fmt;
+use std::fmt::Display;
+use std::fmt::Formatter;
+
+use judge::patterns::Pattern;
+use reading::Outcome;
+use reading::layouts;
+use reading::patterns;
+use reading::pergens::Pergen;
+
+/// A chain code, and the step counts of octave and tritave.
+#[derive(Clone, Copy, Debug, PartialEq, Eq, Hash)]
+pub struct Layout {
+    pub code: u16,
+    pub octave: u16,
+    pub tritave: u16,
+}
+
+/// A free period and generator.
+#[derive(Clone, Copy, Debug, PartialEq, Eq)]
+pub struct FreePergen {
+    pub period: u16,
+    pub generator: u16,
+}
+
+impl Layout {
+    /// What document 01 makes of it.
+    pub fn read(self) -> Outcome<layouts::Layout> {
+        layouts::Layout::new(self.code, self.octave, self.tritave)
+    }
+}
+
+impl FreePergen {
+    /// What document 01 makes of it.
+    pub fn read(self) -> Outcome<Pergen> {
+        Pergen::new(self.period.into(), self.generator.into())
+    }
+}
+
+/// What document 01 makes of a pattern.
+pub fn read_pattern(pattern: Pattern) -> Outcome<patterns::Pattern> {
+    patterns::Pattern::given([
+        pattern.num_primary_steps,
+        pattern.num_secondary_steps,
+        pattern.primary_step,
+        pattern.secondary_step,
+    ])
+}
+
+#[derive(Clone, Copy, Debug, PartialEq, Eq)]
+pub enum OfPattern {
+    Numbers,
+    Child,
+    Parent,
+    Genesis,
+    Dual,
+    Mirror,
+    Coprime,
+    Children,
+    Parents,
+    LayerSizes,
+    Layers,
+}
+
+impl OfPattern {
+    pub const ALL: [Self; 11] = [
+        Self::Numbers,
+        Self::Child,
+        Self::Parent,
+        Self::Genesis,
+        Self::Dual,
+        Self::Mirror,
+        Self::Coprime,
+        Self::Children,
+        Self::Parents,
+        Self::LayerSizes,
+        Self::Layers,
+    ];
+
+    fn name(self) -> &'static str {
+        match self {
+            Self::Numbers => "pattern",
+            Self::Child => "child",
+            Self::Parent => "parent",
+            Self::Genesis => "genesis",
+            Self::Dual => "dual",
+            Self::Mirror => "mirror",
+            Self::Coprime => "coprime",
+            Self::Children => "children",
+            Self::Parents => "parents",
+            Self::LayerSizes => "layer_sizes",
+            Self::Layers => "layers",
+        }
+    }
+}
+
+#[derive(Clone, Copy, Debug, PartialEq, Eq)]
+pub enum OfLayout {
+    Numbers,
+    Names,
+    KeyLayers,
+    Lamps,
+}
+
+impl OfLayout {
+    pub const ALL: [Self; 4] = [Self::Numbers, Self::Names, Self::KeyLayers, Self::Lamps];
+
+    fn name(self) -> &'static str {
+        match self {
+            Self::Numbers => "layout",
+            Self::Names => "names",
+            Self::KeyLayers => "key_layers",
+            Self::Lamps => "lamps",
+        }
+    }
+}
+
+#[derive(Clone, Debug, PartialEq, Eq)]
+pub enum Question {
+    Gcd(u16, u16),
+    Simplify(u16, u16),
+    Odd(u16),
+    Divide16(i32, u16),
+    Divide32(i32, u32),
+    Pergen(FreePergen),
+    Generation(FreePergen, u16),
+    Accidentals {
+        pergen: FreePergen,
+        num_symbols: u16,
+        genchain_origin: u16,
+        key: u16,
+    },
+    NewGenesis(FreePergen),
+    NewCollapsed(u16, u16),
+    OfPattern(OfPattern, Pattern),
+    GetKey(Pattern, i16, i16),
+    Chain(u16),
+    OfLayout(OfLayout, Layout),
+    Spelling(Layout, u16),
+    Name(Layout, u16),
+    BookLength(Layout),
+    Book(Layout),
+    /// A key looked up in a layout's book.
+    Find(Layout, u16),
+    /// A key looked up in any bytes.
+    FindIn(u32, Vec<u8>),
+    /// The line that the key table program is given, without its line feed.
+    Table(String),
+    /// A question, and how many elements the slice has that is lent for its answer.
+    InRoom(u16, Box<Question>),
+    /// A line that is no question.
+    Unreadable(&'static str),
+}
+
+impl Display for Layout {
+    fn fmt(&self, f: &mut Formatter<'_>) -> fmt::Result {
+        write!(f, "{} {} {}", self.code, self.octave, self.tritave)
+    }
+}
+
+impl Display for FreePergen {
+    fn fmt(&self, f: &mut Formatter<'_>) -> fmt::Result {
+        write!(f, "{} {}", self.period, self.generator)
+    }
+}
+
+/// The four numbers of a pattern in text.
+pub fn pattern_text(pattern: Pattern) -> String {
+    format!(
+        "{} {} {} {}",
+        pattern.num_primary_steps,
+        pattern.num_secondary_steps,
+        pattern.primary_step,
+        pattern.secondary_step
+    )
+}
+
+impl Display for Question {
+    fn fmt(&self, f: &mut Formatter<'_>) -> fmt::Result {
+        match self {
+            Self::Gcd(x, y) => write!(f, "gcd {x} {y}"),
+            Self::Simplify(x, y) => write!(f, "simplify {x} {y}"),
+            Self::Odd(x) => write!(f, "odd {x}"),
+            Self::Divide16(numer, denom) => write!(f, "divide16 {numer} {denom}"),
+            Self::Divide32(numer, denom) => write!(f, "divide32 {numer} {denom}"),
+            Self::Pergen(pergen) => write!(f, "pergen {pergen}"),
+            Self::Generation(pergen, key) => write!(f, "generation {pergen} {key}"),
+            Self::Accidentals {
+                pergen,
+                num_symbols,
+                genchain_origin,
+                key,
+            } => write!(
+                f,
+                "accidentals {pergen} {num_symbols} {genchain_origin} {key}"
+            ),
+            Self::NewGenesis(pergen) => write!(f, "new_genesis {pergen}"),
+            Self::NewCollapsed(large, small) => write!(f, "new_collapsed {large} {small}"),
+            Self::OfPattern(asked, pattern) => {
+                write!(f, "{} {}", asked.name(), pattern_text(*pattern))
+            }
+            Self::GetKey(pattern, primary, secondary) => {
+                write!(
+                    f,
+                    "get_key {} {primary} {secondary}",
+                    pattern_text(*pattern)
+                )
+            }
+            Self::Chain(code) => write!(f, "chain {code}"),
+            Self::OfLayout(asked, layout) => write!(f, "{} {layout}", asked.name()),
+            Self::Spelling(layout, key) => write!(f, "spelling {layout} {key}"),
+            Self::Name(layout, key) => write!(f, "name {layout} {key}"),
+            Self::BookLength(layout) => write!(f, "book_len {layout}"),
+            Self::Book(layout) => write!(f, "book {layout}"),
+            Self::Find(layout, key) => write!(f, "find {layout} {key}"),
+            Self::FindIn(key, book) => {
+                write!(f, "find_in {key}")?;
+                book.iter().try_for_each(|byte| write!(f, " {byte}"))
+            }
+            Self::Table(line) => write!(f, "table {line}"),
+            Self::InRoom(room, question) => write!(f, "{room} {question}"),
+            Self::Unreadable(line) => f.write_str(line),
+        }
+    }
+}
