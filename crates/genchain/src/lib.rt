@@ -6,7 +6,6 @@
 // proved of the letters.
 // Every public function here answers every input. Nothing is assumed.
 pub mod rows;
-pub mod texts;
 
 use answer::CountAnswer;
 use answer::NumberAnswer;
