@@ -1,9 +1,9 @@
 // The chains' names: parts, and no entry points. Callers have asked question 1, and 10 before they write.
-use genchain::texts;
+use text::writer::put_text;
 ghost use mathlib.Core.Path.{_≡_};
 ghost use Prim.Native.Nat.{_<_};
 ghost use lib.ListN.{length};
-ghost use Rattle.answer.specs.Writing.{Room, Wrote};
+ghost use Rattle.text.specs.Writing.{Room, Wrote};
 ghost use Rattle.genchain.specs.Chains.{chainOf};
 
 // How many bytes a chain's name has.
@@ -24,11 +24,11 @@ pub fn put_name(out: &mut [u8], code: u16) -> usize
     ensures { λ r. ⌜ Wrote (now (out .entry)) 0 (chainOf code .name) (now (out .exit)) r ⌝ }
 {
     match code {
-        0 => texts::put_text(out, 0, b"Mavila[9]"),
-        1 => texts::put_text(out, 0, b"Meantone[7]"),
-        2 => texts::put_text(out, 0, b"Meantone[5]"),
-        3 => texts::put_text(out, 0, b"Porcupine[8]"),
-        4 => texts::put_text(out, 0, b"Tetracot[7]"),
-        _ => texts::put_text(out, 0, b"Hanson[7]"),
+        0 => put_text(out, 0, b"Mavila[9]"),
+        1 => put_text(out, 0, b"Meantone[7]"),
+        2 => put_text(out, 0, b"Meantone[5]"),
+        3 => put_text(out, 0, b"Porcupine[8]"),
+        4 => put_text(out, 0, b"Tetracot[7]"),
+        _ => put_text(out, 0, b"Hanson[7]"),
     }
 }

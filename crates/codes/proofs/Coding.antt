@@ -13,11 +13,11 @@ use mir.ValLaws.{toZ-pos}
 use Rattle.answer.specs.Outcome.{Outcome, given, refused, andThen}
 use Rattle.answer.specs.Lent.{heldIn, counted, written, Filled}
 use Rattle.answer.specs.Refusals.{countOutcome}
-use Rattle.answer.specs.Writing.{Wrote}
+use Rattle.text.specs.Writing.{Wrote}
 use Rattle.answer.specs.declared.CountAnswer.{CountAnswer}
 use Rattle.answer.specs.declared.CountAnswer.the-variants as Count
 use Rattle.answer.proofs.Lent.{held, not-held}
-use Rattle.answer.proofs.Writing.{wrote-front}
+use Rattle.text.proofs.Writing.{wrote-front}
 use Rattle.math.proofs.Integers.{rep-pos, rep-neg, rep-minus, rep-agree, abs-rep}
 use Rattle.math.proofs.Signed.{read-back, abs-fits}
 use Rattle.codes.specs.Codes.{codeOf, Fills, oneHeld, oneCounted, oneWritten, FillsOne, SmallCount}

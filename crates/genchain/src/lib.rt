@@ -6,7 +6,6 @@
 // proved of the letters.
 // Every entry point answers every input; the modules of parts ask for more, as their heads say. Nothing is assumed.
 pub mod rows;
-pub mod texts;
 
 use answer::CountAnswer;
 use answer::NumberAnswer;

@@ -4,7 +4,7 @@
 ghost use mathlib.Core.Path.{_≡_};
 ghost use Prim.Native.Nat.{_<_};
 ghost use lib.ListN.{length};
-ghost use Rattle.answer.specs.Writing.{Room, Wrote};
+ghost use Rattle.text.specs.Writing.{Room, Wrote};
 ghost use Rattle.genchain.specs.Chains.{chainOf, rowOf, TableRow, lettersIn};
 
 // A chain's letters as code points, 0 past the last; how many there are; the place of key 0's letter.

@@ -7,7 +7,7 @@ use native.Mathlib.Nat.{one-mul, mul-le-mul}
 use native.Mathlib.Omega.{arith}
 use lib.Dec.{eqb, ltb}
 use borrow.Author.Tests.{eqb-true, leb-true, ltb-true}
-use Rattle.answer.proofs.Joined.{length-joined-each}
+use Rattle.text.proofs.Joined.{length-joined-each}
 use Rattle.genchain.specs.Chains.{chainOf}
 use Rattle.mos.specs.Patterns.{pick}
 use Rattle.layout.specs.Layouts.{Layout, lettersOf, Accepted}

@@ -8,9 +8,9 @@ use native.Mathlib.Omega.{arith}
 use lib.ListN.{length}
 use Rattle.answer.specs.Outcome.{given, refused}
 use Rattle.answer.specs.Lent.{Filled}
-use Rattle.answer.specs.Writing.{Wrote}
-use Rattle.answer.proofs.Lent.{held, not-held, filled-refused, filled-given}
-use Rattle.answer.proofs.Writing.{wrote-as}
+use Rattle.text.specs.Writing.{Wrote}
+use Rattle.answer.proofs.Lent.{held, not-held, filled-refused}
+use Rattle.text.proofs.Writing.{wrote-as, filled-given}
 use Rattle.math.specs.Gcd.{gcdOrOne}
 use Rattle.mos.specs.declared.Mos.{Mos}
 use Rattle.mos.specs.Patterns.{primaries, secondaries, primary, secondary, sizeOf, isPattern, cyclesOf, reducedSizeOf}

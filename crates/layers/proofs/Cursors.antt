@@ -5,9 +5,9 @@ use mathlib.Core.List.{List, [], _∷_, _++_, append-nil}
 use native.Mathlib.Nat.{add-zero, add-assoc, suc-mul, mul-le-mul-right}
 use native.Mathlib.Omega.{arith}
 use lib.ListN.{length, replicate, length-append, length-replicate}
-use Rattle.answer.specs.Writing.{Room, Wrote, joined}
-use Rattle.answer.proofs.Writing.{then, wrote-as, wrote-none, wrote-length}
-use Rattle.answer.proofs.Joined.{joined-none, joined-more}
+use Rattle.text.specs.Writing.{Room, Wrote, joined}
+use Rattle.text.proofs.Writing.{then, wrote-as, wrote-none, wrote-length}
+use Rattle.text.proofs.Joined.{joined-none, joined-more}
 use Rattle.layers.specs.declared.Cursor.{Cursor}
 use Rattle.layers.specs.Layers.{dropEmpty, numbered}
 use Rattle.layers.specs.Theorems.{sum}

@@ -5,8 +5,8 @@ use mathlib.Core.List.{List, [], _∷_, _++_, append-assoc, reverse, reverse-con
 use native.Mathlib.Nat.{add-zero, zero-add, suc-mul, zero-mul, add-sub-of-le, mul-suc, mul-add}
 use native.Mathlib.Omega.{arith}
 use lib.ListN.{length, replicate, length-append, length-replicate, replicate-append-replicate}
-use Rattle.answer.specs.Writing.{joined}
-use Rattle.answer.proofs.Joined.{joined-none, joined-more}
+use Rattle.text.specs.Writing.{joined}
+use Rattle.text.proofs.Joined.{joined-none, joined-more}
 use Rattle.layers.specs.Layers.{dropEmpty, numbered}
 use Rattle.layers.specs.Theorems.{sum}
 

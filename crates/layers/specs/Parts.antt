@@ -3,7 +3,7 @@ use Prim.Native.Nat.{ℕ, _+_, _≤_}
 use mathlib.Core.Path.{_≡_}
 use mathlib.Core.List.{List}
 use lib.ListN.{length, getD, replicate}
-use Rattle.answer.specs.Writing.{Wrote, joined}
+use Rattle.text.specs.Writing.{Wrote, joined}
 use Rattle.layers.specs.declared.Cursor.{Cursor}
 use Rattle.layers.specs.declared.Runs.{Runs}
 use Rattle.layers.specs.Layers.{dropEmpty, numbered}

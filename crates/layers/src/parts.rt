@@ -8,7 +8,7 @@ ghost use mathlib.Core.Path.{_≡_};
 ghost use mathlib.Core.Bool.{true};
 ghost use Prim.Native.Nat.{min, _+_, _*_, _-_, _/_, _≤_, _<_};
 ghost use lib.ListN.{length, replicate};
-ghost use Rattle.answer.specs.Writing.{Room, Wrote};
+ghost use Rattle.text.specs.Writing.{Room, Wrote};
 ghost use Rattle.mos.specs.Patterns.{isPattern, primaries, secondaries, primary, secondary, cyclesOf};
 ghost use Rattle.layers.specs.Layers.{holding, allSizes, dropEmpty, numbered};
 ghost use Rattle.layers.specs.Theorems.{sum};

@@ -9,7 +9,7 @@ use borrow.Author.Tests.{lt-ltb, le-ltb, eq-eqb}
 use native.Mathlib.Nat.{eq-zero-or-pos, mod-eq-of-lt, div-eq-of-lt, div-add-mod', le-div-iff-mul-le, mul-le-mul, mul-le-mul-right, le-refl, mul-comm, add-mul, mul-add, one-mul, zero-mul, zero-add}
 use mathlib.Core.Logic.{_⊎_, inl, inr}
 use native.Mathlib.Omega.{arith}
-use Rattle.answer.specs.Writing.{joined}
+use Rattle.text.specs.Writing.{joined}
 use Rattle.genchain.specs.Chains.{lettersIn}
 use Rattle.genchain.proofs.TableRows.{row-count-small}
 use Rattle.notes.specs.Names.{letterText, letterAt, letterAlone, spellingText, printed, nameText}

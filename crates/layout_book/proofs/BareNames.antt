@@ -9,8 +9,8 @@ use lib.ListN.{length, replicate, length-append, length-replicate}
 use borrow.Author.Tests.{lt-ltb, le-ltb, ltb-true, ltb-false}
 use native.Mathlib.Nat.{mod-eq-sub-mod, mod-eq-of-lt, mod-lt}
 use native.Mathlib.Omega.{arith}
-use Rattle.answer.specs.Writing.{joined}
-use Rattle.answer.proofs.Joined.{joined-blocks}
+use Rattle.text.specs.Writing.{joined}
+use Rattle.text.proofs.Joined.{joined-blocks}
 use Rattle.genchain.specs.Chains.{lettersIn}
 use Rattle.layout.proofs.Finding.{start-below}
 use Rattle.notes.specs.Names.{letterAlone, printed, pickSpellings, inOrder, spellingText, spellingsText, nameText}

@@ -5,9 +5,10 @@ use mathlib.Core.List.{List, _++_}
 use lib.ListN.{length}
 use Rattle.answer.specs.Outcome.{Outcome, given, refused, andThen}
 use Rattle.answer.specs.Lent.{heldIn, counted}
-use Rattle.answer.specs.Writing.{joined}
-use Rattle.answer.proofs.Joined.{joined-same}
-use Rattle.book.specs.Books.{le32, pairText, bookText}
+use Rattle.text.specs.Writing.{joined}
+use Rattle.text.proofs.Joined.{joined-same}
+use Rattle.book.specs.Books.{pairText, bookText}
+use Rattle.text.specs.LittleEndian.{le32}
 use Rattle.book.proofs.Written.{pair-is, book-is}
 use Rattle.layout.specs.declared.IsomorphicLayout.{IsomorphicLayout}
 use Rattle.layout.specs.Layouts.{Layout, layoutOutcome}

@@ -5,10 +5,11 @@ use native.Mathlib.Omega.{arith}
 use mathlib.Core.Path.{_≡_, sym, ap, ap₂, _∙_}
 use mathlib.Core.List.{List, _++_, append-nil}
 use lib.ListN.{length, replicate, length-append}
-use Rattle.answer.specs.Writing.{joined}
-use Rattle.answer.proofs.Joined.{joined-none, joined-same, joined-add, length-joined-each}
-use Rattle.book.specs.Books.{le32, pairText}
-use Rattle.book.proofs.Numbers.{length-le32}
+use Rattle.text.specs.Writing.{joined}
+use Rattle.text.proofs.Joined.{joined-none, joined-same, joined-add, length-joined-each}
+use Rattle.book.specs.Books.{pairText}
+use Rattle.text.specs.LittleEndian.{le32}
+use Rattle.text.proofs.FourBytes.{length-le32}
 use Rattle.book.proofs.Written.{pair-is}
 use Rattle.genchain.specs.Chains.{lettersIn}
 use Rattle.notes.specs.Parts.{bodyText, starredText, planText, Planned}

@@ -3,8 +3,8 @@ use Prim.Native.Nat.{ℕ, _+_, _*_, _≤_, _<_}
 use mathlib.Core.Path.{_≡_, sym, ap, ap₂, _∙_}
 use native.Mathlib.Omega.{arith}
 use lib.ListN.{length, getD}
-use Rattle.answer.specs.Writing.{joined}
-use Rattle.answer.proofs.Joined.{joined-none, length-joined-more}
+use Rattle.text.specs.Writing.{joined}
+use Rattle.text.proofs.Joined.{joined-none, length-joined-more}
 use Rattle.genchain.specs.Chains.{TableRow, lettersIn}
 use Rattle.genchain.specs.declared.rows.ChainRow.{ChainRow}
 use Rattle.notes.specs.Names.{letterText}

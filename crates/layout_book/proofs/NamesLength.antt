@@ -4,7 +4,7 @@ use mathlib.Core.Path.{_≡_, sym, ap, _∙_}
 use native.Mathlib.Nat.{mul-le-mul}
 use native.Mathlib.Omega.{arith}
 use lib.ListN.{length}
-use Rattle.answer.specs.Writing.{joined}
+use Rattle.text.specs.Writing.{joined}
 use Rattle.layout_book.specs.Parts.{nameOf, bareAt, Sound, NamesMeasured}
 use Rattle.layout_book.specs.declared.parts.Speller.{Speller}
 use Rattle.layout_book.proofs.Spelled.{few-cycles, name-short}

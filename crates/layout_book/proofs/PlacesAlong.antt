@@ -8,8 +8,8 @@ use lib.ListN.{length, getD}
 use borrow.Author.Tests.{ltb-true, ltb-false, lt-ltb, le-ltb}
 use native.Mathlib.Nat.{mod-lt, mod-self, mod-eq-of-lt, div-self, div-eq-of-lt, div-add-mod', mul-comm, mul-one, mul-le-mul, le-refl}
 use native.Mathlib.Omega.{arith}
-use Rattle.answer.specs.Writing.{joined}
-use Rattle.answer.proofs.Joined.{joined-none, length-joined-more}
+use Rattle.text.specs.Writing.{joined}
+use Rattle.text.proofs.Joined.{joined-none, length-joined-more}
 use Rattle.genchain.specs.Chains.{lettersIn}
 use Rattle.notes.specs.Names.{nameText}
 use Rattle.notes.specs.Parts.{LettersOf}

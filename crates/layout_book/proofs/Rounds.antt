@@ -5,7 +5,7 @@ use mathlib.Core.List.{List}
 use lib.ListN.{length, length-append}
 use native.Mathlib.Nat.{mul-suc, suc-mul, mul-add, mul-zero, zero-mul, mul-one, mul-comm, mul-left-comm, add-zero, add-suc}
 use native.Mathlib.Omega.{arith}
-use Rattle.answer.specs.Writing.{joined}
+use Rattle.text.specs.Writing.{joined}
 use Rattle.layout_book.proofs.Turning.{sum, sum-same}
 
 pub length-joined-sum : (f : ℕ → List ℕ) (k : ℕ) → length (joined f k) ≡ sum (λ (i : ℕ). length (f i)) k

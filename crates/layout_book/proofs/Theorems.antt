@@ -5,8 +5,8 @@ use native.Mathlib.Nat.{mul-suc}
 use mathlib.Core.Path.{_≡_, refl, sym, ap, _∙_, subst}
 use mathlib.Core.List.{List}
 use lib.ListN.{length, length-append}
-use Rattle.answer.specs.Writing.{joined}
-use Rattle.answer.proofs.Joined.{length-joined-more, length-joined-le}
+use Rattle.text.specs.Writing.{joined}
+use Rattle.text.proofs.Joined.{length-joined-more, length-joined-le}
 use Rattle.book.specs.Books.{bookText}
 use Rattle.book.specs.Theorems.{Writable}
 use Rattle.book.proofs.Written.{length-book, books-read-back}

@@ -5,8 +5,8 @@ use native.Mathlib.Omega.{arith}
 use mathlib.Core.Path.{_≡_, refl, sym, ap, _∙_, subst}
 use mathlib.Core.List.{List, _++_}
 use lib.ListN.{length, length-append}
-use Rattle.answer.specs.Writing.{Room, joined}
-use Rattle.answer.proofs.Joined.{joined-add, length-joined-le}
+use Rattle.text.specs.Writing.{Room, joined}
+use Rattle.text.proofs.Joined.{joined-add, length-joined-le}
 use Rattle.book.specs.Books.{pairText}
 use Rattle.book.proofs.Written.{length-pairs}
 use Rattle.genchain.specs.Chains.{lettersIn}

@@ -4,8 +4,8 @@ use mathlib.Core.Path.{_≡_}
 use mathlib.Core.List.{List, _++_}
 use lib.Dec.{ltb}
 use lib.ListN.{length}
-use Rattle.answer.specs.Writing.{Room, Wrote, joined}
-use Rattle.book.specs.Books.{le32}
+use Rattle.text.specs.Writing.{Room, Wrote, joined}
+use Rattle.text.specs.LittleEndian.{le32}
 use Rattle.genchain.specs.Chains.{TableRow, lettersIn}
 use Rattle.genchain.specs.declared.rows.ChainRow.{ChainRow}
 use Rattle.layout.specs.Layouts.{Layout}

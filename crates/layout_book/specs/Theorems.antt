@@ -1,7 +1,7 @@
 -- What holds of the book of every accepted layout. Proofs: proofs/.
 use Prim.Native.Nat.{ℕ, _+_, _*_, _≤_, _<_}
 use lib.ListN.{length}
-use Rattle.answer.specs.Writing.{joined}
+use Rattle.text.specs.Writing.{joined}
 use Rattle.book.specs.Theorems.{ReadBack}
 use Rattle.layout.specs.Layouts.{Layout, Accepted}
 use Rattle.layout.specs.Names.{nameIn}

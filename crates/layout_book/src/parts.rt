@@ -4,7 +4,6 @@
 // it can be; the names are written turn by turn, each degree's planned once for all cycles.
 use answer::CountAnswer;
 use answer::Refusal;
-use book::writer::put_u32;
 use genchain::rows::ChainRow;
 use layout::IsomorphicLayout;
 use layout::parts::Found;
@@ -19,13 +18,14 @@ use pergen::euclid;
 use pergen::euclid::Solved;
 use pergen::stepping;
 use pergen::stepping::Step;
+use text::little_endian::put_u32;
 ghost use mathlib.Core.Path.{_≡_};
 ghost use Prim.Native.Nat.{ℕ, _+_, _*_, _-_, _/_, _%_, _<_, _≤_};
 ghost use mathlib.Core.List.{List, _++_};
 ghost use lib.ListN.{length};
 ghost use Rattle.answer.specs.Lent.{heldIn, Filled};
 ghost use Rattle.answer.specs.Refusals.{countOutcome};
-ghost use Rattle.answer.specs.Writing.{Room, Wrote, joined};
+ghost use Rattle.text.specs.Writing.{Room, Wrote, joined};
 ghost use Rattle.book.specs.Books.{pairText, bookText};
 ghost use Rattle.genchain.specs.Chains.{chainOf, rowOf, TableRow, lettersIn};
 ghost use Rattle.layout.specs.Layouts.{Accepted};

@@ -7,8 +7,8 @@ use native.Mathlib.Nat.{add-comm, mul-add, add-mul, mul-assoc, mul-comm, mul-lef
 use native.Mathlib.Decide.{decLt}
 use native.Mathlib.Omega.{arith}
 use lib.ListN.{length, getD, replicate, length-replicate}
-use Rattle.answer.specs.Writing.{joined}
-use Rattle.answer.proofs.Joined.{joined-none}
+use Rattle.text.specs.Writing.{joined}
+use Rattle.text.proofs.Joined.{joined-none}
 use Rattle.layers.specs.declared.Runs.{Runs}
 use Rattle.layers.specs.Layers.{dropEmpty}
 use Rattle.layers.specs.Parts.{runAt, runSizes}

@@ -8,8 +8,8 @@ use native.Mathlib.Omega.{arith}
 use lib.ListN.{length, getD}
 use lib.Dec.{eqb}
 use borrow.Author.Tests.{eq-eqb, ne-eqb, lt-ltb, le-ltb}
-use Rattle.answer.specs.Writing.{joined}
-use Rattle.answer.proofs.Joined.{joined-same}
+use Rattle.text.specs.Writing.{joined}
+use Rattle.text.proofs.Joined.{joined-same}
 use Rattle.genchain.specs.Chains.{chainOf, rowOf}
 use Rattle.genchain.specs.declared.rows.ChainRow.{ChainRow}
 use Rattle.mos.specs.Patterns.{pick, primaries, secondaries, primary, secondary, isPattern, cyclesOf}

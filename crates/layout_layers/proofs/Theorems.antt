@@ -7,7 +7,7 @@ use mathlib.Core.List.{List, [], _∷_, _++_, reverse}
 use native.Mathlib.Nat.{mod-lt, mod-eq-of-lt, add-mod-mod, add-mod-right, add-zero, zero-div, zero-mod, zero-add, mul-zero, zero-mul, one-mul, div-add-mod', div-lt-iff-lt-mul, mul-le-mul-right, le-div-iff-mul-le, le-of-dvd, dvd-refl, dvd-antisymm, add-mul, mul-assoc, mul-comm, mul-div-cancel, add-mul-div-right, add-mul-mod-self-right, add-mul-mod-self-left}
 use native.Mathlib.Omega.{arith}
 use lib.ListN.{length, getD, replicate, length-replicate, getD-replicate, List·getD-append}
-use Rattle.answer.proofs.Joined.{length-joined-each}
+use Rattle.text.proofs.Joined.{length-joined-each}
 use lib.Dec.{eqb}
 use borrow.Author.Tests.{eqb-true}
 use Rattle.math.specs.Gcd.{gcdOrOne}

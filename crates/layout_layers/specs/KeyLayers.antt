@@ -5,7 +5,7 @@ use mathlib.Core.Bool.{Bool}
 use mathlib.Core.List.{List, [], _∷_}
 use lib.ListN.{length, getD}
 use lib.Dec.{eqb, ltb}
-use Rattle.answer.specs.Writing.{joined}
+use Rattle.text.specs.Writing.{joined}
 use Rattle.genchain.specs.Chains.{chainOf}
 use Rattle.mos.specs.declared.Mos.{Mos}
 use Rattle.mos.specs.Patterns.{pick, primary, secondary, secondaries}

@@ -10,8 +10,9 @@ use lib.Dec.{leb}
 use borrow.Author.Tests.{le-leb, leb-true}
 use Rattle.answer.specs.Outcome.{given, refused}
 use Rattle.answer.specs.Lent.{Filled}
-use Rattle.answer.specs.Writing.{Room, Wrote}
-use Rattle.answer.proofs.Lent.{filled-refused, filled-given}
+use Rattle.text.specs.Writing.{Room, Wrote}
+use Rattle.answer.proofs.Lent.{filled-refused}
+use Rattle.text.proofs.Writing.{filled-given}
 use Rattle.mos.specs.declared.Mos.{Mos}
 use Rattle.mos.specs.Patterns.{isPattern}
 use Rattle.mos.specs.Walks.{listed}

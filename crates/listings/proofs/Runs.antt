@@ -7,8 +7,8 @@ use mathlib.Core.List.{List, [], _∷_, _++_, append-assoc, append-nil}
 use native.Mathlib.Nat.{le-refl}
 use native.Mathlib.Omega.{arith}
 use lib.ListN.{length, length-append}
-use Rattle.answer.specs.Writing.{Room, Wrote}
-use Rattle.answer.proofs.Writing.{then, wrote-as, wrote-none, wrote-length}
+use Rattle.text.specs.Writing.{Room, Wrote}
+use Rattle.text.proofs.Writing.{then, wrote-as, wrote-none, wrote-length}
 use Rattle.mos.specs.declared.Mos.{Mos}
 use Rattle.mos.specs.Patterns.{isPattern}
 use Rattle.mos.specs.Walks.{onward, fields, listed}

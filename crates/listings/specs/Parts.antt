@@ -4,7 +4,7 @@ use mathlib.Core.Path.{_≡_}
 use mathlib.Core.Bool.{true}
 use mathlib.Core.List.{List, _++_}
 use lib.ListN.{length}
-use Rattle.answer.specs.Writing.{Wrote}
+use Rattle.text.specs.Writing.{Wrote}
 use Rattle.mos.specs.declared.Mos.{Mos}
 use Rattle.mos.specs.Patterns.{isPattern, stepsOf}
 use Rattle.mos.specs.Walks.{children, listed}

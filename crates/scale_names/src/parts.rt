@@ -1,15 +1,15 @@
 // The table of scale names: parts, and no entry points. Callers have asked question 1, and 10 before they write.
 use answer::CountAnswer;
 use answer::Refusal;
-use genchain::texts;
 use mos::Mos;
+use text::writer::put_text;
 ghost use mathlib.Core.Path.{_≡_};
 ghost use Prim.Native.Nat.{_<_, _≤_};
 ghost use lib.ListN.{length, getD};
 ghost use mathlib.Core.List.{[]};
 ghost use Rattle.answer.specs.Lent.{heldIn, Filled};
 ghost use Rattle.answer.specs.Refusals.{countOutcome};
-ghost use Rattle.answer.specs.Writing.{Room, Wrote};
+ghost use Rattle.text.specs.Writing.{Room, Wrote};
 ghost use Rattle.layout.specs.ScaleNames.{scaleName};
 ghost use Rattle.scale_names.specs.Parts.{scaleTexts, scalePlace, scaleRowOf, textIn};
 
@@ -123,7 +123,7 @@ pub fn put_scale(out: &mut [u8], row: ScaleRow) -> usize
 {
     let text = row.text;
     let count = row.length as usize;
-    texts::put_text(out, 0, &text[..count])
+    put_text(out, 0, &text[..count])
 }
 
 // The name in a row at the front of a slice that holds it (10).

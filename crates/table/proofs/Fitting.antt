@@ -21,7 +21,7 @@ use Rattle.layout_layers.proofs.Counts.{signs-by-count}
 use Rattle.lamps.specs.Lamps.{lampIn, hasLampsIn}
 use Rattle.lamps.proofs.Theorems.{few-numbers, lamps-bound-the-octave, codes-fit-bytes}
 use Rattle.layout_book.proofs.Theorems.{short-texts}
-use Rattle.line.proofs.Digits.{digits-length}
+use Rattle.text.proofs.Digits.{digits-length}
 use Rattle.line.specs.Lines.{isLine, lineOutcome}
 use Rattle.line.specs.declared.Line.{Line}
 use Rattle.table.specs.Tables.{keyLine, tableIn, getTable, layoutOn, lineTable, refusalLine, outputOf, output}

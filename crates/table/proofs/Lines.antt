@@ -4,8 +4,8 @@ use mathlib.Core.Path.{_≡_, refl, ap}
 use mathlib.Core.List.{List, [], _∷_, _++_}
 use native.Mathlib.Omega.{arith}
 use lib.ListN.{length, length-append, getD}
-use Rattle.answer.specs.Writing.{joined}
-use Rattle.line.specs.Decimal.{digits}
+use Rattle.text.specs.Writing.{joined}
+use Rattle.text.specs.Decimal.{digits}
 use Rattle.line.specs.Lines.{space, lineFeed}
 use Rattle.layout_book.specs.declared.parts.Speller.{Speller}
 use Rattle.layout_book.specs.Parts.{nameOf}

@@ -2,13 +2,13 @@
 use Prim.Native.Nat.{ℕ}
 use mathlib.Core.List.{List, [], _∷_, _++_}
 use Rattle.answer.specs.Outcome.{Outcome, given, refused, ask, andThen}
-use Rattle.answer.specs.Writing.{joined}
+use Rattle.text.specs.Writing.{joined}
 use Rattle.lamps.specs.Lamps.{lampOf, hasLamps, lampIn, hasLampsIn}
 use Rattle.layout.specs.declared.IsomorphicLayout.{IsomorphicLayout}
 use Rattle.layout.specs.Layouts.{Layout, layoutOutcome}
 use Rattle.layout.specs.Names.{nameIn}
 use Rattle.layout.specs.Answers.{ofLayout}
-use Rattle.line.specs.Decimal.{digits}
+use Rattle.text.specs.Decimal.{digits}
 use Rattle.line.specs.Lines.{space, lineFeed, lineOutcome}
 use Rattle.line.specs.declared.Line.{Line}
 

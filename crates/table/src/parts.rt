@@ -3,23 +3,23 @@
 // Row, pergen and lamps are read and solved once for all keys; degree and cycle are carried from key to key.
 use answer::CountAnswer;
 use answer::Refusal;
-use answer::writer::put_byte;
 use genchain::rows;
-use genchain::texts::put_text;
 use layout::IsomorphicLayout;
 use layout::parts::Found;
 use layout::parts::FoundAnswer;
 use layout_book::parts::Speller;
-use line::decimal;
 use notes::plans::NamePlan;
 use notes::texts;
 use pergen::stepping;
+use text::decimal;
+use text::writer::put_byte;
+use text::writer::put_text;
 ghost use mathlib.Core.Path.{_≡_};
 ghost use Prim.Native.Nat.{_*_, _≤_};
 ghost use lib.ListN.{length};
 ghost use Rattle.answer.specs.Lent.{heldIn, Filled};
 ghost use Rattle.answer.specs.Refusals.{countOutcome};
-ghost use Rattle.answer.specs.Writing.{Room, Wrote, joined};
+ghost use Rattle.text.specs.Writing.{Room, Wrote, joined};
 ghost use Rattle.layout.specs.Parts.{layoutOf};
 ghost use Rattle.notes.specs.Parts.{planText, ShortLetters};
 ghost use Rattle.table.specs.Tables.{keyLine, tableIn, refusalLine};

@@ -2,7 +2,8 @@
 use mathlib.Core.Path.{refl, ap}
 use native.Mathlib.Omega.{arith}
 use Rattle.answer.specs.Outcome.{given}
-use Rattle.answer.proofs.Lent.{filled-refused, filled-given}
+use Rattle.answer.proofs.Lent.{filled-refused}
+use Rattle.text.proofs.Writing.{filled-given}
 use Rattle.genchain.proofs.Calls.{name-no-chain, name-not-held, name-held}
 use borrow.Author.Needs.{needs}
 use Rattle.chain_names.proofs.name.Statement.{statement}

@@ -5,8 +5,8 @@ use native.Mathlib.Omega.{arith}
 use lib.ListN.{length, take, length-set}
 use mir.Syntax.{w64}
 use mir.ValLaws.{toZ-pos}
-use Rattle.answer.specs.Writing.{Wrote}
-use Rattle.answer.proofs.Copying.{copy-start, copy-more, copied}
+use Rattle.text.specs.Writing.{Wrote}
+use Rattle.text.proofs.Copying.{copy-start, copy-more, copied}
 use Rattle.codes.proofs.Coding.{coded, fills-short, fills-given}
 use borrow.Author.Needs.{needs}
 use Rattle.codes.proofs.put.Statement.{statement}

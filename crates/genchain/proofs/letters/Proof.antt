@@ -3,8 +3,8 @@ use mathlib.Core.Path.{refl, ap}
 use Prim.Native.Nat.{ℕ}
 use native.Mathlib.Omega.{arith}
 use Rattle.answer.specs.Outcome.{given}
-use Rattle.answer.proofs.Writing.{wrote-as}
-use Rattle.answer.proofs.Lent.{filled-refused, filled-given}
+use Rattle.text.proofs.Writing.{wrote-as, filled-given}
+use Rattle.answer.proofs.Lent.{filled-refused}
 use Rattle.genchain.proofs.TableRows.{table-row, row-count, row-letters, length-letters-in}
 use Rattle.genchain.proofs.Calls.{letters-no-chain, letters-not-held, letters-held}
 use borrow.Author.Needs.{needs}

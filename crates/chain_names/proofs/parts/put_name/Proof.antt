@@ -2,7 +2,7 @@
 use mathlib.Core.Path.{_≡_, sym, ap}
 use native.Mathlib.Omega.{arith}
 use lib.ListN.{length}
-use Rattle.answer.proofs.Writing.{wrote-as}
+use Rattle.text.proofs.Writing.{wrote-as}
 use Rattle.genchain.specs.Chains.{chainOf}
 use Rattle.genchain.proofs.ChainNames.{name-at, last-code}
 use borrow.Author.Needs.{needs}

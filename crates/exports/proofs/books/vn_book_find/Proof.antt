@@ -1,6 +1,6 @@
 -- Question 10, the questions 11 to 13 of the book, then the two numbers in the first two places.
 use mathlib.Core.Path.{refl, sym, ap, _∙_}
-use Rattle.answer.proofs.Writing.{wrote-one, then}
+use Rattle.text.proofs.Writing.{wrote-one, then}
 use Rattle.book.specs.Answers.{findAnswered}
 use Rattle.codes.specs.Numbers.{asNumbers}
 use Rattle.exports.specs.Written.{placeNumbers}

@@ -6,7 +6,7 @@ use native.Mathlib.Omega.{arith}
 use borrow.Author.Needs.{needs}
 use lib.ListN.{length}
 use Prim.Native.Nat.{ℕ}
-use Rattle.answer.specs.Writing.{joined}
+use Rattle.text.specs.Writing.{joined}
 use Rattle.layers.specs.Layers.{dropEmpty}
 use Rattle.layers.specs.Parts.{runAt}
 use Rattle.layers.proofs.Sizes.{count-none, count-more}

@@ -4,7 +4,7 @@ use mathlib.Core.Path.{ap, subst, _∙_}
 use native.Mathlib.Nat.{le-antisymm, zero-add}
 use native.Mathlib.Omega.{arith}
 use lib.ListN.{getD}
-use Rattle.answer.specs.Writing.{Wrote, joined}
+use Rattle.text.specs.Writing.{Wrote, joined}
 use Rattle.layers.specs.Layers.{dropEmpty, numbered}
 use Rattle.layers.specs.Parts.{runAt, Laid}
 use Rattle.layers.proofs.Sizes.{sum-replicate}

@@ -4,9 +4,9 @@ use mathlib.Core.Path.{_≡_, sym, ap, subst, _∙_}
 use mathlib.Core.List.{List}
 use native.Mathlib.Nat.{le-antisymm, zero-add}
 use native.Mathlib.Omega.{arith}
-use Rattle.answer.specs.Writing.{Room, Wrote, joined}
-use Rattle.answer.proofs.Writing.{wrote-as, wrote-length}
-use Rattle.answer.proofs.Joined.{joined-start, joined-step, joined-room}
+use Rattle.text.specs.Writing.{Room, Wrote, joined}
+use Rattle.text.proofs.Writing.{wrote-as, wrote-length}
+use Rattle.text.proofs.Joined.{joined-start, joined-step, joined-room}
 use Rattle.layers.specs.Layers.{dropEmpty}
 use Rattle.layers.specs.Parts.{runAt}
 use Rattle.layers.proofs.Sizes.{drop-joined}

@@ -4,8 +4,8 @@ use Prim.Native.Nat.{_+_, _≤_, _-_}
 use native.Mathlib.Nat.{le-antisymm}
 use native.Mathlib.Omega.{arith}
 use lib.ListN.{length, replicate, length-replicate, length-set}
-use Rattle.answer.specs.Writing.{Wrote}
-use Rattle.answer.proofs.Writing.{wrote-none, run-more}
+use Rattle.text.specs.Writing.{Wrote}
+use Rattle.text.proofs.Writing.{wrote-none, run-more}
 use Rattle.layers.proofs.parts.put_run.Statement.{statement}
 use Rattle.layers.proofs.parts.put_run.Tie as tie
 

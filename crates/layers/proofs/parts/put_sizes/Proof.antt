@@ -1,7 +1,7 @@
 -- A run of empty layers is dropped; any other is written whole.
 use mathlib.Core.Path.{sym, subst}
-use Rattle.answer.specs.Writing.{Room}
-use Rattle.answer.proofs.Writing.{wrote-as, wrote-none}
+use Rattle.text.specs.Writing.{Room}
+use Rattle.text.proofs.Writing.{wrote-as, wrote-none}
 use Rattle.layers.proofs.Sizes.{drop-none, drop-all}
 use borrow.Author.Needs.{needs}
 use Rattle.layers.proofs.parts.put_sizes.Statement.{statement}

@@ -8,8 +8,8 @@ use Rattle.layout.specs.Parts.{layoutOf}
 use mathlib.Core.Path.{refl, ap}
 use native.Mathlib.Omega.{arith}
 use Rattle.answer.specs.Outcome.{given}
-use Rattle.answer.proofs.Writing.{wrote-as}
-use Rattle.answer.proofs.Lent.{held, not-held, filled-refused, filled-given}
+use Rattle.text.proofs.Writing.{wrote-as, filled-given}
+use Rattle.answer.proofs.Lent.{held, not-held, filled-refused}
 use Rattle.layout.proofs.Calls.{planned-length}
 use borrow.Author.Needs.{needs}
 use Rattle.layout.proofs.parts.write_name.Statement.{statement}

@@ -5,7 +5,7 @@ use native.Mathlib.Nat.{le-antisymm}
 use native.Mathlib.Omega.{arith}
 use lib.ListN.{length}
 use borrow.Author.Needs.{needs}
-use Rattle.answer.specs.Writing.{joined}
+use Rattle.text.specs.Writing.{joined}
 use Rattle.genchain.proofs.TableRows.{row-count-small}
 use Rattle.layout_book.specs.Parts.{letterIn}
 use Rattle.layout_book.proofs.LettersRead.{LettersAdded, letters-none, letters-more}

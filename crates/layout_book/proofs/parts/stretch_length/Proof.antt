@@ -5,7 +5,7 @@ use native.Mathlib.Nat.{le-antisymm, le-refl, div-le-self}
 use native.Mathlib.Omega.{arith}
 use lib.ListN.{length}
 use borrow.Author.Needs.{needs}
-use Rattle.answer.specs.Writing.{joined}
+use Rattle.text.specs.Writing.{joined}
 use Rattle.genchain.proofs.TableRows.{row-count-small}
 use Rattle.math.proofs.Congruence.{mod-room}
 use Rattle.notes.proofs.RowLetters.{letter-small}

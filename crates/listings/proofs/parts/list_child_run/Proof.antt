@@ -4,7 +4,7 @@ use mathlib.Core.Path.{_≡_}
 use mathlib.Core.Bool.{true}
 use mathlib.Core.Option.{some}
 use borrow.Author.Needs.{needs}
-use Rattle.answer.proofs.Writing.{wrote-length}
+use Rattle.text.proofs.Writing.{wrote-length}
 use Rattle.mos.specs.declared.Mos.{Mos}
 use Rattle.mos.specs.Patterns.{isPattern, stepsOf, childOf}
 use Rattle.mos.specs.Walks.{children}

@@ -4,7 +4,8 @@ use Prim.Native.Nat.{_≤_, _<_}
 use native.Mathlib.Omega.{arith}
 use lib.ListN.{length}
 use Rattle.answer.specs.Outcome.{given}
-use Rattle.answer.proofs.Lent.{held, not-held, filled-refused, filled-given}
+use Rattle.answer.proofs.Lent.{held, not-held, filled-refused}
+use Rattle.text.proofs.Writing.{filled-given}
 use Rattle.scale_names.proofs.ScaleTable.{text-length}
 use mathlib.Core.Path.{refl, sym, ap}
 use borrow.Author.Needs.{needs}

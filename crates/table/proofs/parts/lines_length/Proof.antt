@@ -3,7 +3,7 @@ use Prim.Native.Nat.{ℕ}
 use mathlib.Core.Path.{sym, ap, _∙_}
 use native.Mathlib.Omega.{arith}
 use lib.ListN.{length}
-use Rattle.answer.specs.Writing.{joined}
+use Rattle.text.specs.Writing.{joined}
 use Rattle.layout_book.specs.Parts.{nameOf}
 use Rattle.table.proofs.Lines.{length-lines}
 use borrow.Author.Needs.{needs}

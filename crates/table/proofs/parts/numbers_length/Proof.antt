@@ -5,15 +5,15 @@ use native.Mathlib.Nat.{le-antisymm}
 use native.Mathlib.Omega.{arith}
 use lib.ListN.{length}
 use borrow.Author.Needs.{needs}
-use Rattle.answer.specs.Writing.{joined}
-use Rattle.answer.proofs.Joined.{joined-none, length-joined-more}
+use Rattle.text.specs.Writing.{joined}
+use Rattle.text.proofs.Joined.{joined-none, length-joined-more}
 use Rattle.table.specs.Parts.{numbersLine}
 use Rattle.table.proofs.Lines.{length-numbers}
 use Rattle.table.proofs.parts.numbers_length.Statement.{statement}
 use Rattle.table.proofs.parts.numbers_length.Tie as tie
 use Rattle.table.proofs.parts.numbers_length.Reads as reads
 use Rattle.table.proofs.parts.numbers_length.Lts as lts
-use Rattle.line.proofs.decimal.number_len.Reads as number-len-reads
+use Rattle.text.proofs.decimal.number_len.Reads as number-len-reads
 
 abbrev Inv-loop : tie.InvT-loop
 Inv-loop strip keys total₀ key₀ total key = (total ≡ length (joined (numbersLine strip) key)) × (total ≤ 13 * key) × (key ≤ keys)

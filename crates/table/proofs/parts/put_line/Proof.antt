@@ -2,7 +2,7 @@
 use Rattle.notes.specs.Parts.{planText}
 use Rattle.table.specs.Tables.{keyLine}
 use native.Mathlib.Omega.{arith}
-use Rattle.answer.proofs.Writing.{then, room-next}
+use Rattle.text.proofs.Writing.{then, room-next}
 use Rattle.table.proofs.Lines.{length-line}
 use borrow.Author.Needs.{needs}
 use Rattle.table.proofs.parts.put_line.Statement.{statement}

@@ -5,9 +5,9 @@ use native.Mathlib.Nat.{le-antisymm}
 use native.Mathlib.Omega.{arith}
 use lib.ListN.{length}
 use borrow.Author.Needs.{needs}
-use Rattle.answer.specs.Writing.{Wrote, joined}
-use Rattle.answer.proofs.Writing.{wrote-as, wrote-length}
-use Rattle.answer.proofs.Joined.{joined-start, joined-step, joined-room}
+use Rattle.text.specs.Writing.{Wrote, joined}
+use Rattle.text.proofs.Writing.{wrote-as, wrote-length}
+use Rattle.text.proofs.Joined.{joined-start, joined-step, joined-room}
 use Rattle.layout_book.proofs.Spelled.{on-walk, name-planned}
 use Rattle.pergen.specs.Parts.{At}
 use Rattle.pergen.proofs.CarriedWalk.{at-next}

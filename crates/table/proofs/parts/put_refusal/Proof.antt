@@ -1,6 +1,6 @@
 -- Three texts, one after the other.
 use native.Mathlib.Omega.{arith}
-use Rattle.answer.proofs.Writing.{then}
+use Rattle.text.proofs.Writing.{then}
 use Rattle.table.specs.Tables.{refusalLine}
 use Rattle.table.proofs.Lines.{length-refusal}
 use borrow.Author.Needs.{needs}

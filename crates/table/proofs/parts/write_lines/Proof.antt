@@ -3,8 +3,9 @@ use mathlib.Core.Path.{refl, ap}
 use native.Mathlib.Omega.{arith}
 use lib.ListN.{length}
 use Rattle.answer.specs.Outcome.{given}
-use Rattle.answer.specs.Writing.{joined}
-use Rattle.answer.proofs.Lent.{held, not-held, filled-refused, filled-given}
+use Rattle.text.specs.Writing.{joined}
+use Rattle.answer.proofs.Lent.{held, not-held, filled-refused}
+use Rattle.text.proofs.Writing.{filled-given}
 use Rattle.table.specs.Parts.{lineOf}
 use borrow.Author.Needs.{needs}
 use Rattle.table.proofs.parts.write_lines.Statement.{statement}
