@@ -21,7 +21,7 @@ pub fn scale_name_len(layout: IsomorphicLayout) -> CountAnswer
     match layout::parts::search(layout) {
         FoundAnswer::Refused(q) => CountAnswer::Refused(q),
         FoundAnswer::Given(found) => {
-            let row = parts::scale_row(layout.genchain, found.pattern);
+            let row = parts::scale_row(found.chain, found.pattern);
             CountAnswer::Given(row.length as usize)
         }
     }
@@ -34,7 +34,7 @@ pub fn get_scale_name(layout: IsomorphicLayout, out: &mut [u8]) -> CountAnswer
     match layout::parts::search(layout) {
         FoundAnswer::Refused(q) => CountAnswer::Refused(q),
         FoundAnswer::Given(found) => parts::write_scale(
-            parts::scale_row(layout.genchain, found.pattern),
+            parts::scale_row(found.chain, found.pattern),
             out,
         ),
     }
