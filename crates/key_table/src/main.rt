@@ -105,7 +105,7 @@ fn write_output(text: &[u8], line: &[u8], input: Input) -> bool
 fn print(line: &[u8], input: Input) -> bool
     requires { ⌜ LineRead (now line) input ⌝ }
 {
-    let mut out: [u8; 524288] = [0; 524288];
+    let mut out: [u8; 403596] = [0; 403596];
     let bytes = answered(&line[..kept(input)], &mut out);
     write_output(&out[..bytes], line, input)
 }

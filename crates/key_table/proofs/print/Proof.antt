@@ -18,7 +18,7 @@ slice-aggregate-answered-2 : tie.Need-slice-aggregate-answered-2
 slice-aggregate-answered-2 c = search needs
 
 answered-requires : tie.Need-answered-requires
-answered-requires c κs = zeros-hold 524288 403596 (omega arith)
+answered-requires c κs = zeros-hold 403596 403596 (omega arith)
 
 array-share-prefix-out : tie.Need-array-share-prefix-out
 array-share-prefix-out c = search needs
