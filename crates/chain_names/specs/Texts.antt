@@ -20,11 +20,11 @@ unfoldable pub textAt : ℕ → List ℕ
 unfolding texts
 textAt place = getD texts place []
 
--- A place of the table, and what stands there.
+-- A place of the table, and the text that stands there.
 pub record PlaceOf (text : List ℕ) (place : ℕ) : Type 0 where
   pub below : place < 19
   pub is : textAt place ≡ text
 
 -- A text in a row of twelve bytes, 0 past its end, and its length.
-unfoldable pub rowOf : List ℕ → TextRow
-rowOf text = record { text = take 12 (text ++ replicate 12 0); length = length text }
+unfoldable pub textRowOf : List ℕ → TextRow
+textRowOf text = record { text = take 12 (text ++ replicate 12 0); length = length text }

@@ -7,7 +7,7 @@ ghost use Prim.Native.Nat.{_<_};
 ghost use lib.ListN.{length};
 ghost use Rattle.answer.specs.Lent.{heldIn, Filled};
 ghost use Rattle.answer.specs.Refusals.{countOutcome};
-ghost use Rattle.chain_names.specs.Texts.{textAt, rowOf};
+ghost use Rattle.chain_names.specs.Texts.{textAt, textRowOf};
 
 // A text in ASCII, 0 past its end, and its length.
 struct TextRow {
@@ -95,9 +95,10 @@ const TEXTS: [TextRow; 19] = [
     },
 ];
 
+// The row at a place.
 fn row(place: u16) -> TextRow
     requires { ⌜ place < 19 ⌝ }
-    ensures { λ r. ⌜ r ≡ rowOf (textAt place) ⌝ }
+    ensures { λ r. ⌜ r ≡ textRowOf (textAt place) ⌝ }
 {
     TEXTS[place as usize]
 }
