@@ -1,9 +1,10 @@
 // The names of the six chains, after `Genchain` in src/layout.rs of the original.
 //
-// Holds a chain's name and its length (document 01, "The six chains"); `parts` holds the names.
-// The definitions are those of `genchain`: Chains has the names, Answers says what each call answers.
+// Holds a chain's name and its length (document 01, "The six chains"); `texts` holds the table of the names of chains and scales.
+// The definitions are those of `genchain`: Chains has the names, Answers says what each call answers. specs/Texts says which text
+// stands at which place of the table.
 // Every entry point answers every input. Nothing is assumed.
-mod parts;
+pub mod texts;
 
 use answer::CountAnswer;
 use answer::Refusal;
@@ -20,7 +21,7 @@ pub fn name_len(code: u16) -> CountAnswer
     if 6 <= code {
         return CountAnswer::Refused(Refusal::Chain);
     }
-    CountAnswer::Given(parts::name_length(code))
+    CountAnswer::Given(texts::text_len(1 + 3 * code))
 }
 
 // The chain's name, as "Meantone[7]", in UTF-8 (1, 10).
@@ -30,10 +31,5 @@ pub fn name(code: u16, out: &mut [u8]) -> CountAnswer
     if 6 <= code {
         return CountAnswer::Refused(Refusal::Chain);
     }
-    let bytes = parts::name_length(code);
-    if out.len() < bytes {
-        return CountAnswer::Refused(Refusal::Room);
-    }
-    parts::put_name(out, code);
-    CountAnswer::Given(bytes)
+    texts::fill(1 + 3 * code, out)
 }

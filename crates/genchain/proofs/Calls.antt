@@ -108,10 +108,6 @@ module _ (code : ℕ) (h : code < 6) where
   unfolding lettersOutcome
   letters-not-held room k = some-chain code _ h ∙ not-held room (chainOf code .letters) k
 
-  pub name-held : (room : ℕ) → length (chainOf code .name) ≤ room → nameOutcome code room ≡ given (chainOf code .name)
+  pub name-by-chain : (room : ℕ) → nameOutcome code room ≡ heldIn room (chainOf code .name)
   unfolding nameOutcome
-  name-held room k = some-chain code _ h ∙ held room _ k
-
-  pub name-not-held : (room : ℕ) → room < length (chainOf code .name) → nameOutcome code room ≡ refused 10
-  unfolding nameOutcome
-  name-not-held room k = some-chain code _ h ∙ not-held room (chainOf code .name) k
+  name-by-chain room = some-chain code _ h

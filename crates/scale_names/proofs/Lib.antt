@@ -1,2 +1,1 @@
-pub mod ScaleTable
-pub mod ScaleCalls
+pub mod ScalePlaces
