@@ -11,11 +11,11 @@ use Rattle.mos.specs.declared.Mos.{Mos}
 use Rattle.mos.specs.Patterns.{primary, secondary}
 use Rattle.chain_names.specs.Texts.{textAt, PlaceOf}
 use Rattle.chain_names.proofs.TextTable.{equalized-at, texts-at}
-use Rattle.layout.specs.Layouts.{Layout}
+use Rattle.layout.specs.Layouts.{Layout, layoutOutcome}
 use Rattle.layout.specs.ScaleNames.{scaleName}
 use Rattle.layout.specs.Answers.{getScaleName, inRoom}
 use Rattle.layout.specs.declared.IsomorphicLayout.{IsomorphicLayout}
-use Rattle.layout.proofs.Calls.{asked, scale-given}
+use Rattle.layout.proofs.Calls.{scale-given}
 
 module _ (code : ℕ) (m : Mos) (h : code < 6) where
   pub place-above : secondary m < primary m → PlaceOf (scaleName code m) (2 + 3 * code)
@@ -31,7 +31,7 @@ module _ (code : ℕ) (m : Mos) (h : code < 6) where
   place-equal a b = record { below = omega arith; is = simp (le-ltb (secondary m) (primary m) a, le-ltb (primary m) (secondary m) b) equalized-at }
 
 -- an accepted layout, and the place of its scale's name
-module _ (r : IsomorphicLayout) (l : Layout) (e : given l ≡ asked r) (place : ℕ) (p : PlaceOf (scaleName (l .chain) (l .pattern)) place) where
+module _ (r : IsomorphicLayout) (l : Layout) (e : given l ≡ layoutOutcome r) (place : ℕ) (p : PlaceOf (scaleName (l .chain) (l .pattern)) place) where
   pub scale-count : (n : ℕ) → n ≡ length (textAt place) → given n ≡ counted (getScaleName r)
   scale-count n q = ap given (q ∙ ap length (p .is)) ∙ ap counted (scale-given r l e)
 
