@@ -9,7 +9,6 @@ use lib.Dec.{ltb}
 use lib.ListN.{length, getD}
 use borrow.Author.Tests.{ltb-true, ltb-false}
 use Rattle.answer.specs.Outcome.{Outcome, given, refused}
-use Rattle.answer.specs.Lent.{heldIn}
 use Rattle.answer.proofs.Questions.{ask-none, ask-some, ask-above, ask-below}
 use Rattle.answer.proofs.Lent.{held, not-held}
 use Rattle.genchain.specs.Chains.{Chain, chains, noChain, chainOf, rowOf, fifth}

@@ -2,14 +2,12 @@
 use Prim.Native.Nat.{ℕ}
 use mathlib.Core.Path.{_≡_, sym, ap, _∙_, subst}
 use mathlib.Core.List.{List}
-use mathlib.Core.Bool.{Bool}
 use lib.ListN.{length}
 use Rattle.answer.specs.Outcome.{Outcome, given, refused, andThen}
 use Rattle.answer.specs.Lent.{heldIn, counted, Filled}
 use Rattle.genchain.specs.declared.rows.ChainRow.{ChainRow}
 use Rattle.genchain.specs.Chains.{chainOf, rowOf, TableRow, lettersIn}
 use Rattle.genchain.proofs.TableRows.{table-row, row-letters}
-use Rattle.notes.specs.Names.{nameText}
 use Rattle.notes.specs.Parts.{planText, Planned, Measured}
 use Rattle.notes.specs.declared.plans.NamePlan.{NamePlan}
 use Rattle.pergen.specs.declared.Accidentals.{Accidentals}

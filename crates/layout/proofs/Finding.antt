@@ -1,6 +1,6 @@
 -- What it takes for a layout to be accepted, and what the search for it answers: by cases on the generator's outcome.
 use Prim.Native.Nat.{ℕ, _-_, _%_, _<_}
-use mathlib.Core.Path.{_≡_, refl, sym, ap, ap₂, _∙_, subst}
+use mathlib.Core.Path.{_≡_, refl, ap, ap₂, _∙_, subst}
 use mathlib.Core.Option.{Option, none, some}
 use native.Mathlib.Omega.{arith}
 use lib.Dec.{ltb, leb}

@@ -1,8 +1,8 @@
 -- An accepted layout has at least as many keys in a cycle as letters: its pattern's N steps, each at least n, fill the octave.
-use Prim.Native.Nat.{ℕ, zero, suc, _+_, _*_, _-_, _/_, _%_, _<_, _≤_, _∣_}
+use Prim.Native.Nat.{ℕ, zero, suc, _+_, _*_, _-_, _%_, _<_, _≤_, _∣_}
 use mathlib.Core.Path.{_≡_, refl, sym, ap, _∙_, subst}
 use mathlib.Core.Logic.{_⊎_, inl, inr, ⊎-elim}
-use mathlib.Core.Option.{Option, none, some}
+use mathlib.Core.Option.{some}
 use mathlib.Core.List.{List, [], _∷_}
 use mathlib.Core.Bool.{Bool, true, false}
 use native.Mathlib.Nat.{mod-lt, dvd-mod-iff, dvd-sub, dvd-add, dvd-antisymm, le-div-iff-mul-le, le-refl}
@@ -13,7 +13,7 @@ use borrow.Author.Tests.{eqb-true}
 use Rattle.math.specs.Gcd.{gcd}
 use Rattle.math.proofs.Gcd.{gcd-is}
 use Rattle.mos.specs.declared.Mos.{Mos}
-use Rattle.mos.specs.Patterns.{primary, secondary, countOf, sizeOf, genesis, childOf}
+use Rattle.mos.specs.Patterns.{primary, secondary, countOf, sizeOf, genesis}
 use Rattle.mos.specs.Walks.{children, firstWith}
 use Rattle.mos.proofs.Descent.{child-at, child-steps, child-keeps-size}
 use Rattle.mos.proofs.Theorems.{walk-keeps, child-keeps, letters-fit, genesis-size}

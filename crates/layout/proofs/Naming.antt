@@ -26,7 +26,6 @@ use Rattle.pergen.proofs.DegreePlaces.{accidentals-sound-their-key, cycle-kept,
 use Rattle.layout.specs.Layouts.{Layout, cyclesIn, reducedIn, accidentalsIn, sharpFirst}
 use Rattle.layout.specs.Names.{placeIn, keyOf, printedIn, cycleIn, textIn, nameIn}
 use Rattle.layout.specs.Answers.{getNoteName}
-use Rattle.layout.specs.declared.IsomorphicLayout.{IsomorphicLayout}
 use Rattle.layout.specs.Theorems.{SpellingsSoundOneKey, SoundsKey, NamesSoundTheirKey, NamesTellKeysApart, EnoughKeys}
 use Rattle.layout.proofs.Finding.{Parts, accepted}
 use Rattle.layout.proofs.PatternShape.{pattern-shape}

@@ -1,6 +1,6 @@
 -- What is known of an accepted layout's pattern: its N steps are above 0 and fill the octave, and their divisor is the number of cycles.
 use Prim.Native.Nat.{ℕ, _/_, _<_, _≤_}
-use mathlib.Core.Path.{_≡_, refl, sym, ap, ap₂, _∙_, subst}
+use mathlib.Core.Path.{_≡_, sym, ap₂, _∙_, subst}
 use native.Mathlib.Omega.{arith}
 use Rattle.math.proofs.Gcd.{gcd-positive, gcd-or-one}
 use Rattle.genchain.proofs.GoodChains.{chains-are-good}

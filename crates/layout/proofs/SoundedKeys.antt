@@ -13,7 +13,7 @@ use Rattle.pergen.specs.Spelling.{place, sounds}
 use Rattle.pergen.specs.declared.Spelling.{Spelling}
 use Rattle.pergen.proofs.Calls.{cycles-found}
 use Rattle.layout.specs.Layouts.{Layout, layoutOutcome, Accepted, cyclesIn}
-use Rattle.layout.specs.Names.{IsSpelling, placeIn, keyOf}
+use Rattle.layout.specs.Names.{IsSpelling, keyOf}
 use Rattle.layout.specs.Answers.{soundedIn, getSoundedKey}
 use Rattle.layout.specs.Parts.{Laid}
 use Rattle.layout.specs.Theorems.{SpellingsHaveAKey}

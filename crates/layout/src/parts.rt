@@ -66,22 +66,16 @@ fn with_pattern(layout: IsomorphicLayout, row: ChainRow, generator: u16) -> Foun
     ensures { λ r. ⌜ foundOutcome r ≡ withPattern layout generator (firstWith (lettersOf (layout .genchain)) (children (genesis (layout .octave) generator))) ⌝ }
 {
     let octave = layout.octave;
+    let num_letters = row.num_letters;
     let step = within_octave(octave, generator);
     let mut found: [u16; 4] = [0, 0, 0, 0];
     // from the genesis: both counts 1, and the steps
-    if walks::parts::seek(
-        1,
-        1,
-        step,
-        octave - step,
-        row.num_letters as u32,
-        &mut found,
-    ) {
+    if walks::parts::seek(1, 1, step, octave - step, num_letters as u32, &mut found) {
         return FoundAnswer::Given(Found {
             chain: layout.genchain,
             octave,
             generator,
-            num_letters: row.num_letters,
+            num_letters,
             start: row.start,
             pattern: mos::parts::pattern_of(found),
         });

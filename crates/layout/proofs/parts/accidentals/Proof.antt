@@ -2,7 +2,6 @@
 use Rattle.pergen.proofs.Calls.{solved-cycles, solved-keys, degree-small, accidentals-are}
 use Rattle.layout.specs.Layouts.{accidentalsIn}
 use Rattle.layout.proofs.Finding.{laid}
-use borrow.Author.Needs.{needs}
 use Rattle.layout.proofs.parts.accidentals.Statement.{statement}
 use Rattle.layout.proofs.parts.accidentals.Tie as tie
 

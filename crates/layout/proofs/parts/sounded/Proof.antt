@@ -1,5 +1,4 @@
 -- Questions 16 and 21, then the key at the difference of the sides.
-use Rattle.layout.specs.Parts.{layoutOf}
 use Rattle.layout.proofs.Finding.{laid}
 use Rattle.layout.proofs.SoundedKeys.{no-letter, many-stars, key-sounded}
 use borrow.Author.Needs.{needs}

@@ -1,10 +1,10 @@
 -- The walk from the genesis, and the pattern that it left in the array.
 use mathlib.Core.Path.{ap, _∙_}
+use mathlib.Core.Option.{some}
 use native.Mathlib.Nat.{mod-lt}
 use native.Mathlib.Omega.{arith}
 use Rattle.mos.proofs.Theorems.{made-patterns}
 use Rattle.mos.proofs.Sequences.{meets-found, meets-nothing}
-use mathlib.Core.Option.{some}
 use Rattle.layout.proofs.Finding.{walk-met, walk-without}
 use borrow.Author.Needs.{needs}
 use Rattle.layout.proofs.parts.with_pattern.Statement.{statement}
@@ -20,19 +20,19 @@ cast-seek : tie.Need-cast-seek
 cast-seek c = search needs
 
 seek-requires : tie.Need-seek-requires
-seek-requires c κs = rw (c .before .before .within-octave .ensures) (made-patterns .of-genesis _ _ (c .before .before .before .pre .1) (search needs))
+seek-requires c κs = rw (c .before .within-octave .ensures) (made-patterns .of-genesis _ _ (c .before .before .pre .1) (search needs))
 
 pattern-of-requires : tie.Need-pattern-of-requires
 pattern-of-requires c κs = search needs
 
 returns : tie.Need-returns
 returns c =
-    walk-met _ _ (c .before .before .before .before .before .before .pre .0) _ _ (c .before .before .before .before .before .within-octave .ensures) _
+    walk-met _ _ (c .before .before .before .before .before .pre .0) _ _ (c .before .before .before .before .within-octave .ensures) _
     (ap some (c .pattern-of .ensures) ∙ meets-found _ _ (c .before .before .seek .ensures) (c .before .if1 .taken))
 
 returns-2 : tie.Need-returns-2
 returns-2 c =
-    walk-without _ _ (c .before .before .before .before .before .pre .0) _ _ (c .before .before .before .before .within-octave .ensures)
+    walk-without _ _ (c .before .before .before .before .pre .0) _ _ (c .before .before .before .within-octave .ensures)
     (meets-nothing _ _ (c .before .seek .ensures) (c .if1 .left))
 
 pub with-pattern-spec : {M : Type 1} → statement M
