@@ -8,6 +8,7 @@ use native.Mathlib.Omega.{arith}
 use lib.Dec.{ltb}
 use lib.ListN.{length, getD}
 use borrow.Author.Tests.{ltb-true, ltb-false}
+use Rattle.answer.specs.Lent.{heldIn}
 use Rattle.answer.specs.Outcome.{Outcome, given, refused}
 use Rattle.answer.proofs.Questions.{ask-none, ask-some, ask-above, ask-below}
 use Rattle.answer.proofs.Lent.{held, not-held}
