@@ -31,12 +31,7 @@ pub fn find_child(mos: Mos, num_steps: u32) -> WalkAnswer
             num_steps,
             &mut found,
         ) {
-            return WalkAnswer::Found(Mos {
-                num_primary_steps: found[0],
-                num_secondary_steps: found[1],
-                primary_step: found[2],
-                secondary_step: found[3],
-            });
+            return WalkAnswer::Found(mos::parts::pattern_of(found));
         }
         return WalkAnswer::Nothing;
     }
@@ -50,12 +45,7 @@ pub fn nth_child(mos: Mos, k: u32) -> WalkAnswer
     if mos::parts::is_pattern(mos) {
         let mut found: [u16; 4] = [0, 0, 0, 0];
         if parts::descend(mos, k, &mut found) {
-            return WalkAnswer::Found(Mos {
-                num_primary_steps: found[0],
-                num_secondary_steps: found[1],
-                primary_step: found[2],
-                secondary_step: found[3],
-            });
+            return WalkAnswer::Found(mos::parts::pattern_of(found));
         }
         return WalkAnswer::Nothing;
     }
@@ -69,12 +59,7 @@ pub fn nth_parent(mos: Mos, k: u32) -> WalkAnswer
     if mos::parts::is_pattern(mos) {
         let mut found: [u16; 4] = [0, 0, 0, 0];
         if parts::ascend(mos, k, &mut found) {
-            return WalkAnswer::Found(Mos {
-                num_primary_steps: found[0],
-                num_secondary_steps: found[1],
-                primary_step: found[2],
-                secondary_step: found[3],
-            });
+            return WalkAnswer::Found(mos::parts::pattern_of(found));
         }
         return WalkAnswer::Nothing;
     }
@@ -88,12 +73,7 @@ pub fn genesis(mos: Mos) -> MosAnswer
     if mos::parts::is_pattern(mos) {
         let mut found: [u16; 4] = [0, 0, 0, 0];
         parts::root(mos, &mut found);
-        return MosAnswer::Given(Mos {
-            num_primary_steps: found[0],
-            num_secondary_steps: found[1],
-            primary_step: found[2],
-            secondary_step: found[3],
-        });
+        return MosAnswer::Given(mos::parts::pattern_of(found));
     }
     MosAnswer::Refused(Refusal::Size)
 }

@@ -13,20 +13,11 @@ is-pattern-requires c κs = search needs
 root-requires : tie.Need-root-requires
 root-requires c κs = sym (c .before .before .is-pattern .ensures) ∙ c .before .if1 .taken
 
-array-read-t8 : tie.Need-array-read-t8
-array-read-t8 c = search needs
-
-array-read-t11 : tie.Need-array-read-t11
-array-read-t11 c = search needs
-
-array-read-t14 : tie.Need-array-read-t14
-array-read-t14 c = search needs
-
-array-read-t17 : tie.Need-array-read-t17
-array-read-t17 c = search needs
+pattern-of-requires : tie.Need-pattern-of-requires
+pattern-of-requires c κs = search needs
 
 returns : tie.Need-returns
-returns c = pattern-given _ (c .before .before .before .is-pattern .ensures) (c .before .before .if1 .taken) (meets-always _ _ (c .root .ensures))
+returns c = pattern-given _ (c .before .before .before .before .is-pattern .ensures) (c .before .before .before .if1 .taken) (c .pattern-of .ensures ∙ meets-always _ _ (c .before .root .ensures))
 
 returns-2 : tie.Need-returns-2
 returns-2 c = pattern-refused _ _ (c .before .is-pattern .ensures) (c .if1 .left)
@@ -37,9 +28,6 @@ genesis-spec =
     (tie.spec
     is-pattern-requires
     root-requires
-    array-read-t8
-    array-read-t11
-    array-read-t14
-    array-read-t17
+    pattern-of-requires
     returns
     returns-2)
