@@ -11,12 +11,11 @@ use lib.Dec.{eqb, ltb, leb}
 use borrow.Author.Tests.{eq-eqb, ne-eqb, eqb-true, eqb-false, lt-ltb, ltb-true, ltb-false, leb-true, leb-false}
 use Rattle.text.specs.Writing.{joined}
 use Rattle.text.proofs.Joined.{joined-same, joined-first}
-use Rattle.genchain.specs.Chains.{chainOf}
 use Rattle.mos.specs.Patterns.{pick}
-use Rattle.pergen.specs.Pergen.{cycles, cycle}
+use Rattle.pergen.specs.Pergen.{cycle}
 use Rattle.layers.specs.Layers.{layerSizes}
-use Rattle.layout.specs.Layouts.{Layout, lettersOf, Accepted}
-use Rattle.layout.proofs.Finding.{Parts, accepted}
+use Rattle.layout.specs.declared.IsomorphicLayout.{IsomorphicLayout}
+use Rattle.layout.specs.Layouts.{Layout, Accepted, cyclesIn}
 use Rattle.layout_layers.specs.declared.Layer.{Layer}
 use Rattle.layout_layers.specs.declared.Layer.the-variants.{Natural, Sharp, Enharmonic, Flat}
 use Rattle.layout_layers.specs.declared.parts.Plan.{Plan}
@@ -118,56 +117,57 @@ every-false test (suc count) i h e = by (eqb i count) refl (every-false test cou
     by true t ih = ap (λ (b : Bool). b && every test count) (ap test (sym (eqb-true i count t)) ∙ e)
     by false t ih = ap (λ (b : Bool). test count && b) (ih (omega (arith, eqb-false i count t)) e) ∙ and-false (test count)
 
-module _ (code P tritave : ℕ) (l : Layout) (ok : Accepted code P tritave l) where
+-- the kind of a key's layer in a layout
+abbrev kindIn : Layout → ℕ → Layer
+kindIn l i = kindAt (l .octave) (l .generator) (l .letters) (l .start) (l .pattern) i
+
+module _ (r : IsomorphicLayout) (l : Layout) (ok : Accepted r l) where
+  abbrev P : ℕ
+  P = l .octave
+
   abbrev T : ℕ
-  T = countIn P l
+  T = countIn l
 
-  parts : Parts code P tritave l
-  parts = accepted code P tritave l ok
-
-  abbrev kindIn : ℕ → Layer
-  kindIn i = kindAt P (l .generator) (lettersOf code) (chainOf code .start) (l .pattern) i
-
-  kind-in : (i : ℕ) → kindIn i ≡ kindOf T (numberIn code P l i)
+  kind-in : (i : ℕ) → kindIn l i ≡ kindOf T (numberIn l i)
   unfolding kindAt
   kind-in i = refl
 
-  all-lamps : T ≤ 202 → hasLampsIn code P l ≡ true
+  all-lamps : T ≤ 202 → hasLampsIn l ≡ true
   unfolding hasLamps
   all-lamps h =
-      every-true (λ i. lampable (kindIn i)) P (λ i. ap lampable (kind-in i) ∙ few-layers T (numberIn code P l i) h)
+      every-true (λ i. lampable (kindIn l i)) P (λ i. ap lampable (kind-in i) ∙ few-layers T (numberIn l i) h)
 
   -- a key of layer 101, which is sharp layer 100
-  met : 202 < T → (key : ℕ) × (key < P) × (numberIn code P l key ≡ 101)
+  met : 202 < T → (key : ℕ) × (key < P) × (numberIn l key ≡ 101)
   unfolding layerCount cycle
   met h = by (equalized (l .pattern)) refl
     where
-      by : (b : Bool) → equalized (l .pattern) ≡ b → (key : ℕ) × (key < P) × (numberIn code P l key ≡ 101)
-      by false t = each-number-is-met code P tritave l ok t 101 (omega arith)
+      by : (b : Bool) → equalized (l .pattern) ≡ b → (key : ℕ) × (key < P) × (numberIn l key ≡ 101)
+      by false t = each-number-is-met r l ok t 101 (omega arith)
       by true t =
-          let two : T ≡ 2 * cycles P (l .generator) = ap (λ (b : Bool). pick b 2 (length (layerSizes (l .pattern))) * cycles P (l .generator)) t in
-          let low : 101 < cycles P (l .generator) = omega arith in (
+          let two : T ≡ 2 * cyclesIn l = ap (λ (b : Bool). pick b 2 (length (layerSizes (l .pattern))) * cyclesIn l) t in
+          let low : 101 < cyclesIn l = omega arith in (
             101,
-            omega (arith, counts-fit code P tritave l ok),
-            first-keys code P tritave l ok t 101 (div-eq-of-lt low) ∙ mod-eq-of-lt low,
+            omega (arith, counts-fit r l ok),
+            first-keys r l ok t 101 (div-eq-of-lt low) ∙ mod-eq-of-lt low,
           )
 
-  some-lamp-missing : 202 < T → hasLampsIn code P l ≡ false
+  some-lamp-missing : 202 < T → hasLampsIn l ≡ false
   unfolding hasLamps
   some-lamp-missing h =
       let key = met h in
-      every-false (λ i. lampable (kindIn i)) P (key .0) (key .1)
+      every-false (λ i. lampable (kindIn l i)) P (key .0) (key .1)
       (ap lampable
       (kind-in (key .0)
       ∙ ap (kindOf T) (key .2)
       ∙ sym (kind-sharp T 101 (λ e. omega arith) (omega arith))))
 
-  pub lamps-by-count-at : hasLampsIn code P l ≡ leb (countIn P l) 202
-  lamps-by-count-at = by (leb (countIn P l) 202) refl
+  pub lamps-by-count-at : hasLampsIn l ≡ leb (countIn l) 202
+  lamps-by-count-at = by (leb (countIn l) 202) refl
     where
-      by : (b : Bool) → leb (countIn P l) 202 ≡ b → hasLampsIn code P l ≡ b
-      by true t = all-lamps (leb-true (countIn P l) 202 t)
-      by false t = some-lamp-missing (leb-false (countIn P l) 202 t)
+      by : (b : Bool) → leb (countIn l) 202 ≡ b → hasLampsIn l ≡ b
+      by true t = all-lamps (leb-true (countIn l) 202 t)
+      by false t = some-lamp-missing (leb-false (countIn l) 202 t)
 
 -- ---- the strip
 
@@ -183,28 +183,28 @@ home-first f (suc n) =
     ∙ ap (λ (b : Bool). pick b 0 (f 0) ∷ joined (λ i. pick (eqb (suc i) 0) 0 (f (suc i)) ∷ []) n) (sym (eq-eqb 0 0 refl))
     ∙ sym (joined-first (λ i. pick (eqb i 0) 0 (f i) ∷ []) n)
 
-module _ (code P : ℕ) (l : Layout) (p : Plan) (k : PlanOf code P l p) (some : 0 < P) (T : ℕ) (is : T ≡ countIn P l) where
+module _ (l : Layout) (p : Plan) (k : PlanOf l p) (some : 0 < l .octave) (T : ℕ) (is : T ≡ countIn l) where
   -- the code of a key, by the plan
-  pub code-at : (i : ℕ) → codeOf T (planNumber p i) ≡ lampCode (kindAt P (l .generator) (lettersOf code) (chainOf code .start) (l .pattern) i)
+  pub code-at : (i : ℕ) → codeOf T (planNumber p i) ≡ lampCode (kindIn l i)
   unfolding codeOf kindAt
-  code-at i = ap₂ (λ (t j : ℕ). lampCode (kindOf t j)) is (number-is code P l p k i)
+  code-at i = ap₂ (λ (t j : ℕ). lampCode (kindOf t j)) is (number-is l p k i)
 
-  pub strip-is : planStrip p T ≡ stripIn code P l
+  pub strip-is : planStrip p T ≡ stripIn l
   unfolding stripOf lampOf
   strip-is =
-      let f : ℕ → ℕ = λ i. lampCode (kindAt P (l .generator) (lettersOf code) (chainOf code .start) (l .pattern) i) in
+      let f : ℕ → ℕ = λ i. lampCode (kindIn l i) in
       ap (λ (xs : List ℕ). set xs 0 0)
       (joined-same (λ i. codeOf T (planNumber p i) ∷ []) (λ i. f i ∷ []) (keysOf (p .chain)) (λ i h. ap (λ (x : ℕ). x ∷ []) (code-at i))
-      ∙ ap (joined (λ i. f i ∷ [])) (keys-are code P l p k some))
-      ∙ home-first f P
+      ∙ ap (joined (λ i. f i ∷ [])) (keys-are l p k some))
+      ∙ home-first f (l .octave)
 
-  pub lamp-is : (i : ℕ) → (i ≡ 0 → ⊥) → codeOf T (planNumber p i) ≡ lampIn code P l i
+  pub lamp-is : (i : ℕ) → (i ≡ 0 → ⊥) → codeOf T (planNumber p i) ≡ lampIn l i
   unfolding lampOf
   lamp-is i h =
       code-at i
-      ∙ ap (λ (b : Bool). pick b 0 (lampCode (kindAt P (l .generator) (lettersOf code) (chainOf code .start) (l .pattern) i))) (sym (ne-eqb i 0 h))
+      ∙ ap (λ (b : Bool). pick b 0 (lampCode (kindIn l i))) (sym (ne-eqb i 0 h))
 
-pub lamp-home : (code P : ℕ) (l : Layout) (i : ℕ) → i ≡ 0 → 0 ≡ lampIn code P l i
+pub lamp-home : (l : Layout) (i : ℕ) → i ≡ 0 → 0 ≡ lampIn l i
 unfolding lampOf
-lamp-home code P l i e =
-    ap (λ (b : Bool). pick b 0 (lampCode (kindAt P (l .generator) (lettersOf code) (chainOf code .start) (l .pattern) i))) (sym (eq-eqb i 0 e))
+lamp-home l i e =
+    ap (λ (b : Bool). pick b 0 (lampCode (kindIn l i))) (sym (eq-eqb i 0 e))

@@ -8,9 +8,9 @@ use native.Mathlib.Omega.{arith}
 use lib.Dec.{eqb, ltb}
 use borrow.Author.Tests.{eqb-true, leb-true, ltb-true}
 use Rattle.text.proofs.Joined.{length-joined-each}
-use Rattle.genchain.specs.Chains.{chainOf}
 use Rattle.mos.specs.Patterns.{pick}
-use Rattle.layout.specs.Layouts.{Layout, lettersOf, Accepted}
+use Rattle.layout.specs.declared.IsomorphicLayout.{IsomorphicLayout}
+use Rattle.layout.specs.Layouts.{Layout, Accepted}
 use Rattle.layout.proofs.Finding.{accepted}
 use Rattle.layout.proofs.PatternShape.{pattern-shape}
 use Rattle.layout_layers.specs.declared.Layer.{Layer}
@@ -22,21 +22,21 @@ use Rattle.lamps.specs.Theorems.{LampsByCount, LampsBoundTheOctave, Code
 use Rattle.lamps.proofs.StripLaws.{few-layers, lamps-by-count-at, lamp-home}
 
 pub lamps-by-count : LampsByCount
-lamps-by-count code P tritave l ok = lamps-by-count-at code P tritave l ok
+lamps-by-count r l ok = lamps-by-count-at r l ok
 
 -- with lamps, T is at most 202
-pub few-numbers : (code P tritave : ℕ) (l : Layout) → Accepted code P tritave l → hasLampsIn code P l ≡ true → countIn P l ≤ 202
-few-numbers code P tritave l ok has = leb-true (countIn P l) 202 (sym (lamps-by-count-at code P tritave l ok) ∙ has)
+pub few-numbers : (r : IsomorphicLayout) (l : Layout) → Accepted r l → hasLampsIn l ≡ true → countIn l ≤ 202
+few-numbers r l ok has = leb-true (countIn l) 202 (sym (lamps-by-count-at r l ok) ∙ has)
 
 pub lamps-bound-the-octave : LampsBoundTheOctave
-lamps-bound-the-octave code P tritave l ok has =
-    let nine : lettersOf code ≤ 9 = pattern-shape code P tritave l (accepted code P tritave l ok) .at-most-nine in
-    let most : lettersOf code * countIn P l ≤ 9 * 202 = mul-le-mul {n₂ = 9} {m₂ = 202} nine (few-numbers code P tritave l ok has) in
-    omega (arith, most, keys-by-count code P tritave l ok)
+lamps-bound-the-octave r l ok has =
+    let nine : l .letters ≤ 9 = pattern-shape l (accepted r l ok) .at-most-nine in
+    let most : l .letters * countIn l ≤ 9 * 202 = mul-le-mul {n₂ = 9} {m₂ = 202} nine (few-numbers r l ok has) in
+    omega (arith, most, keys-by-count r l ok)
 
 pub strips-are-whole : StripsAreWhole
 unfolding stripOf
-strips-are-whole code P l = length-joined-each (λ i. lampIn code P l i ∷ []) 1 (λ i. refl) P ∙ one-mul P
+strips-are-whole l = length-joined-each (λ i. lampIn l i ∷ []) 1 (λ i. refl) (l .octave) ∙ one-mul (l .octave)
 
 code-below : (k : Layer) → lampable k ≡ true → lampCode k < 256
 unfolding lampCode
@@ -58,19 +58,19 @@ pick-code false c h = h
 
 pub codes-fit-bytes : CodesFitBytes
 unfolding lampOf kindAt
-codes-fit-bytes code P tritave l ok has key =
+codes-fit-bytes r l ok has key =
     pick-code (eqb key 0) _
-    (code-below (kindOf (countIn P l) (numberIn code P l key))
-    (few-layers (countIn P l) (numberIn code P l key) (few-numbers code P tritave l ok has)))
+    (code-below (kindOf (countIn l) (numberIn l key))
+    (few-layers (countIn l) (numberIn l key) (few-numbers r l ok has)))
 
 others-lit : (b : Bool) (key c : ℕ) → eqb key 0 ≡ b → 0 < key → 0 < c → 0 < pick b 0 c
 others-lit true key c e h k = absurd (let z : ⊥ = omega (arith, eqb-true key 0 e) in z)
 others-lit false key c e h k = k
 
-lit : (code P : ℕ) (l : Layout) (key : ℕ) → 0 < key → 0 < lampIn code P l key
+lit : (l : Layout) (key : ℕ) → 0 < key → 0 < lampIn l key
 unfolding lampOf
-lit code P l key h =
-    others-lit (eqb key 0) key _ refl h (code-above (kindAt P (l .generator) (lettersOf code) (chainOf code .start) (l .pattern) key))
+lit l key h =
+    others-lit (eqb key 0) key _ refl h (code-above (kindAt (l .octave) (l .generator) (l .letters) (l .start) (l .pattern) key))
 
 pub one-home : OneHome
-one-home = record { zero = λ code P l. sym (lamp-home code P l 0 refl); others = λ code P l key h below. lit code P l key h }
+one-home = record { zero = λ l. sym (lamp-home l 0 refl); others = λ l key h below. lit l key h }

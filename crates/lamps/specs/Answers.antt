@@ -9,12 +9,9 @@ use Rattle.lamps.specs.Lamps.{lampOf, stripOf, hasLamps, lampIn, stripIn
 
 unfoldable pub getStrip : IsomorphicLayout → Outcome (List ℕ)
 unfolding layoutOutcome hasLamps stripOf
-getStrip r =
-    ofLayout r (λ (l : Layout). ask 9 (hasLampsIn (r .genchain) (r .octave) l) (given (stripIn (r .genchain) (r .octave) l)))
+getStrip r = ofLayout r (λ (l : Layout). ask 9 (hasLampsIn l) (given (stripIn l)))
 
 -- "The board repeats the strip each octave": a key's code is that of its place in the octave.
 unfoldable pub getLamp : IsomorphicLayout → ℕ → Outcome ℕ
 unfolding layoutOutcome hasLamps lampOf
-getLamp r key =
-    ofLayout r
-    (λ (l : Layout). ask 9 (hasLampsIn (r .genchain) (r .octave) l) (given (lampIn (r .genchain) (r .octave) l (key % r .octave))))
+getLamp r key = ofLayout r (λ (l : Layout). ask 9 (hasLampsIn l) (given (lampIn l (key % l .octave))))

@@ -9,9 +9,8 @@ use Rattle.mos.specs.Patterns.{mos}
 use Rattle.pergen.specs.declared.Accidentals.{Accidentals}
 use Rattle.pergen.specs.Answers as Pergen
 use Rattle.pergen.specs.Examples.{pergen, format}
-use Rattle.layout.specs.Answers.{getMos, getScaleName}
+use Rattle.layout.specs.Answers.{getMos, getScaleName, getNoteName}
 use Rattle.layout.specs.Examples.{layout}
-use Rattle.layout.specs.Names.{noteName}
 use Rattle.lamps.specs.Answers.{getStrip}
 
 pub data Example : Type 0 where
@@ -61,7 +60,7 @@ abbrev pub Holds : Example → Type 0
 Holds (pattern code octave tritave m) = getMos (layout code octave tritave) ≡ m
 Holds (sizes code octave tritave s) = andThen (getMos (layout code octave tritave)) (λ (m : Mos). given (layerSizes m)) ≡ given s
 Holds (scale code octave tritave text) = getScaleName (layout code octave tritave) ≡ given text
-Holds (name code octave tritave key text) = noteName code octave tritave key ≡ given text
+Holds (name code octave tritave key text) = getNoteName (layout code octave tritave) key ≡ given text
 Holds (strip code octave tritave codes) = getStrip (layout code octave tritave) ≡ given codes
 Holds (indices P G N origin key both) =
     andThen (Pergen.getAccidentals (pergen P G) (format N origin) key)

@@ -4,10 +4,9 @@ use mathlib.Core.Bool.{Bool, true, false, _&&_}
 use mathlib.Core.List.{List, [], _∷_}
 use lib.Dec.{eqb, ltb}
 use Rattle.text.specs.Writing.{joined}
-use Rattle.genchain.specs.Chains.{chainOf}
 use Rattle.mos.specs.declared.Mos.{Mos}
 use Rattle.mos.specs.Patterns.{pick}
-use Rattle.layout.specs.Layouts.{Layout, lettersOf}
+use Rattle.layout.specs.Layouts.{Layout}
 use Rattle.layout_layers.specs.declared.Layer.{Layer}
 use Rattle.layout_layers.specs.declared.Layer.the-variants.{Natural, Sharp, Enharmonic, Flat}
 use Rattle.layout_layers.specs.KeyLayers.{layerNumber, layerCount, kindOf}
@@ -60,11 +59,11 @@ hasLamps P G N start m = every (λ i. lampable (kindAt P G N start m i)) (stripL
 
 -- ---- in a layout
 
-abbrev pub lampIn : ℕ → ℕ → Layout → ℕ → ℕ
-lampIn code octave l i = lampOf octave (l .generator) (lettersOf code) (chainOf code .start) (l .pattern) i
+abbrev pub lampIn : Layout → ℕ → ℕ
+lampIn l i = lampOf (l .octave) (l .generator) (l .letters) (l .start) (l .pattern) i
 
-abbrev pub stripIn : ℕ → ℕ → Layout → List ℕ
-stripIn code octave l = stripOf octave (l .generator) (lettersOf code) (chainOf code .start) (l .pattern)
+abbrev pub stripIn : Layout → List ℕ
+stripIn l = stripOf (l .octave) (l .generator) (l .letters) (l .start) (l .pattern)
 
-abbrev pub hasLampsIn : ℕ → ℕ → Layout → Bool
-hasLampsIn code octave l = hasLamps octave (l .generator) (lettersOf code) (chainOf code .start) (l .pattern)
+abbrev pub hasLampsIn : Layout → Bool
+hasLampsIn l = hasLamps (l .octave) (l .generator) (l .letters) (l .start) (l .pattern)

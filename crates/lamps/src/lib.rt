@@ -26,7 +26,7 @@ pub fn lamp_strip(layout: IsomorphicLayout, out: &mut [u8]) -> CountAnswer
     match layout::parts::search(layout) {
         FoundAnswer::Refused(q) => CountAnswer::Refused(q),
         FoundAnswer::Given(found) => {
-            let plan = layout_layers::parts::plan_of(layout, found);
+            let plan = layout_layers::parts::plan_of(found);
             let total = layout_layers::parts::total_of(plan);
             if 202 < total {
                 return CountAnswer::Refused(Refusal::LampLayer);
@@ -43,11 +43,11 @@ pub fn strip_len(layout: IsomorphicLayout) -> CountAnswer
     match layout::parts::search(layout) {
         FoundAnswer::Refused(q) => CountAnswer::Refused(q),
         FoundAnswer::Given(found) => {
-            let plan = layout_layers::parts::plan_of(layout, found);
+            let plan = layout_layers::parts::plan_of(found);
             if 202 < layout_layers::parts::total_of(plan) {
                 return CountAnswer::Refused(Refusal::LampLayer);
             }
-            CountAnswer::Given(layout.octave as usize)
+            CountAnswer::Given(found.octave as usize)
         }
     }
 }
@@ -59,16 +59,16 @@ pub fn lamp(layout: IsomorphicLayout, key: u16) -> NumberAnswer
     match layout::parts::search(layout) {
         FoundAnswer::Refused(q) => NumberAnswer::Refused(q),
         FoundAnswer::Given(found) => {
-            let plan = layout_layers::parts::plan_of(layout, found);
+            let plan = layout_layers::parts::plan_of(found);
             let total = layout_layers::parts::total_of(plan);
             if 202 < total {
                 return NumberAnswer::Refused(Refusal::LampLayer);
             }
-            let place = key % layout.octave;
+            let place = key % found.octave;
             if place == 0 {
                 return NumberAnswer::Given(0);
             }
-            let solved = euclid::solve(layout.octave, found.generator);
+            let solved = euclid::solve(found.octave, found.generator);
             let number = layout_layers::parts::number_of(plan, solved.generator_inverse, place);
             NumberAnswer::Given(parts::code(total, number) as u16)
         }

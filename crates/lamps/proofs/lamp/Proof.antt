@@ -1,7 +1,7 @@
 -- Questions 1 to 4 and 9, then home or the code of the key's number.
 use mathlib.Core.Path.{sym, ap, _∙_}
 use Rattle.layout.specs.Parts.{foundOutcome}
-use Rattle.layout.proofs.Calls.{parts-of}
+use Rattle.layout.proofs.Calls.{parts-of, laid-of}
 use Rattle.layout_layers.proofs.Calls.{inverse-given}
 use Rattle.lamps.proofs.StripLaws.{number-below}
 use Rattle.lamps.proofs.Calls.{lamp-refused, lamp-too-deep, lamp-at-home, lamp-given}
@@ -19,7 +19,7 @@ enum-known-found : tie.Need-enum-known-found
 enum-known-found c = search needs
 
 plan-of-requires : tie.Need-plan-of-requires
-plan-of-requires c κs = sym (sym (ap foundOutcome (c .before .found .given .1)) ∙ c .before .before .before .search .ensures)
+plan-of-requires c κs = laid-of _ _ (sym (ap foundOutcome (c .before .found .given .1)) ∙ c .before .before .before .search .ensures)
 
 total-of-requires : tie.Need-total-of-requires
 total-of-requires c κs = c .plan-of .ensures .sound
