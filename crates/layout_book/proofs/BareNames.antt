@@ -12,7 +12,6 @@ use native.Mathlib.Omega.{arith}
 use Rattle.text.specs.Writing.{joined}
 use Rattle.text.proofs.Joined.{joined-blocks}
 use Rattle.genchain.specs.Chains.{lettersIn}
-use Rattle.layout.proofs.Finding.{start-below}
 use Rattle.notes.specs.Names.{letterAlone, printed, pickSpellings, inOrder, spellingText, spellingsText, nameText}
 use Rattle.pergen.specs.declared.Accidentals.{Accidentals}
 use Rattle.pergen.specs.declared.Cycle.{Cycle}
@@ -95,11 +94,11 @@ module _ (s : Speller) (h : Sound s) where
 
   abbrev spelling : ℕ → ℕ → Accidentals
   spelling d c =
-      byCoordinates (cycleAt cycles c) letters (sharpCoordinate degrees (s .row .start + d)) (flatCoordinate degrees letters (s .row .start + d))
+      byCoordinates (cycleAt cycles c) letters (sharpCoordinate degrees (s .start + d)) (flatCoordinate degrees letters (s .start + d))
 
   spelled-by : (d c : ℕ) → spelledAt s (record { degree = d; cycle = c }) ≡ spelling d c
   unfolding spelledAt
-  spelled-by d c = sym (accidentals-high degrees letters (s .row .start) d (cycleAt cycles c) (h .enough) _ _ refl refl)
+  spelled-by d c = sym (accidentals-high degrees letters (s .start) d (cycleAt cycles c) (h .enough) _ _ refl refl)
 
   pub bare-step : (d : ℕ) → starsOf (spelledAt s (firstStep d) .cycle) ≡ 0
   unfolding byCoordinates
@@ -140,22 +139,22 @@ module _ (s : Speller) (h : Sound s) where
           sym (flat-past degrees letters d some (omega (arith, k, some, h .enough)) (omega (arith, l, some)))
           ∙ sym (rw (m, lt-ltb (d - degrees) letters b) (let z : letters - 1 - (d - degrees) ≡ degrees + (letters - 1) - d = omega (arith, k, l) in z))
 
-  pub place-of : (d : ℕ) → d < degrees → spelledAt s (firstStep d) ≡ placeAt s ((s .row .start + d) % degrees)
+  pub place-of : (d : ℕ) → d < degrees → spelledAt s (firstStep d) ≡ placeAt s ((s .start + d) % degrees)
   unfolding placeAt sharpCoordinate
   place-of d l =
-      let start = start-below (s .row) (h .table) in
+      let start = h .start-below in
       spelled-by d 0
-      ∙ ap (byCoordinates (cycleAt cycles 0) letters ((s .row .start + d) % degrees))
-      (flat-beside (s .row .start + d) (omega (arith, l, start)) (omega (arith, start)))
+      ∙ ap (byCoordinates (cycleAt cycles 0) letters ((s .start + d) % degrees))
+      (flat-beside (s .start + d) (omega (arith, l, start)) (omega (arith, start)))
 
-  bare-at : (d : ℕ) → d < degrees → bareName s d ≡ bareAt s ((s .row .start + d) % degrees)
+  bare-at : (d : ℕ) → d < degrees → bareName s d ≡ bareAt s ((s .start + d) % degrees)
   unfolding bareName bareAt
   bare-at d l = ap (nameText (lettersIn (s .row)) (s .«sharp_first»)) (place-of d l)
 
   -- ---- the sum of the lengths
 
   abbrev placed : ℕ → ℕ
-  placed t = (s .row .start + inverse * t % degrees) % degrees
+  placed t = (s .start + inverse * t % degrees) % degrees
 
   some-degrees : 0 < degrees
   some-degrees = omega (arith, h .walkable .below)
@@ -165,7 +164,7 @@ module _ (s : Speller) (h : Sound s) where
   bare-sum =
       sum-same _ (λ (t : ℕ). length (bareAt s (placed t))) degrees (λ t l. ap length (bare-at (inverse * t % degrees) (mod-lt (inverse * t) some-degrees)))
       ∙ turned-sum degrees _ _
-      (turned degrees inverse (h .partner) (s .row .start) some-degrees (h .partner-is) (omega (arith, start-below (s .row) (h .table), h .enough)))
+      (turned degrees inverse (h .partner) (s .start) some-degrees (h .partner-is) (omega (arith, h .start-below, h .enough)))
       (λ (p : ℕ). length (bareAt s p))
 
   turn-length : (t : ℕ) → length (joined (λ (c : ℕ). nameOf s (t * cycles + c)) cycles)

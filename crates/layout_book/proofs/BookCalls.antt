@@ -34,23 +34,23 @@ module _ (f g : ℕ → List ℕ) (same : (k : ℕ) → f k ≡ g k) (keys : ℕ
       (joined-same f g keys (λ i l. same i))
       ∙ sym (book-is g keys)
 
-pub book-refused : (r : IsomorphicLayout) (n : ℕ) → refused n ≡ layoutOutcome (r .genchain) (r .octave) (r .tritave) → refused n ≡ getBook r
+pub book-refused : (r : IsomorphicLayout) (n : ℕ) → refused n ≡ layoutOutcome r → refused n ≡ getBook r
 unfolding getBook
 book-refused r n e = of-refused r _ n e
 
-module _ (r : IsomorphicLayout) (l : Layout) (e : given l ≡ layoutOutcome (r .genchain) (r .octave) (r .tritave)) where
-  book-given : given (bookIn (r .genchain) (r .octave) l) ≡ getBook r
+module _ (r : IsomorphicLayout) (l : Layout) (e : given l ≡ layoutOutcome r) where
+  book-given : given (bookIn l) ≡ getBook r
   unfolding getBook
   book-given = of-given r _ l e
 
-  module _ (s : Speller) (w : SpellerOf (r .genchain) (r .octave) l s) where
-    spelled-book : bookText (nameOf s) (r .octave) ≡ bookIn (r .genchain) (r .octave) l
+  module _ (s : Speller) (w : SpellerOf l s) where
+    spelled-book : bookText (nameOf s) (l .octave) ≡ bookIn l
     unfolding bookIn
-    spelled-book = same-book (nameOf s) (nameIn (r .genchain) (r .octave) l) (w .names) (r .octave)
+    spelled-book = same-book (nameOf s) (nameIn l) (w .names) (l .octave)
 
-    pub book-count : (n : ℕ) → n ≡ length (bookText (nameOf s) (r .octave)) → given n ≡ counted (getBook r)
+    pub book-count : (n : ℕ) → n ≡ length (bookText (nameOf s) (l .octave)) → given n ≡ counted (getBook r)
     book-count n q = ap given (q ∙ ap length spelled-book) ∙ ap counted book-given
 
-    pub book-in-room : (room : ℕ) → heldIn room (bookText (nameOf s) (r .octave)) ≡ inRoom room (getBook r)
+    pub book-in-room : (room : ℕ) → heldIn room (bookText (nameOf s) (l .octave)) ≡ inRoom room (getBook r)
     book-in-room room =
         ap (heldIn room) spelled-book ∙ ap (λ (o : Outcome (List ℕ)). andThen o (heldIn room)) book-given

@@ -34,10 +34,10 @@ pub planned-as : {letters : List ℕ} {sf : Bool} {a b : Accidentals} {p : NameP
 planned-as {letters} {sf} {a} {b} {p} e w = subst (λ (x : Accidentals). Planned letters sf x p) e w
 
 pub spelled-is : (s : Speller) (step : Step) (a : Accidentals) (c : Cycle) → c ≡ cycleAt (s .solved .«num_cycles») (step .cycle)
-    → a ≡ accidentalsOf (s .solved .«reduced_period») (s .row .«num_letters») (s .row .start) (step .degree) c → a ≡ spelledAt s step
+    → a ≡ accidentalsOf (s .solved .«reduced_period») (s .row .«num_letters») (s .start) (step .degree) c → a ≡ spelledAt s step
 unfolding spelledAt
 spelled-is s step a c e q =
-    q ∙ ap (accidentalsOf (s .solved .«reduced_period») (s .row .«num_letters») (s .row .start) (step .degree)) e
+    q ∙ ap (accidentalsOf (s .solved .«reduced_period») (s .row .«num_letters») (s .start) (step .degree)) e
 
 pub cycle-present : (n c : ℕ) → 1 < n → Number c ≡ cycleAt n c
 unfolding cycleAt
@@ -143,13 +143,13 @@ module _ (s : Speller) (h : Sound s) where
   name-short k =
       let e = s .solved .«generator_inverse» * (k / cycles) % degrees in
       let c = cycleAt cycles (k % cycles) in
-      let a = accidentalsOf degrees (s .row .«num_letters») (s .row .start) e c in
+      let a = accidentalsOf degrees (s .row .«num_letters») (s .start) e c in
       omega (
         arith,
         names-are-short (lettersIn (s .row)) (s .«sharp_first») a,
-        sharps-small degrees (s .row .«num_letters») (s .row .start) e c five (h .enough) few-degrees,
-        flats-small degrees (s .row .«num_letters») (s .row .start) e c five (h .enough) few-degrees,
-        ap starsOf (cycle-kept degrees (s .row .«num_letters») (s .row .start) e c (h .enough)),
+        sharps-small degrees (s .row .«num_letters») (s .start) e c five (h .enough) few-degrees,
+        flats-small degrees (s .row .«num_letters») (s .start) e c five (h .enough) few-degrees,
+        ap starsOf (cycle-kept degrees (s .row .«num_letters») (s .start) e c (h .enough)),
         stars-at cycles (k % cycles),
         mod-lt k (h .walkable .some-cycles),
         few-cycles,
@@ -171,7 +171,7 @@ module _ (s : Speller) (h : Sound s) where
     pub spelled-at : spelledAt s step ≡ spelledAt s (stepAt s k)
     unfolding spelledAt
     spelled-at =
-        ap₂ (λ (d c : ℕ). accidentalsOf degrees (s .row .«num_letters») (s .row .start) d (cycleAt cycles c)) (at .degree-is) (at .cycle-is)
+        ap₂ (λ (d c : ℕ). accidentalsOf degrees (s .row .«num_letters») (s .start) d (cycleAt cycles c)) (at .degree-is) (at .cycle-is)
 
     pub name-planned : (p : NamePlan) → Planned (lettersIn (s .row)) (s .«sharp_first») (spelledAt s step) p → planText p ≡ nameOf s k
     unfolding nameOf

@@ -1,5 +1,5 @@
 -- The speller of an accepted layout has the layout's names, and can be followed.
-use Prim.Native.Nat.{ℕ, _*_, _/_, _≤_}
+use Prim.Native.Nat.{ℕ, _*_, _/_, _≤_, _<_}
 use native.Mathlib.Omega.{arith}
 use mathlib.Core.Path.{_≡_, refl, sym, ap, _∙_}
 use mathlib.Core.List.{List}
@@ -7,10 +7,10 @@ use Rattle.genchain.specs.declared.rows.ChainRow.{ChainRow}
 use Rattle.genchain.specs.Chains.{chainOf, rowOf, lettersIn}
 use Rattle.genchain.proofs.TableRows.{table-row, letters-in-row}
 use Rattle.genchain.proofs.GoodChains.{chains-are-good}
-use Rattle.layout.specs.Layouts.{Layout, Accepted, lettersOf, accidentalsIn, sharpFirst}
+use Rattle.layout.specs.Layouts.{Layout, lettersOf, accidentalsIn, sharpFirst}
 use Rattle.layout.specs.Names.{nameIn}
-use Rattle.layout.proofs.Finding.{accepted, count-found}
-use Rattle.layout.proofs.Naming.{enough-keys}
+use Rattle.layout.proofs.Finding.{Parts}
+use Rattle.layout.proofs.PatternShape.{pattern-shape}
 use Rattle.notes.specs.Names.{nameText}
 use Rattle.pergen.specs.declared.euclid.Solved.{Solved}
 use Rattle.pergen.specs.Pergen.{cycles, degree, cycle, cycleOf}
@@ -21,46 +21,53 @@ use Rattle.pergen.proofs.CarriedWalk.{walkable}
 use Rattle.layout_book.specs.Parts.{cycleAt, spelledAt, nameOf, Sound, SpellerOf}
 use Rattle.layout_book.specs.declared.parts.Speller.{Speller}
 
-module _ (code octave tritave : ℕ) (l : Layout) (e : Accepted code octave tritave l) where
+module _ (l : Layout) (a : Parts l) where
   abbrev made : ChainRow → Solved → Speller
-  made row solved = record { row = row; solved = solved; «sharp_first» = sharpFirst l }
+  made row solved = record { row = row; start = l .start; solved = solved; «sharp_first» = sharpFirst l }
 
-  module _ (row : ChainRow) (solved : Solved) (is : row ≡ rowOf (chainOf code)) (by : solved ≡ solvedOf octave (l .generator)) where
+  module _ (row : ChainRow) (solved : Solved) (is : row ≡ rowOf (chainOf (l .chain))) (by : solved ≡ solvedOf (l .octave) (l .generator)) where
     whole-name : (k : ℕ)
-        → nameOf (made (rowOf (chainOf code)) (solvedOf octave (l .generator))) k
-        ≡ nameText (lettersIn (rowOf (chainOf code))) (sharpFirst l) (accidentalsIn code octave l k)
-    unfolding nameOf spelledAt cycleAt rowOf solvedOf accidentalsIn keyAccidentals degree cycleOf cycle
+        → nameOf (made (rowOf (chainOf (l .chain))) (solvedOf (l .octave) (l .generator))) k
+        ≡ nameText (lettersIn (rowOf (chainOf (l .chain)))) (sharpFirst l) (keyAccidentals (l .octave) (l .generator) (lettersOf (l .chain)) (l .start) k)
+    unfolding nameOf spelledAt cycleAt rowOf solvedOf keyAccidentals degree cycleOf cycle
     whole-name k = refl
 
-    speller-names : (k : ℕ) → nameOf (made row solved) k ≡ nameIn code octave l k
-    unfolding nameIn
+    speller-names : (k : ℕ) → nameOf (made row solved) k ≡ nameIn l k
+    unfolding nameIn accidentalsIn
     speller-names k =
         ap (λ (r : ChainRow). nameOf (made r solved) k) is
-        ∙ ap (λ (x : Solved). nameOf (made (rowOf (chainOf code)) x) k) by
+        ∙ ap (λ (x : Solved). nameOf (made (rowOf (chainOf (l .chain))) x) k) by
         ∙ whole-name k
-        ∙ ap (λ (x : List ℕ). nameText x (sharpFirst l) (accidentalsIn code octave l k))
-        (letters-in-row (chainOf code) (chains-are-good code (accepted code octave tritave l e .chain) .at-most-nine))
+        ∙ ap (λ (n : ℕ). nameText (lettersIn (rowOf (chainOf (l .chain)))) (sharpFirst l) (keyAccidentals (l .octave) (l .generator) n (l .start) k))
+        (sym (a .letters-are))
+        ∙ ap (λ (x : List ℕ). nameText x (sharpFirst l) (accidentalsIn l k))
+        (letters-in-row (chainOf (l .chain)) (chains-are-good (l .chain) (a .chain) .at-most-nine))
+
+    -- as many letters as the layout has
+    row-letters-are : row .«num_letters» ≡ l .letters
+    unfolding rowOf
+    row-letters-are = ap (λ (r : ChainRow). r .«num_letters») is ∙ sym (a .letters-are)
 
     enough-degrees : row .«num_letters» ≤ solved .«reduced_period»
     unfolding solvedOf
-    enough-degrees = rw (count-found code row is, by) (enough-keys code octave tritave l e)
+    enough-degrees = rw (row-letters-are, by) (pattern-shape l a .enough-keys)
 
-    pub speller-sound : octave ≤ 65535 → Sound (made row solved)
+    pub speller-sound : l .octave ≤ 65535 → Sound (made row solved)
     unfolding solvedOf
     speller-sound small =
-        let a = accepted code octave tritave l e in
         record {
-          table = table-row code row (a .chain) is;
-          walkable = walkable octave (l .generator) (a .positive) solved by;
-          partner = l .generator / cycles octave (l .generator);
-          partner-is = rw by (numbers octave (l .generator) (a .positive) .one);
+          table = table-row (l .chain) row (a .chain) is;
+          start-below = rw row-letters-are (a .start-below);
+          walkable = walkable (l .octave) (l .generator) (a .positive) solved by;
+          partner = l .generator / cycles (l .octave) (l .generator);
+          partner-is = rw by (numbers (l .octave) (l .generator) (a .positive) .one);
           enough = enough-degrees;
-          fits = rw by (omega (arith, numbers octave (l .generator) (a .positive) .period));
+          fits = rw by (omega (arith, numbers (l .octave) (l .generator) (a .positive) .period));
         }
 
-    whole-octave : octave ≡ solved .«reduced_period» * solved .«num_cycles»
+    whole-octave : l .octave ≡ solved .«reduced_period» * solved .«num_cycles»
     unfolding solvedOf
-    whole-octave = rw by (numbers octave (l .generator) (accepted code octave tritave l e .positive) .period)
+    whole-octave = rw by (numbers (l .octave) (l .generator) (a .positive) .period)
 
-    pub speller-of : octave ≤ 65535 → SpellerOf code octave l (made row solved)
+    pub speller-of : l .octave ≤ 65535 → SpellerOf l (made row solved)
     speller-of small = record { sound = speller-sound small; octave-is = whole-octave; names = speller-names }

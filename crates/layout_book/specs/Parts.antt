@@ -30,7 +30,7 @@ cycleAt n c = pickCycle (ltb 1 n) (Number c) Absent
 unfoldable pub spelledAt : Speller → Step → Accidentals
 unfolding cycleAt
 spelledAt s step =
-    accidentalsOf (s .solved .«reduced_period») (s .row .«num_letters») (s .row .start) (step .degree)
+    accidentalsOf (s .solved .«reduced_period») (s .row .«num_letters») (s .start) (step .degree)
     (cycleAt (s .solved .«num_cycles») (step .cycle))
 
 -- Where the walk stands at key k: "degree inverse × (i div n) mod R and cycle i mod n".
@@ -71,10 +71,11 @@ unfoldable pub bareAt : Speller → ℕ → List ℕ
 unfolding placeAt
 bareAt s sharp = nameText (lettersIn (s .row)) (s .«sharp_first») (placeAt s sharp)
 
--- A speller that can be followed: a row of the table, at least as many degrees as letters, and no more than 65,535 keys.
+-- A speller that can be followed: a row of the table, a start among its letters, at least as many degrees as letters, and no more than 65,535 keys.
 -- The inverse has a partner, the steps of a generator: so each degree comes once in an octave.
 pub record Sound (s : Speller) : Type 0 where
   pub table : TableRow (s .row)
+  pub start-below : s .start < s .row .«num_letters»
   pub walkable : Walkable (s .solved)
   pub partner : ℕ
   pub partner-is : s .solved .«generator_inverse» * partner % s .solved .«reduced_period» ≡ 1 % s .solved .«reduced_period»
@@ -87,10 +88,10 @@ pub record OnWalk (s : Speller) (step : Step) : Type 0 where
   pub cycle-below : step .cycle < s .solved .«num_cycles»
 
 -- The speller of a layout: its names are the layout's, for each degree and cycle of the octave.
-pub record SpellerOf (code octave : ℕ) (l : Layout) (s : Speller) : Type 0 where
+pub record SpellerOf (l : Layout) (s : Speller) : Type 0 where
   pub sound : Sound s
-  pub octave-is : octave ≡ s .solved .«reduced_period» * s .solved .«num_cycles»
-  pub names : (k : ℕ) → nameOf s k ≡ nameIn code octave l k
+  pub octave-is : l .octave ≡ s .solved .«reduced_period» * s .solved .«num_cycles»
+  pub names : (k : ℕ) → nameOf s k ≡ nameIn l k
 
 -- "an offset and a length (4 bytes each, least first)"
 unfoldable pub numbersText : ℕ → ℕ → List ℕ

@@ -8,7 +8,6 @@
 pub mod parts;
 
 use answer::CountAnswer;
-use answer::Refusal;
 use genchain::rows;
 use layout::IsomorphicLayout;
 use layout::parts::FoundAnswer;
@@ -23,16 +22,12 @@ ghost use Rattle.layout_book.specs.LayoutBooks.{getBook};
 pub fn book_len(layout: IsomorphicLayout) -> CountAnswer
     ensures { λ r. ⌜ countOutcome r ≡ counted (getBook layout) ⌝ }
 {
-    let code = layout.genchain;
-    if 6 <= code {
-        return CountAnswer::Refused(Refusal::Chain);
-    }
-    let row = rows::row(code);
-    match layout::parts::find(layout, row.num_letters) {
+    let row = rows::row(layout.genchain);
+    match layout::parts::find(layout, row) {
         FoundAnswer::Refused(q) => CountAnswer::Refused(q),
         FoundAnswer::Given(found) => CountAnswer::Given(parts::book_length(
-            parts::speller_of(row, layout, found),
-            layout.octave,
+            parts::speller_of(row, found),
+            found.octave,
         )),
     }
 }
@@ -41,16 +36,12 @@ pub fn book_len(layout: IsomorphicLayout) -> CountAnswer
 pub fn write_book(layout: IsomorphicLayout, out: &mut [u8]) -> CountAnswer
     ensures { λ r. ⌜ Filled (inRoom (length (now (out .entry))) (getBook layout)) (countOutcome r) (now (out .entry)) (now (out .exit)) ⌝ }
 {
-    let code = layout.genchain;
-    if 6 <= code {
-        return CountAnswer::Refused(Refusal::Chain);
-    }
-    let row = rows::row(code);
-    match layout::parts::find(layout, row.num_letters) {
+    let row = rows::row(layout.genchain);
+    match layout::parts::find(layout, row) {
         FoundAnswer::Refused(q) => CountAnswer::Refused(q),
         FoundAnswer::Given(found) => parts::write_names(
-            parts::speller_of(row, layout, found),
-            layout.octave,
+            parts::speller_of(row, found),
+            found.octave,
             out,
         ),
     }

@@ -5,7 +5,6 @@
 use answer::CountAnswer;
 use answer::Refusal;
 use genchain::rows::ChainRow;
-use layout::IsomorphicLayout;
 use layout::parts::Found;
 use notes::plans;
 use notes::plans::NamePlan;
@@ -28,8 +27,7 @@ ghost use Rattle.answer.specs.Refusals.{countOutcome};
 ghost use Rattle.text.specs.Writing.{Room, Wrote, joined};
 ghost use Rattle.book.specs.Books.{pairText, bookText};
 ghost use Rattle.genchain.specs.Chains.{chainOf, rowOf, TableRow, lettersIn};
-ghost use Rattle.layout.specs.Layouts.{Accepted};
-ghost use Rattle.layout.specs.Parts.{layoutOf};
+ghost use Rattle.layout.specs.Parts.{layoutOf, Laid};
 ghost use Rattle.notes.specs.Names.{nameText};
 ghost use Rattle.notes.specs.Parts.{starredText, LettersOf, ShortLetters, Planned};
 ghost use Rattle.pergen.specs.Spelling.{byCoordinates};
@@ -56,19 +54,21 @@ ghost use Rattle.layout_book.specs.Parts.{
 // What all names of a layout have in common.
 pub struct Speller {
     pub row: ChainRow,
+    pub start: u16,
     pub solved: Solved,
     pub sharp_first: bool,
 }
 
-// The speller of an accepted layout.
-pub fn speller_of(row: ChainRow, layout: IsomorphicLayout, found: Found) -> Speller
-    requires { ⌜ (row ≡ rowOf (chainOf (layout .genchain))) × Accepted (layout .genchain) (layout .octave) (layout .tritave) (layoutOf found) ⌝ }
-    ensures { λ r. ⌜ SpellerOf (layout .genchain) (layout .octave) (layoutOf found) r ⌝ }
+// The speller of an accepted layout, with the letters of its chain's row.
+pub fn speller_of(row: ChainRow, found: Found) -> Speller
+    requires { ⌜ (row ≡ rowOf (chainOf (found .chain))) × Laid (layoutOf found) ⌝ }
+    ensures { λ r. ⌜ SpellerOf (layoutOf found) r ⌝ }
 {
-    let solved = euclid::solve(layout.octave, found.generator);
+    let solved = euclid::solve(found.octave, found.generator);
     let pattern = found.pattern;
     Speller {
         row,
+        start: found.start,
         solved,
         sharp_first: pattern.secondary_step <= pattern.primary_step,
     }
@@ -97,7 +97,7 @@ pub fn plan_at(speller: Speller, step: Step) -> NamePlan
     };
     let format = AccidentalsFormat {
         num_symbols: row.num_letters,
-        genchain_origin: row.start,
+        genchain_origin: speller.start,
     };
     let spelled = spelling::parts::accidentals(solved.reduced_period, format, generation);
     plans::plan_name(row, spelled, speller.sharp_first)
@@ -319,7 +319,7 @@ fn put_entries(out: &mut [u8], speller: Speller, keys: u16) -> usize
     let cycle = cycle_at(cycles, 0);
     let mut pair: usize = 4;
     let mut text = 4 + 8 * (keys as usize);
-    let mut place = row.start;
+    let mut place = speller.start;
     let mut turn: u16 = 0;
     while turn < degrees {
         let spelled = spelled_place(cycle, letters, reciprocal, degrees, place);

@@ -1,6 +1,5 @@
 -- The spellings of the carried degree and cycle, and their plan.
 use native.Mathlib.Omega.{arith}
-use Rattle.layout.proofs.Finding.{start-below}
 use Rattle.layout_book.proofs.Spelled.{planned-as, spelled-is}
 use borrow.Author.Needs.{needs}
 use Rattle.layout_book.proofs.parts.plan_at.Statement.{statement}
@@ -11,7 +10,7 @@ cycle-at-requires c κs = search needs
 
 accidentals-requires : tie.Need-accidentals-requires
 accidentals-requires c κs = (
-  start-below _ (c .before .before .before .pre .0 .table),
+  c .before .before .before .pre .0 .start-below,
   omega (arith, c .before .before .before .pre .1 .degree-below),
 )
 
