@@ -1,11 +1,10 @@
 -- From a speller's book to what the calls answer: equal names make equal books, and one law for each way in which a call ends.
 use Prim.Native.Nat.{ℕ, _+_, _*_}
-use mathlib.Core.Path.{_≡_, refl, sym, ap, ap₂, _∙_}
+use mathlib.Core.Path.{_≡_, sym, ap, ap₂, _∙_}
 use mathlib.Core.List.{List, _++_}
 use lib.ListN.{length}
 use Rattle.answer.specs.Outcome.{Outcome, given, refused, andThen}
 use Rattle.answer.specs.Lent.{heldIn, counted}
-use Rattle.text.specs.Writing.{joined}
 use Rattle.text.proofs.Joined.{joined-same}
 use Rattle.book.specs.Books.{pairText, bookText}
 use Rattle.text.specs.LittleEndian.{le32}
@@ -16,8 +15,8 @@ use Rattle.layout.specs.Names.{nameIn}
 use Rattle.layout.specs.Answers.{inRoom}
 use Rattle.layout.proofs.Calls.{of-refused, of-given}
 use Rattle.layout_book.specs.LayoutBooks.{bookIn, getBook}
-use Rattle.layout_book.specs.Parts.{nameOf, SpellerOf}
-use Rattle.layout_book.specs.declared.parts.Speller.{Speller}
+use Rattle.layout_speller.specs.Parts.{nameOf, SpellerOf}
+use Rattle.layout_speller.specs.declared.speller.Speller.{Speller}
 
 module _ (f g : ℕ → List ℕ) (same : (k : ℕ) → f k ≡ g k) (keys : ℕ) where
   same-pair : (k : ℕ) → pairText f keys k ≡ pairText g keys k

@@ -1,13 +1,11 @@
 -- The theorems on the books of all layouts: the speller's bounds, carried over to the layout's names.
-use Prim.Native.Nat.{ℕ, zero, suc, _+_, _*_, _≤_, _<_}
+use Prim.Native.Nat.{ℕ, _+_, _*_, _≤_}
 use native.Mathlib.Omega.{arith}
-use native.Mathlib.Nat.{mul-suc}
-use mathlib.Core.Path.{_≡_, refl, sym, ap, _∙_, subst}
+use mathlib.Core.Path.{_≡_, refl, subst}
 use mathlib.Core.List.{List}
-use lib.ListN.{length, length-append}
+use lib.ListN.{length}
 use Rattle.text.specs.Writing.{joined}
 use Rattle.text.proofs.Joined.{length-joined-more, length-joined-le}
-use Rattle.book.specs.Books.{bookText}
 use Rattle.book.specs.Theorems.{Writable}
 use Rattle.book.proofs.Written.{length-book, books-read-back}
 use Rattle.genchain.specs.Chains.{chainOf, rowOf}
@@ -16,18 +14,11 @@ use Rattle.layout.specs.Layouts.{Layout, Accepted}
 use Rattle.layout.specs.Names.{nameIn}
 use Rattle.layout.proofs.Finding.{accepted}
 use Rattle.pergen.specs.Parts.{solvedOf}
+use Rattle.layout_speller.proofs.Rounds.{short-texts}
+use Rattle.layout_speller.proofs.Spelled.{name-short, name-some}
+use Rattle.layout_speller.proofs.Spellers.{speller-of}
 use Rattle.layout_book.specs.LayoutBooks.{bookIn}
-use Rattle.layout_book.specs.Parts.{nameOf}
 use Rattle.layout_book.specs.Theorems.{OffsetsFit, WrittenBookIsRead}
-use Rattle.layout_book.proofs.Spelled.{name-short, name-some}
-use Rattle.layout_book.proofs.Spellers.{speller-of}
-
--- texts of at most w bytes each
-pub short-texts : (w : ℕ) (f : ℕ → List ℕ) (n : ℕ) → ((k : ℕ) → k < n → length (f k) ≤ w) → length (joined f n) ≤ w * n
-unfolding joined
-short-texts w f zero h = omega arith
-short-texts w f (suc n) h =
-    omega (arith, length-append (joined f n) (f n), h n (omega arith), short-texts w f n (λ k l. h k (omega arith)), mul-suc w n)
 
 module _ (r : IsomorphicLayout) (l : Layout) (e : Accepted r l) (small : l .octave ≤ 65535) where
   abbrev name : ℕ → List ℕ

@@ -17,9 +17,10 @@ use Rattle.pergen.specs.declared.Accidentals.{Accidentals}
 use Rattle.pergen.specs.declared.Cycle.{Cycle}
 use Rattle.pergen.specs.Spelling.{byCoordinates}
 use Rattle.pergen.proofs.CarriedWalk.{degree-start, degree-on}
-use Rattle.layout_book.specs.Parts.{cycleAt, spelledAt, firstStep, flatBeside, placeAt, nameOf, Sound, starredPair, CyclesFit, Beside}
-use Rattle.layout_book.specs.declared.parts.Speller.{Speller}
-use Rattle.layout_book.proofs.BareNames.{place-of}
+use Rattle.layout_speller.specs.Parts.{cycleAt, spelledAt, firstStep, flatBeside, placeAt, nameOf, Sound}
+use Rattle.layout_book.specs.Parts.{starredPair, CyclesFit, Beside}
+use Rattle.layout_speller.specs.declared.speller.Speller.{Speller}
+use Rattle.layout_speller.proofs.BareNames.{place-of}
 use Rattle.layout_book.proofs.Due.{Due, starred-names, starred-pairs, due-turn, length-starred-pairs}
 use Rattle.layout_book.proofs.SideBySide.{beside-then, beside-length}
 

@@ -3,7 +3,7 @@
 // Holds how long the book of an octave's key names is, and its writing into a lent slice; the crate `book` reads it.
 // specs/: LayoutBooks defines the book and what each call answers, Theorems says that every offset and length fits 32 bits
 // and that a written book is read back, name for name.
-// `parts` measures the names along the chain and plans each degree's name once. Every entry point answers every input.
+// `parts` plans each degree's name once; the crate `layout_speller` measures the names. Every entry point answers every input.
 // Nothing is assumed.
 pub mod parts;
 
@@ -11,6 +11,7 @@ use answer::CountAnswer;
 use genchain::rows;
 use layout::IsomorphicLayout;
 use layout::parts::FoundAnswer;
+use layout_speller::speller;
 ghost use mathlib.Core.Path.{_≡_};
 ghost use lib.ListN.{length};
 ghost use Rattle.answer.specs.Lent.{counted, Filled};
@@ -26,7 +27,7 @@ pub fn book_len(layout: IsomorphicLayout) -> CountAnswer
     match layout::parts::find(layout, row) {
         FoundAnswer::Refused(q) => CountAnswer::Refused(q),
         FoundAnswer::Given(found) => CountAnswer::Given(parts::book_length(
-            parts::speller_of(row, found),
+            speller::speller_of(row, found),
             found.octave,
         )),
     }
@@ -40,7 +41,7 @@ pub fn write_book(layout: IsomorphicLayout, out: &mut [u8]) -> CountAnswer
     match layout::parts::find(layout, row) {
         FoundAnswer::Refused(q) => CountAnswer::Refused(q),
         FoundAnswer::Given(found) => parts::write_names(
-            parts::speller_of(row, found),
+            speller::speller_of(row, found),
             found.octave,
             out,
         ),
