@@ -23,8 +23,8 @@ use Rattle.layout.specs.Layouts.{Layout, layoutOutcome}
 use Rattle.layout.specs.Names.{nameIn, noteName}
 use Rattle.layout.specs.declared.IsomorphicLayout.{IsomorphicLayout}
 use Rattle.layout_book.specs.LayoutBooks.{bookIn, getBook}
-use Rattle.layout_book.proofs.Spelled.{name-short}
-use Rattle.layout_book.proofs.Spellers.{speller-of}
+use Rattle.layout_speller.proofs.Spelled.{name-short}
+use Rattle.layout_speller.proofs.Spellers.{speller-of}
 use Rattle.layout_book.proofs.Theorems.{offsets-fit}
 use Rattle.math.proofs.Signed.{read-back}
 use Rattle.mos.specs.Answers.{ofPattern, genesisOutcome, listingOutcome}

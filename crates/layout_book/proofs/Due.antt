@@ -14,11 +14,12 @@ use Rattle.book.proofs.Written.{pair-is}
 use Rattle.genchain.specs.Chains.{lettersIn}
 use Rattle.notes.specs.Parts.{bodyText, starredText, planText, Planned}
 use Rattle.notes.specs.declared.plans.NamePlan.{NamePlan}
-use Rattle.layout_book.specs.Parts.{spelledAt, firstStep, nameOf, bareName, Sound, numbersText, starredPair}
-use Rattle.layout_book.specs.declared.parts.Speller.{Speller}
-use Rattle.layout_book.proofs.Spelled.{name-short}
-use Rattle.layout_book.proofs.Theorems.{short-texts}
-use Rattle.layout_book.proofs.BareNames.{bare-step, name-starred}
+use Rattle.layout_speller.specs.Parts.{spelledAt, firstStep, nameOf, bareName, Sound}
+use Rattle.layout_book.specs.Parts.{numbersText, starredPair}
+use Rattle.layout_speller.specs.declared.speller.Speller.{Speller}
+use Rattle.layout_speller.proofs.Spelled.{name-short}
+use Rattle.layout_speller.proofs.Rounds.{short-texts}
+use Rattle.layout_speller.proofs.BareNames.{bare-step, name-starred}
 
 pub record Due (s : Speller) (keys k offset : ℕ) : Type 0 where
   pub is : offset ≡ 4 + 8 * keys + length (joined (nameOf s) k)

@@ -21,8 +21,8 @@ use Rattle.layout_layers.specs.KeyLayers.{countIn}
 use Rattle.layout_layers.specs.Parts.{keysOf, totalOf, PlanOf, Fronted}
 use Rattle.layout_layers.proofs.PlanLaws.{count-is, keys-are}
 use Rattle.layout_layers.proofs.SpreadLaws.{listed-at}
-use Rattle.layout_book.specs.declared.parts.Speller.{Speller}
-use Rattle.layout_book.specs.Parts.{SpellerOf}
+use Rattle.layout_speller.specs.declared.speller.Speller.{Speller}
+use Rattle.layout_speller.specs.Parts.{SpellerOf}
 use Rattle.lamps.specs.Lamps.{stripOf, lampIn, stripIn, hasLampsIn}
 use Rattle.lamps.specs.Parts.{planStrip}
 use Rattle.lamps.proofs.StripLaws.{lamps-by-count-at, strip-is}

@@ -20,7 +20,7 @@ use Rattle.layout.specs.Names.{nameIn}
 use Rattle.layout_layers.proofs.Counts.{signs-by-count}
 use Rattle.lamps.specs.Lamps.{lampIn, hasLampsIn}
 use Rattle.lamps.proofs.Theorems.{few-numbers, lamps-bound-the-octave, codes-fit-bytes}
-use Rattle.layout_book.proofs.Theorems.{short-texts}
+use Rattle.layout_speller.proofs.Rounds.{short-texts}
 use Rattle.text.proofs.Digits.{digits-length}
 use Rattle.line.specs.Lines.{isLine, lineOutcome}
 use Rattle.line.specs.declared.Line.{Line}

@@ -7,8 +7,8 @@ use lib.ListN.{length, length-append, getD}
 use Rattle.text.specs.Writing.{joined}
 use Rattle.text.specs.Decimal.{digits}
 use Rattle.line.specs.Lines.{space, lineFeed}
-use Rattle.layout_book.specs.declared.parts.Speller.{Speller}
-use Rattle.layout_book.specs.Parts.{nameOf}
+use Rattle.layout_speller.specs.declared.speller.Speller.{Speller}
+use Rattle.layout_speller.specs.Parts.{nameOf}
 use Rattle.table.specs.Tables.{keyLine, refusedWord, refusalLine}
 use Rattle.table.specs.Parts.{lineOf, numbersLine}
 

@@ -12,8 +12,8 @@ use Rattle.layout.specs.declared.parts.FoundAnswer.{FoundAnswer}
 use Rattle.layout.specs.declared.parts.FoundAnswer.the-variants as FoundAnswer
 use Rattle.layout.specs.Layouts.{Layout, Accepted}
 use Rattle.layout.specs.Parts.{layoutOf}
-use Rattle.layout_book.specs.declared.parts.Speller.{Speller}
-use Rattle.layout_book.specs.Parts.{nameOf}
+use Rattle.layout_speller.specs.declared.speller.Speller.{Speller}
+use Rattle.layout_speller.specs.Parts.{nameOf}
 use Rattle.table.specs.Tables.{keyLine, getTable}
 
 -- The layout that is asked for, which is accepted and has lamps.

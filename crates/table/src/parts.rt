@@ -7,7 +7,7 @@ use genchain::rows;
 use layout::IsomorphicLayout;
 use layout::parts::Found;
 use layout::parts::FoundAnswer;
-use layout_book::parts::Speller;
+use layout_speller::speller::Speller;
 use notes::plans::NamePlan;
 use notes::texts;
 use pergen::stepping;
@@ -23,7 +23,7 @@ ghost use Rattle.text.specs.Writing.{Room, Wrote, joined};
 ghost use Rattle.layout.specs.Parts.{layoutOf};
 ghost use Rattle.notes.specs.Parts.{planText, ShortLetters};
 ghost use Rattle.table.specs.Tables.{keyLine, tableIn, refusalLine};
-ghost use Rattle.layout_book.specs.Parts.{Sound};
+ghost use Rattle.layout_speller.specs.Parts.{Sound};
 ghost use Rattle.table.specs.Parts.{Asked, Printable, LampsIn, numbersLine, lineOf};
 
 // Questions 1 to 4 and 9.
@@ -72,7 +72,7 @@ fn lines_length(speller: Speller, strip: &[u8], keys: u16) -> usize
     requires { ⌜ Sound speller × (keys ≡ speller .solved .«reduced_period» * speller .solved .«num_cycles») × (keys ≤ length (now strip)) ⌝ }
     ensures { λ r. ⌜ r ≡ length (joined (lineOf speller (now (strip .entry))) keys) ⌝ }
 {
-    layout_book::parts::names_length(speller) + numbers_length(strip, keys)
+    layout_speller::lengths::names_length(speller) + numbers_length(strip, keys)
 }
 
 // A key's line; the place after it.
@@ -98,7 +98,7 @@ fn put_lines(out: &mut [u8], speller: Speller, strip: &[u8], keys: u16) -> usize
     let mut step = stepping::first(solved);
     let mut key: u16 = 0;
     while key < keys {
-        let name = layout_book::parts::plan_at(speller, step);
+        let name = layout_speller::speller::plan_at(speller, step);
         let lamp = strip[key as usize] as u16;
         place = put_line(out, place, key, name, lamp);
         step = stepping::next(solved, step);
@@ -128,7 +128,7 @@ pub fn table_length(layout: IsomorphicLayout, found: Found) -> usize
     let mut strip: [u8; 1818] = [0; 1818];
     put_lamps(layout, found, &mut strip);
     let row = rows::row(layout.genchain);
-    let speller = layout_book::parts::speller_of(row, layout, found);
+    let speller = layout_speller::speller::speller_of(row, layout, found);
     lines_length(speller, &strip, layout.octave)
 }
 
@@ -140,7 +140,7 @@ pub fn print_table(layout: IsomorphicLayout, found: Found, out: &mut [u8]) -> Co
     let mut strip: [u8; 1818] = [0; 1818];
     put_lamps(layout, found, &mut strip);
     let row = rows::row(layout.genchain);
-    let speller = layout_book::parts::speller_of(row, layout, found);
+    let speller = layout_speller::speller::speller_of(row, layout, found);
     write_lines(speller, &strip, layout.octave, out)
 }
 

@@ -5,7 +5,7 @@ use mathlib.Core.Path.{ap}
 use lib.ListN.{length}
 use Rattle.text.specs.Writing.{joined}
 use Rattle.book.proofs.Written.{length-book}
-use Rattle.layout_book.specs.Parts.{nameOf}
+use Rattle.layout_speller.specs.Parts.{nameOf}
 use borrow.Author.Needs.{needs}
 use Rattle.layout_book.proofs.parts.book_length.Statement.{statement}
 use Rattle.layout_book.proofs.parts.book_length.Tie as tie

@@ -9,7 +9,7 @@ use Rattle.book.specs.Books.{pairText}
 use Rattle.text.specs.LittleEndian.{le32}
 use Rattle.text.proofs.FourBytes.{length-le32}
 use Rattle.book.proofs.Written.{length-book, length-pairs, book-is}
-use Rattle.layout_book.specs.Parts.{nameOf}
+use Rattle.layout_speller.specs.Parts.{nameOf}
 use borrow.Author.Needs.{needs}
 use Rattle.layout_book.proofs.parts.put_book.Statement.{statement}
 use Rattle.layout_book.proofs.parts.put_book.Tie as tie

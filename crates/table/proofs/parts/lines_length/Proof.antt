@@ -4,7 +4,7 @@ use mathlib.Core.Path.{sym, ap, _∙_}
 use native.Mathlib.Omega.{arith}
 use lib.ListN.{length}
 use Rattle.text.specs.Writing.{joined}
-use Rattle.layout_book.specs.Parts.{nameOf}
+use Rattle.layout_speller.specs.Parts.{nameOf}
 use Rattle.table.proofs.Lines.{length-lines}
 use borrow.Author.Needs.{needs}
 use Rattle.table.proofs.parts.lines_length.Statement.{statement}

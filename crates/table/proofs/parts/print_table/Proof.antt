@@ -13,7 +13,7 @@ use Rattle.table.proofs.parts.print_table.Tie as tie
 use Rattle.table.proofs.parts.print_table.Reads as reads
 use Rattle.table.proofs.parts.print_table.Lts as lts
 use Rattle.genchain.proofs.rows.row.Reads as row-reads
-use Rattle.layout_book.proofs.parts.speller_of.Reads as speller-of-reads
+use Rattle.layout_speller.proofs.speller.speller_of.Reads as speller-of-reads
 use Rattle.table.proofs.parts.put_lamps.Reads as put-lamps-reads
 use Rattle.table.proofs.parts.write_lines.Reads as write-lines-reads
 

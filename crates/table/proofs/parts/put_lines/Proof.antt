@@ -8,7 +8,7 @@ use borrow.Author.Needs.{needs}
 use Rattle.text.specs.Writing.{Wrote, joined}
 use Rattle.text.proofs.Writing.{wrote-as, wrote-length}
 use Rattle.text.proofs.Joined.{joined-start, joined-step, joined-room}
-use Rattle.layout_book.proofs.Spelled.{on-walk, name-planned}
+use Rattle.layout_speller.proofs.Spelled.{on-walk, name-planned}
 use Rattle.pergen.specs.Parts.{At}
 use Rattle.pergen.proofs.CarriedWalk.{at-next}
 use Rattle.table.specs.Parts.{lineOf}
@@ -17,7 +17,7 @@ use Rattle.table.proofs.parts.put_lines.Statement.{statement}
 use Rattle.table.proofs.parts.put_lines.Tie as tie
 use Rattle.table.proofs.parts.put_lines.Reads as reads
 use Rattle.table.proofs.parts.put_lines.Lts as lts
-use Rattle.layout_book.proofs.parts.plan_at.Reads as plan-at-reads
+use Rattle.layout_speller.proofs.speller.plan_at.Reads as plan-at-reads
 use Rattle.pergen.proofs.stepping.first.Reads as first-reads
 use Rattle.pergen.proofs.stepping.next.Reads as next-reads
 use Rattle.table.proofs.parts.put_line.Reads as put-line-reads

@@ -11,7 +11,7 @@ use Rattle.table.proofs.parts.table_length.Tie as tie
 use Rattle.table.proofs.parts.table_length.Reads as reads
 use Rattle.table.proofs.parts.table_length.Lts as lts
 use Rattle.genchain.proofs.rows.row.Reads as row-reads
-use Rattle.layout_book.proofs.parts.speller_of.Reads as speller-of-reads
+use Rattle.layout_speller.proofs.speller.speller_of.Reads as speller-of-reads
 use Rattle.table.proofs.parts.lines_length.Reads as lines-length-reads
 use Rattle.table.proofs.parts.put_lamps.Reads as put-lamps-reads
 
