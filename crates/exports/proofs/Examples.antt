@@ -4,11 +4,12 @@ use Rattle.mos.specs.Answers.{ofPattern, coprimeOutcome}
 use Rattle.mos.specs.Patterns.{childOf}
 use Rattle.pergen.specs.Answers.{getGeneration, getAccidentals}
 use Rattle.layout.specs.Answers.{getSoundedKey}
-use Rattle.exports.specs.Written.{pergenOutput, findOutput, layoutOutput}
+use Rattle.layout_layers.specs.KeyLayers.{kindOf}
+use Rattle.exports.specs.Written.{pergenOutput, findOutput, lettersOutput, nameOutput, layoutOutput}
 use Rattle.exports.specs.Examples.{ExamplesHold}
 
 pub examples-hold : ExamplesHold
-unfolding pergenOutput getGeneration getAccidentals ofPattern childOf coprimeOutcome findOutput layoutOutput getSoundedKey
+unfolding pergenOutput getGeneration getAccidentals ofPattern childOf coprimeOutcome findOutput lettersOutput nameOutput kindOf layoutOutput getSoundedKey
 examples-hold = record {
   pergens = refl;
   no-period = refl;
@@ -20,6 +21,10 @@ examples-hold = record {
   coprime = refl;
   found = refl;
   none-found = refl;
+  letters = refl;
+  chain-name = refl;
+  no-chain = refl;
+  kinds = refl;
   layouts = refl;
   spellings = refl;
 }

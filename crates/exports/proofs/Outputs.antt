@@ -5,7 +5,7 @@ use mathlib.Core.Bool.{Bool, true}
 use mathlib.Core.Option.{Option}
 use mathlib.Core.List.{List, [], _∷_, _++_}
 use native.Mathlib.Omega.{arith}
-use lib.Dec.{leb}
+use lib.Dec.{leb, ltb}
 use lib.IntN.{ℤ}
 use lib.ListN.{length}
 use borrow.Author.Tests.{leb-true}
@@ -15,6 +15,7 @@ use Rattle.answer.specs.Outcome.{Outcome, given, refused, ask, andThen}
 use Rattle.answer.specs.Lent.{heldIn}
 use Rattle.answer.proofs.Asked.{given-same, asked-yes, asked-rest, ask-then}
 use Rattle.answer.proofs.Questions.{ask-none, ask-some}
+use Rattle.genchain.specs.Answers.{lettersOutcome, nameOutcome}
 use Rattle.genchain.specs.Chains.{chainOf, rowOf}
 use Rattle.layers.specs.Answers.{layersOutcome}
 use Rattle.layers.specs.Layers.{layersOf}
@@ -26,6 +27,7 @@ use Rattle.layout_book.specs.LayoutBooks.{bookIn, getBook}
 use Rattle.layout_speller.proofs.Spelled.{name-short}
 use Rattle.layout_speller.proofs.Spellers.{speller-of}
 use Rattle.layout_book.proofs.Theorems.{offsets-fit}
+use Rattle.layout_layers.specs.declared.Layer.{Layer}
 use Rattle.math.proofs.Signed.{read-back}
 use Rattle.mos.specs.Answers.{ofPattern, genesisOutcome, listingOutcome}
 use Rattle.mos.specs.Patterns.{isPattern, genesis, keyAt}
@@ -37,7 +39,7 @@ use Rattle.pergen.specs.Spelling.{starsOf}
 use Rattle.pergen.specs.declared.Generation.{Generation}
 use Rattle.pergen.specs.declared.euclid.Solved.{Solved}
 use Rattle.codes.specs.Numbers.{asNumbers, walkNumbers}
-use Rattle.exports.specs.Written.{pergenNumbers, pergenOutput, presence, generationNumbers, findOutput, layoutNumbers, layoutOutput}
+use Rattle.exports.specs.Written.{pergenNumbers, pergenOutput, presence, generationNumbers, findOutput, lettersOutput, nameOutput, layoutNumbers, layoutOutput, kindNumber, kindLevel, kindNumbers}
 
 -- ---- pergens
 
@@ -98,6 +100,21 @@ layers-in-room room m = ask-then 7 (isPattern m) (given (layersOf m)) (heldIn ro
 pub key-read-back : (m : Mos) (p s : ℤ) → SFits w16 p → SFits w16 s
     → ofPattern m (keyAt m (toZ w16 (ofZ w16 p)) (toZ w16 (ofZ w16 s))) ≡ ofPattern m (keyAt m p s)
 key-read-back m p s f g = ap₂ (λ (x y : ℤ). ofPattern m (keyAt m x y)) (read-back w16 p f) (read-back w16 s g)
+
+-- ---- chains
+
+pub letters-in-room : (room code : ℕ) → inRoom room (lettersOutput code) ≡ lettersOutcome code room
+unfolding lettersOutput lettersOutcome
+letters-in-room room code = ask-then 1 (ltb code 6) (given (chainOf code .letters)) (heldIn room)
+
+pub name-in-room : (room code : ℕ) → inRoom room (nameOutput code) ≡ nameOutcome code room
+unfolding nameOutput nameOutcome
+name-in-room room code = ask-then 1 (ltb code 6) (given (chainOf code .name)) (heldIn room)
+
+-- ---- layers
+
+pub kind-given : {layer kind : Layer} (n k : ℕ) → layer ≡ kind → n ≡ kindNumber layer → k ≡ kindLevel layer → given (n ∷ k ∷ []) ≡ given (kindNumbers kind)
+kind-given n k is p q = ap₂ (λ (x y : ℕ). given (x ∷ y ∷ [])) p q ∙ ap (λ (l : Layer). given (kindNumbers l)) is
 
 -- ---- layouts
 

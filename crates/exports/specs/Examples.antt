@@ -5,12 +5,13 @@ use mathlib.Core.Path.{_≡_}
 use lib.IntN.{ℤ, pos, negsuc}
 use Rattle.answer.specs.Outcome.{Outcome, given, refused}
 use Rattle.layout.specs.Answers.{getSoundedKey}
+use Rattle.layout_layers.specs.KeyLayers.{kindOf}
 use Rattle.mos.specs.Answers.{ofPattern, coprimeOutcome}
 use Rattle.mos.specs.Patterns.{mos, childOf}
 use Rattle.mos.specs.Walks.{fields}
 use Rattle.pergen.specs.Answers.{getGeneration, getAccidentals}
 use Rattle.codes.specs.Numbers.{asNumbers, accidentalsNumbers, walkNumbers}
-use Rattle.exports.specs.Written.{pergen, format, layout, spelling, pergenOutput, generationNumbers, findOutput, layoutOutput}
+use Rattle.exports.specs.Written.{pergen, format, layout, spelling, pergenOutput, generationNumbers, findOutput, lettersOutput, nameOutput, layoutOutput, kindNumbers}
 
 -- A layout's three numbers, and what is written for it.
 pub record LayoutExample : Type 0 where
@@ -68,6 +69,14 @@ pub record ExamplesHold : Type 0 where
   pub coprime : asNumbers fields (coprimeOutcome (mos 1 60000 4 0)) ≡ refused 8
   pub found : findOutput 12 7 7 ≡ given (5 ∷ 2 ∷ 2 ∷ 1 ∷ [])
   pub none-found : findOutput 12 7 6 ≡ given []
+  -- β F C G D A E B φ
+  pub letters : lettersOutput 0 ≡ given (946 ∷ 70 ∷ 67 ∷ 71 ∷ 68 ∷ 65 ∷ 69 ∷ 66 ∷ 966 ∷ [])
+  -- Hanson[7]
+  pub chain-name : nameOutput 5 ≡ given (72 ∷ 97 ∷ 110 ∷ 115 ∷ 111 ∷ 110 ∷ 91 ∷ 55 ∷ 93 ∷ [])
+  pub no-chain : map (λ (f : ℕ → Outcome (List ℕ)). f 6) (lettersOutput ∷ nameOutput ∷ []) ≡ refused 1 ∷ refused 1 ∷ []
+  -- the numbers 0 to 5 of 6: natural, sharp 0 and 1, enharmonic 2, flat 1 and 0
+  pub kinds : map (λ (j : ℕ). kindNumbers (kindOf 6 j)) (0 ∷ 1 ∷ 2 ∷ 3 ∷ 4 ∷ 5 ∷ [])
+      ≡ (0 ∷ 0 ∷ []) ∷ (1 ∷ 0 ∷ []) ∷ (1 ∷ 1 ∷ []) ∷ (2 ∷ 2 ∷ []) ∷ (3 ∷ 1 ∷ []) ∷ (3 ∷ 0 ∷ []) ∷ []
   pub layouts : map (λ (e : LayoutExample). layoutOutput (e .code) (e .octave) (e .tritave)) layoutExamples
       ≡ map (λ (e : LayoutExample). e .output) layoutExamples
   pub spellings : map

@@ -7,8 +7,12 @@ use Rattle.answer.specs.Outcome.{Outcome, given, ask, andThen}
 use Rattle.book.specs.declared.Place.{Place}
 use Rattle.book.specs.Books.{findOutcome}
 use Rattle.codes.specs.Numbers.{asNumbers, walkNumbers}
+use Rattle.genchain.specs.Answers.{askChain}
+use Rattle.genchain.specs.Chains.{chainOf}
 use Rattle.layout.specs.declared.IsomorphicLayout.{IsomorphicLayout}
 use Rattle.layout.specs.Layouts.{Layout, layoutOutcome}
+use Rattle.layout_layers.specs.declared.Layer.{Layer}
+use Rattle.layout_layers.specs.declared.Layer.the-variants.{Natural, Sharp, Enharmonic, Flat}
 use Rattle.mos.specs.declared.Mos.{Mos}
 use Rattle.mos.specs.Walks.{children, firstWith, fields}
 use Rattle.mos.specs.Answers.{genesisOutcome}
@@ -68,6 +72,16 @@ unfolding genesisOutcome children
 findOutput P G steps =
     andThen (genesisOutcome P G) (λ (m : Mos). given (walkNumbers (firstWith steps (children m))))
 
+-- ---- chains: question 1, then the column "letters" or "chain" of the table
+
+unfoldable pub lettersOutput : ℕ → Outcome (List ℕ)
+unfolding chainOf
+lettersOutput code = askChain code (given (chainOf code .letters))
+
+unfoldable pub nameOutput : ℕ → Outcome (List ℕ)
+unfolding chainOf
+nameOutput code = askChain code (given (chainOf code .name))
+
 -- ---- layouts
 
 -- The generator, the pergen's numbers and the pattern's.
@@ -80,6 +94,23 @@ unfoldable pub layoutOutput : ℕ → ℕ → ℕ → Outcome (List ℕ)
 unfolding layoutOutcome layoutNumbers
 layoutOutput code octave tritave =
     andThen (layoutOutcome code octave tritave) (λ (l : Layout). given (layoutNumbers octave l))
+
+-- A layer's kind as a number, in the order in which "Step patterns" names the kinds.
+abbrev pub kindNumber : Layer → ℕ
+kindNumber Natural = 0
+kindNumber (Sharp k) = 1
+kindNumber (Enharmonic k) = 2
+kindNumber (Flat k) = 3
+
+-- "sharp j − 1", "enharmonic j − 1", "flat T − j − 1": which of its kind it is; the natural layer is the only one.
+abbrev pub kindLevel : Layer → ℕ
+kindLevel Natural = 0
+kindLevel (Sharp k) = k
+kindLevel (Enharmonic k) = k
+kindLevel (Flat k) = k
+
+abbrev pub kindNumbers : Layer → List ℕ
+kindNumbers layer = kindNumber layer ∷ kindLevel layer ∷ []
 
 -- ---- books
 

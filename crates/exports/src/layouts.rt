@@ -1,17 +1,20 @@
 // Layouts: a chain code, an octave and a tritave; their numbers, names, spellings, layers and lamps.
 use layout::IsomorphicLayout;
 use layout::parts::FoundAnswer;
+use layout_layers::Layer;
 use pergen::Signs;
 use pergen::Spelling;
 use pergen::euclid;
 ghost use mathlib.Core.Path.{_≡_};
 ghost use Rattle.answer.specs.Lent.{counted};
-ghost use Rattle.lamps.specs.Answers.{getStrip};
+ghost use Rattle.answer.specs.Outcome.{given};
+ghost use Rattle.lamps.specs.Answers.{getStrip, getLamp};
 ghost use Rattle.layout.specs.Answers.{getAccidentals, getScaleName, getNoteName, getSoundedKey};
-ghost use Rattle.layout_layers.specs.Answers.{getLayers, getLayerCount};
+ghost use Rattle.layout_layers.specs.Answers.{getLayers, getLayerCount, getLayer};
+ghost use Rattle.layout_layers.specs.KeyLayers.{kindOf};
 ghost use Rattle.codes.specs.Codes.{codeOf, Fills};
 ghost use Rattle.codes.specs.Numbers.{asNumbers, accidentalsNumbers};
-ghost use Rattle.exports.specs.Written.{layout, layoutOutput, spelling};
+ghost use Rattle.exports.specs.Written.{layout, layoutOutput, spelling, kindNumber, kindLevel, kindNumbers};
 
 // Generator, cycles, reduced period, inverse, then the pattern's four numbers (1, 2, 3, 4, 10).
 #[no_mangle]
@@ -158,6 +161,53 @@ pub extern "C" fn vn_layout_layers(chain: u16, octave: u16, tritave: u16, out: &
     codes::count(layout_layers::get_layers(layout, out))
 }
 
+// The layer number of one key (1, 2, 3, 4).
+#[no_mangle]
+pub extern "C" fn vn_layer(chain: u16, octave: u16, tritave: u16, key: u16) -> i64
+    ensures { λ r. ⌜ r ≡ codeOf (getLayer (layout chain octave tritave) key) ⌝ }
+{
+    let layout = IsomorphicLayout {
+        genchain: chain,
+        octave,
+        tritave,
+    };
+    codes::number(layout_layers::get_layer(layout, key))
+}
+
+// A kind of layer: the numbers of VN_NATURAL, VN_SHARP, VN_ENHARMONIC and VN_FLAT.
+fn kind_number(layer: Layer) -> u16
+    ensures { λ r. ⌜ r ≡ kindNumber layer ⌝ }
+{
+    match layer {
+        Layer::Natural => 0,
+        Layer::Sharp(_) => 1,
+        Layer::Enharmonic(_) => 2,
+        Layer::Flat(_) => 3,
+    }
+}
+
+// Which of its kind a layer is, from 0; 0 for the natural one.
+fn kind_level(layer: Layer) -> u16
+    ensures { λ r. ⌜ r ≡ kindLevel layer ⌝ }
+{
+    match layer {
+        Layer::Natural => 0,
+        Layer::Sharp(level) => level,
+        Layer::Enharmonic(level) => level,
+        Layer::Flat(level) => level,
+    }
+}
+
+// What a layer's number means, of as many as `total` says: its kind, and which of that kind (10).
+#[no_mangle]
+pub extern "C" fn vn_layer_kind(total: u16, number: u16, out: &mut [u16]) -> i64
+    ensures { λ r. ⌜ Fills (given (kindNumbers (kindOf total number))) r (now (out .entry)) (now (out .exit)) ⌝ }
+{
+    let layer = layout_layers::kind(total, number);
+    let numbers: [u16; 2] = [kind_number(layer), kind_level(layer)];
+    codes::put(out, &numbers)
+}
+
 // The lamp code of each key (1, 2, 3, 4, 9, 10).
 #[no_mangle]
 pub extern "C" fn vn_lamp_strip(chain: u16, octave: u16, tritave: u16, out: &mut [u8]) -> i64
@@ -169,4 +219,17 @@ pub extern "C" fn vn_lamp_strip(chain: u16, octave: u16, tritave: u16, out: &mut
         tritave,
     };
     codes::count(lamps::lamp_strip(layout, out))
+}
+
+// The lamp code of one key (1, 2, 3, 4, 9).
+#[no_mangle]
+pub extern "C" fn vn_lamp(chain: u16, octave: u16, tritave: u16, key: u16) -> i64
+    ensures { λ r. ⌜ r ≡ codeOf (getLamp (layout chain octave tritave) key) ⌝ }
+{
+    let layout = IsomorphicLayout {
+        genchain: chain,
+        octave,
+        tritave,
+    };
+    codes::number(lamps::lamp(layout, key))
 }

@@ -1,6 +1,7 @@
 //! Which inputs are compared: small ones all, then limits and numbers at random.
 
 mod books;
+mod chains;
 mod known;
 mod layouts;
 mod patterns;
@@ -50,6 +51,7 @@ pub fn tasks(mode: Mode, seed: u64) -> Vec<Task> {
     pergens::plan(&mut tasks, mode, seed);
     books::plan(&mut tasks, mode, seed);
     tables::plan(&mut tasks, mode, seed);
+    chains::plan(&mut tasks, mode, seed);
     tasks
 }
 

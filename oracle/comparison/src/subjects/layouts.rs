@@ -1,5 +1,7 @@
 //! Layouts: making one, its scale name, the layers of its keys, strip and book.
 
+use std::fmt::Debug;
+
 use judge::layouts;
 use judge::spelling;
 use reading::Outcome;
@@ -13,6 +15,7 @@ use reading::layouts::Layout;
 use reading::layouts::strip_of;
 use tune::layout::IsomorphicLayout;
 use tune::layout::Layer;
+use vetchnoon::Refused;
 
 use crate::classes;
 use crate::classes::Class;
@@ -156,11 +159,42 @@ impl GivenLayout {
         let original = self
             .original_layers()
             .then(|layers| numbers_of(layers, total));
+        self.compare_each(tally, Call::Layer, &reading, vetchnoon::layer);
         let class = self.class(classes::of_layout_layers);
         let question = self.asking(Call::LayoutLayers);
         let call =
             |out: &mut [u16]| vetchnoon::layout_layers(self.code, self.octave, self.tritave, out);
         tally.compare_filling(question, reading, original, class, call);
+    }
+
+    /// A call for one key against the list of all, which repeats: each key that has
+    /// an entry, some beyond, and two keys where the layout is refused. The original
+    /// has lists alone.
+    fn compare_each<T: Copy + PartialEq + Debug>(
+        &self,
+        tally: &mut Tally,
+        call: Call,
+        reading: &Outcome<Vec<T>>,
+        library: impl Fn(u16, u16, u16, u16) -> Result<T, Refused>,
+    ) {
+        let entries = reading.as_ref().map_or(1, Vec::len);
+        let keys = (0..entries).chain([entries, entries + 1, usize::from(u16::MAX)]);
+        for key in keys.filter_map(|key| u16::try_from(key).ok()) {
+            let answers = Answers {
+                library: outcome(library(self.code, self.octave, self.tritave, key)),
+                reading: match reading {
+                    Ok(list) => Ok(list[usize::from(key) % entries]),
+                    Err(number) => Err(*number),
+                },
+                original: Original::Silent,
+            };
+            let arguments = [self.code, self.octave, self.tritave, key].map(i64::from);
+            let question = Question {
+                call,
+                arguments: &arguments,
+            };
+            tally.compare(question, &answers, None);
+        }
     }
 
     fn original_layers(&self) -> Original<Vec<Layer>> {
@@ -178,6 +212,7 @@ impl GivenLayout {
         let original = self
             .original_layers()
             .then(|layers| strip_from(&layers[..octave]));
+        self.compare_each(tally, Call::Lamp, &reading, vetchnoon::lamp);
         let class = self.class(classes::of_layout_layers);
         let question = self.asking(Call::LampStrip);
         let call =
@@ -211,6 +246,24 @@ impl GivenLayout {
             Original::of(names.map(|names| books::of_names(&names)))
         })
     }
+}
+
+/// What a layer number means of T. A number from T on, of which document 01 says
+/// nothing, counts as flat 0, as the header says.
+pub fn compare_kind(tally: &mut Tally, total: u16, number: u16) {
+    let (kind, level) = match layers::kind(number.into(), total.into()) {
+        Kind::Natural => (vetchnoon::NATURAL, 0),
+        Kind::Sharp(level) => (vetchnoon::SHARP, level),
+        Kind::Enharmonic(level) => (vetchnoon::ENHARMONIC, level),
+        Kind::Flat(level) => (vetchnoon::FLAT, level.max(0)),
+    };
+    let reading = Ok(vec![kind, fitted(level)]);
+    let question = Question {
+        call: Call::LayerKind,
+        arguments: &[total.into(), number.into()],
+    };
+    let call = |out: &mut [u16]| vetchnoon::layer_kind(total, number, out);
+    tally.compare_filling(question, reading, Original::Silent, None, call);
 }
 
 /// The original's layers by document 01's numbers of T.

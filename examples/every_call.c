@@ -76,6 +76,18 @@ static void call_patterns(void)
     IS(vn_mos_coprime(1, 60000, 4, 0, numbers, 4), -VN_COPRIME_SIZE);
 }
 
+static void call_chains(void)
+{
+    IS(vn_chain_letters(0, numbers, 9), 9);
+    NUMBERS(946, 'F', 'C', 'G', 'D', 'A', 'E', 'B', 966);
+    IS(vn_chain_letters(0, numbers, 8), -VN_ROOM);
+    IS(vn_chain_name(3, text, 12), 12);
+    TEXT("Porcupine[8]");
+    IS(vn_chain_name(3, text, 11), -VN_ROOM);
+    IS(vn_start(0), 4);
+    IS(vn_start(256), -VN_CHAIN);
+}
+
 static void call_layouts(void)
 {
     IS(vn_layout(1, 12, 19, numbers, 8), 8);
@@ -94,17 +106,35 @@ static void call_layouts(void)
     IS(vn_sounded_key(1, 24, 38, 3, 0, 1), 1);
     IS(vn_sounded_key(1, 24, 38, 7, 0, 2), -VN_LETTER);
     IS(vn_sounded_key(1, 24, 38, 6, 0, 2), -VN_STARS);
-    IS(vn_layer_count(1, 12, 19), 2);
-    IS(vn_layout_layers(1, 12, 19, numbers, 12), 12);
-    NUMBERS(0, 1, 0, 0, 1, 0, 1, 0, 1, 0, 0, 1);
-    IS(vn_lamp_strip(1, 12, 19, text, 12), 12);
-    holds(__LINE__, text, "\0\377\1\1\377\1\377\1\377\1\1\377", 12);
-    IS(vn_lamp_strip(1, 2400, 3800, text, sizeof text), -VN_LAMP_LAYER);
     IS(vn_layout(6, 12, 19, numbers, 8), -VN_CHAIN);
     IS(vn_layout(1, 0, 19, numbers, 8), -VN_PERIOD);
     IS(vn_layout(1, 19, 12, numbers, 8), -VN_GENERATOR);
     IS(vn_layout(1, 12, 12, numbers, 8), -VN_PATTERN);
     IS(vn_layout(1, 12, 19, numbers, 7), -VN_ROOM);
+}
+
+static void call_layers(void)
+{
+    IS(vn_layer_count(1, 12, 19), 2);
+    IS(vn_layout_layers(1, 12, 19, numbers, 12), 12);
+    NUMBERS(0, 1, 0, 0, 1, 0, 1, 0, 1, 0, 0, 1);
+    IS(vn_layer(1, 31, 49, 65535), 3);
+    IS(vn_layer(1, 31, 49, 6), 4);
+    IS(vn_layer_kind(65535, 0, numbers, 2), 2);
+    NUMBERS(VN_NATURAL, 0);
+    IS(vn_layer_kind(65535, 32767, numbers, 2), 2);
+    NUMBERS(VN_SHARP, 32766);
+    IS(vn_layer_kind(6, 3, numbers, 2), 2);
+    NUMBERS(VN_ENHARMONIC, 2);
+    IS(vn_layer_kind(5, 3, numbers, 2), 2);
+    NUMBERS(VN_FLAT, 1);
+    IS(vn_layer_kind(5, 3, numbers, 1), -VN_ROOM);
+    IS(vn_lamp_strip(1, 12, 19, text, 12), 12);
+    holds(__LINE__, text, "\0\377\1\1\377\1\377\1\377\1\1\377", 12);
+    IS(vn_lamp_strip(1, 2400, 3800, text, sizeof text), -VN_LAMP_LAYER);
+    IS(vn_lamp(1, 31, 49, 65535), 103);
+    IS(vn_lamp(1, 31, 49, 31), 0);
+    IS(vn_lamp(1, 2400, 3800, 31), -VN_LAMP_LAYER);
 }
 
 static void call_books(void)
@@ -129,7 +159,9 @@ int main(void)
     call_numbers();
     call_pergens();
     call_patterns();
+    call_chains();
     call_layouts();
+    call_layers();
     call_books();
     return wrong;
 }
