@@ -50,7 +50,7 @@ static uint32_t found[2];
     CALL(vn_lamp(1, 311, 493, 310)) \
     CALL(vn_book_len(1, 2400, 3800)) \
     CALL(vn_book(1, 2400, 3800, text, sizeof text)) \
-    CALL(vn_book_find(text, 4, 0, found, 2)) \
+    CALL(vn_book_find(text, 266404, 2399, found, 2)) \
     CALL(vn_key_table((const uint8_t *)"1 311 493\n", 10, text, sizeof text))
 
 #define AS_TEXT(...) #__VA_ARGS__,
