@@ -14,6 +14,7 @@ use Rattle.text.proofs.Joined.{joined-same}
 use Rattle.layout.specs.declared.IsomorphicLayout.{IsomorphicLayout}
 use Rattle.layout.specs.Layouts.{Layout, layoutOutcome}
 use Rattle.layout.specs.Answers.{inRoom}
+use Rattle.layout.specs.Parts.{Laid}
 use Rattle.layout.proofs.Calls.{of-refused, of-given}
 use Rattle.layout.proofs.Finding.{accepted}
 use Rattle.layout_layers.specs.declared.parts.Plan.{Plan}
@@ -26,80 +27,82 @@ use Rattle.layout_speller.specs.Parts.{SpellerOf}
 use Rattle.lamps.specs.Lamps.{stripOf, lampIn, stripIn, hasLampsIn}
 use Rattle.lamps.specs.Parts.{planStrip}
 use Rattle.lamps.proofs.StripLaws.{lamps-by-count-at, strip-is}
-use Rattle.lamps.proofs.Theorems.{few-numbers, strips-are-whole}
+use Rattle.lamps.proofs.Theorems.{few-numbers, lamps-bound-the-octave, strips-are-whole}
 use Rattle.line.specs.Lines.{lineOutcome}
 use Rattle.line.specs.declared.Line.{Line}
 use Rattle.table.specs.Tables.{keyLine, tableIn, getTable, layoutOn, lineTable, refusalLine, outputOf, output}
-use Rattle.table.specs.Parts.{Printable, LampsIn, lineOf}
-
-abbrev found : IsomorphicLayout → Outcome Layout
-found r = layoutOutcome (r .genchain) (r .octave) (r .tritave)
+use Rattle.table.specs.Parts.{Tabled, Printable, LampsIn, lineOf}
 
 -- ---- what is asked
 
-pub table-refused : (r : IsomorphicLayout) (n : ℕ) → refused n ≡ found r → refused n ≡ getTable r
+pub table-refused : (r : IsomorphicLayout) (n : ℕ) → refused n ≡ layoutOutcome r → refused n ≡ getTable r
 unfolding getTable
 table-refused r n e = of-refused r _ n e
 
-module _ (r : IsomorphicLayout) (l : Layout) (e : given l ≡ found r) where
+module _ (r : IsomorphicLayout) (l : Layout) (e : given l ≡ layoutOutcome r) where
   -- by the plan's number of layer numbers
-  module _ (p : Plan) (w : PlanOf (r .genchain) (r .octave) l p) (T : ℕ) (is : T ≡ totalOf p) where
-    decided : hasLampsIn (r .genchain) (r .octave) l ≡ leb T 202
-    decided =
-        lamps-by-count-at (r .genchain) (r .octave) (r .tritave) l (sym e)
-        ∙ ap (λ (t : ℕ). leb t 202) (sym (is ∙ count-is (r .genchain) (r .octave) l p w))
+  module _ (p : Plan) (w : PlanOf l p) (T : ℕ) (is : T ≡ totalOf p) where
+    decided : hasLampsIn l ≡ leb T 202
+    decided = lamps-by-count-at r l (sym e) ∙ ap (λ (t : ℕ). leb t 202) (sym (is ∙ count-is l p w))
 
     pub table-too-deep : 202 < T → refused 9 ≡ getTable r
     unfolding getTable
-    table-too-deep many =
-        ap (λ (b : Bool). ask 9 b (given (tableIn (r .genchain) (r .octave) l))) (sym (decided ∙ lt-leb T 202 many)) ∙ of-given r _ l e
+    table-too-deep many = ap (λ (b : Bool). ask 9 b (given (tableIn l))) (sym (decided ∙ lt-leb T 202 many)) ∙ of-given r _ l e
 
-    pub printable : T ≤ 202 → Printable r l
-    printable few = record { accepted = sym e; has-lamps = decided ∙ le-leb T 202 few }
+    pub has-table : T ≤ 202 → Tabled r l
+    has-table few = record { accepted = sym e; has-lamps = decided ∙ le-leb T 202 few }
 
 -- ---- a table
 
-module _ (r : IsomorphicLayout) (l : Layout) (ok : Printable r l) where
-  pub table-given : given (tableIn (r .genchain) (r .octave) l) ≡ getTable r
-  unfolding getTable
-  table-given =
-      ap (λ (b : Bool). ask 9 b (given (tableIn (r .genchain) (r .octave) l))) (sym (ok .has-lamps)) ∙ of-given r _ l (sym (ok .accepted))
+pub printable : (r : IsomorphicLayout) (l : Layout) → Tabled r l → Printable l
+printable r l ok = record { caller = r; tabled = ok }
 
-  pub table-counted : (n : ℕ) → n ≡ length (tableIn (r .genchain) (r .octave) l) → given n ≡ counted (getTable r)
+module _ (r : IsomorphicLayout) (l : Layout) (ok : Tabled r l) where
+  pub table-given : given (tableIn l) ≡ getTable r
+  unfolding getTable
+  table-given = ap (λ (b : Bool). ask 9 b (given (tableIn l))) (sym (ok .has-lamps)) ∙ of-given r _ l (sym (ok .accepted))
+
+  pub table-counted : (n : ℕ) → n ≡ length (tableIn l) → given n ≡ counted (getTable r)
   table-counted n q = ap given q ∙ ap counted table-given
 
-  pub table-in-room : (room : ℕ) → heldIn room (tableIn (r .genchain) (r .octave) l) ≡ inRoom room (getTable r)
+  pub table-in-room : (room : ℕ) → heldIn room (tableIn l) ≡ inRoom room (getTable r)
   table-in-room room = ap (λ (o : Outcome (List ℕ)). andThen o (heldIn room)) table-given
 
-  pub table-is : (s : Speller) → SpellerOf (r .genchain) (r .octave) l s → (strip : List ℕ) → LampsIn r l strip
-      → joined (lineOf s strip) (r .octave) ≡ tableIn (r .genchain) (r .octave) l
+module _ (l : Layout) (ok : Printable l) where
+  pub laid-out : Laid l
+  laid-out = record { caller = ok .caller; accepted = ok .tabled .accepted }
+
+  pub few-keys : l .octave ≤ 1818
+  few-keys = lamps-bound-the-octave (ok .caller) l (ok .tabled .accepted) (ok .tabled .has-lamps)
+
+  pub table-is : (s : Speller) → SpellerOf l s → (strip : List ℕ) → LampsIn l strip → joined (lineOf s strip) (l .octave) ≡ tableIn l
   unfolding tableIn lineOf
   table-is s names strip lamps =
-      joined-same (lineOf s strip) _ (r .octave) (λ k h. ap₂ (λ (x : List ℕ) (y : ℕ). keyLine k x y) (names .names k) (lamps .lamps k h))
+      joined-same (lineOf s strip) _ (l .octave) (λ k h. ap₂ (λ (x : List ℕ) (y : ℕ). keyLine k x y) (names .names k) (lamps .lamps k h))
 
   -- the lamps that a plan gives
-  module _ (p : Plan) (w : PlanOf (r .genchain) (r .octave) l p) (T : ℕ) (is : T ≡ totalOf p) where
-    total : T ≡ countIn (r .octave) l
-    total = is ∙ count-is (r .genchain) (r .octave) l p w
+  module _ (p : Plan) (w : PlanOf l p) (T : ℕ) (is : T ≡ totalOf p) where
+    total : T ≡ countIn l
+    total = is ∙ count-is l p w
 
     pub lamps-few : T ≤ 202
-    lamps-few = omega (arith, total, few-numbers (r .genchain) (r .octave) (r .tritave) l (ok .accepted) (ok .has-lamps))
+    lamps-few = omega (arith, total, few-numbers (ok .caller) l (ok .tabled .accepted) (ok .tabled .has-lamps))
 
-    some : 0 < r .octave
-    some = accepted (r .genchain) (r .octave) (r .tritave) l (ok .accepted) .positive
+    some : 0 < l .octave
+    some = accepted (ok .caller) l (ok .tabled .accepted) .positive
 
-    pub lamps-room : (n : ℕ) → r .octave ≤ n → keysOf (p .chain) ≤ n
-    lamps-room n long = omega (arith, keys-are (r .genchain) (r .octave) l p w some)
+    pub lamps-room : (n : ℕ) → l .octave ≤ n → keysOf (p .chain) ≤ n
+    lamps-room n long = omega (arith, keys-are l p w some)
 
-    pub lamps-put : (xs ys : List ℕ) → Fronted (planStrip p T) xs ys → LampsIn r l ys
+    pub lamps-put : (xs ys : List ℕ) → Fronted (planStrip p T) xs ys → LampsIn l ys
     unfolding stripOf
     lamps-put xs ys front =
-        let strip = stripIn (r .genchain) (r .octave) l in
-        let is-strip : planStrip p T ≡ strip = strip-is (r .genchain) (r .octave) l p w some T total in
+        let strip = stripIn l in
+        let is-strip : planStrip p T ≡ strip = strip-is l p w some T total in
         record {
           lamps = λ key h. ap (λ (zs : List ℕ). getD zs key 0) (front ∙ ap (λ (t : List ℕ). t ++ drop (length t) xs) is-strip)
-              ∙ List·getD-append strip (drop (length strip) xs) 0 key (omega (arith, h, strips-are-whole (r .genchain) (r .octave) l))
-              ∙ listed-at (lampIn (r .genchain) (r .octave) l) (r .octave) key h;
+              ∙ List·getD-append strip (drop (length strip) xs) 0 key (omega (arith, h, strips-are-whole l))
+              ∙ listed-at (lampIn l) (l .octave) key h;
         }
 
 -- ---- the output for a line

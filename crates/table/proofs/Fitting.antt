@@ -11,11 +11,10 @@ use Rattle.answer.specs.Outcome.{Outcome, given, refused, ask, andThen}
 use Rattle.genchain.specs.Chains.{chainOf, minus, dividedBy, twice}
 use Rattle.genchain.specs.Answers.{generatorOutcome}
 use Rattle.mos.specs.declared.Mos.{Mos}
-use Rattle.mos.specs.Patterns.{genesis}
-use Rattle.mos.specs.Walks.{children, firstWith}
 use Rattle.notes.proofs.ShortNames.{names-are-short}
 use Rattle.layout.specs.declared.IsomorphicLayout.{IsomorphicLayout}
-use Rattle.layout.specs.Layouts.{Layout, lettersOf, withPattern, layoutOutcome, Accepted, accidentalsIn, sharpFirst}
+use Rattle.layout.specs.Layouts.{Layout, withPattern, layoutOutcome, Accepted, accidentalsIn, sharpFirst}
+use Rattle.layout.proofs.Finding.{generatorOf, walked}
 use Rattle.layout.specs.Names.{nameIn}
 use Rattle.layout_layers.proofs.Counts.{signs-by-count}
 use Rattle.lamps.specs.Lamps.{lampIn, hasLampsIn}
@@ -30,12 +29,12 @@ use Rattle.table.proofs.Lines.{length-line, length-refusal}
 
 -- ---- a table
 
-module _ (code octave tritave : ℕ) (l : Layout) (ok : Accepted code octave tritave l) (has : hasLampsIn code octave l ≡ true) where
+module _ (r : IsomorphicLayout) (l : Layout) (ok : Accepted r l) (has : hasLampsIn l ≡ true) where
   abbrev name : ℕ → List ℕ
-  name = nameIn code octave l
+  name = nameIn l
 
   abbrev lamp : ℕ → ℕ
-  lamp = lampIn code octave l
+  lamp = lampIn l
 
   -- at most 7 bytes, and signs and stars
   name-most : (key : ℕ) → length (name key) ≤ 209
@@ -43,28 +42,28 @@ module _ (code octave tritave : ℕ) (l : Layout) (ok : Accepted code octave tri
   name-most key =
       omega (
         arith,
-        names-are-short (chainOf code .letters) (sharpFirst l) (accidentalsIn code octave l key),
-        signs-by-count code octave tritave l ok key,
-        few-numbers code octave tritave l ok has,
+        names-are-short (chainOf (l .chain) .letters) (sharpFirst l) (accidentalsIn l key),
+        signs-by-count r l ok key,
+        few-numbers r l ok has,
       )
 
-  few-keys : octave ≤ 1818
-  few-keys = lamps-bound-the-octave code octave tritave l ok has
+  few-keys : l .octave ≤ 1818
+  few-keys = lamps-bound-the-octave r l ok has
 
-  line-most : (key : ℕ) → key < octave → length (keyLine key (name key) (lamp key)) ≤ 222
+  line-most : (key : ℕ) → key < l .octave → length (keyLine key (name key) (lamp key)) ≤ 222
   line-most key h =
       omega (
         arith,
         length-line key (name key) (lamp key),
         digits-length key (omega (arith, few-keys)) .few,
         name-most key,
-        digits-length (lamp key) (omega (arith, codes-fit-bytes code octave tritave l ok has key)) .few,
+        digits-length (lamp key) (omega (arith, codes-fit-bytes r l ok has key)) .few,
       )
 
-  table-most : length (tableIn code octave l) ≤ 403596
+  table-most : length (tableIn l) ≤ 403596
   unfolding tableIn
   table-most =
-      omega (arith, short-texts 222 (λ key. keyLine key (name key) (lamp key)) octave line-most, few-keys)
+      omega (arith, short-texts 222 (λ key. keyLine key (name key) (lamp key)) (l .octave) line-most, few-keys)
 
 -- ---- a refusal's number is at most 14
 
@@ -110,16 +109,15 @@ unfolding generatorOutcome
 generator-low code octave tritave =
     ask-low 1 (ltb code 6) _ (omega arith) (ask-low 2 (leb 1 octave) _ (omega arith) (rule-low code octave tritave))
 
-pattern-low : (G : ℕ) (walked : Option Mos) → Low (withPattern G walked)
-pattern-low G none = omega arith
-pattern-low G (some m) = tt
+pattern-low : (r : IsomorphicLayout) (G : ℕ) (met : Option Mos) → Low (withPattern r G met)
+pattern-low r G none = omega arith
+pattern-low r G (some m) = tt
 
-layout-low : (code octave tritave : ℕ) → Low (layoutOutcome code octave tritave)
+layout-low : (r : IsomorphicLayout) → Low (layoutOutcome r)
 unfolding layoutOutcome
-layout-low code octave tritave =
-    then-low (generatorOutcome code octave tritave) (λ (G : ℕ). withPattern G (firstWith (lettersOf code) (children (genesis octave G))))
-    (generator-low code octave tritave)
-    (λ G. pattern-low G (firstWith (lettersOf code) (children (genesis octave G))))
+layout-low r =
+    then-low (generatorOf r) (λ (G : ℕ). withPattern r G (walked r G)) (generator-low (r .genchain) (r .octave) (r .tritave))
+    (λ G. pattern-low r G (walked r G))
 
 line-low : (line : List ℕ) → Low (lineOutcome line)
 unfolding lineOutcome
@@ -130,19 +128,18 @@ refusal-most n h = omega (arith, length-refusal n, digits-length n (omega arith)
 
 -- ---- an output
 
-with-lamps : (code octave tritave : ℕ) (l : Layout) → Accepted code octave tritave l → (has : Bool) → hasLampsIn code octave l ≡ has
-    → length (outputOf (ask 9 has (given (tableIn code octave l)))) ≤ 403596
-with-lamps code octave tritave l ok true has = table-most code octave tritave l ok has
-with-lamps code octave tritave l ok false has = refusal-most 9 (omega arith)
+with-lamps : (r : IsomorphicLayout) (l : Layout) → Accepted r l → (has : Bool) → hasLampsIn l ≡ has
+    → length (outputOf (ask 9 has (given (tableIn l)))) ≤ 403596
+with-lamps r l ok true has = table-most r l ok has
+with-lamps r l ok false has = refusal-most 9 (omega arith)
 
 table-fits : (r : IsomorphicLayout) → length (outputOf (getTable r)) ≤ 403596
 unfolding getTable
-table-fits r = by (layoutOutcome (r .genchain) (r .octave) (r .tritave)) refl
+table-fits r = by (layoutOutcome r) refl
   where
-    by : (o : Outcome Layout) → layoutOutcome (r .genchain) (r .octave) (r .tritave) ≡ o
-        → length (outputOf (andThen o (λ (l : Layout). ask 9 (hasLampsIn (r .genchain) (r .octave) l) (given (tableIn (r .genchain) (r .octave) l))))) ≤ 403596
-    by (given l) is = with-lamps (r .genchain) (r .octave) (r .tritave) l is (hasLampsIn (r .genchain) (r .octave) l) refl
-    by (refused n) is = refusal-most n (subst Low is (layout-low (r .genchain) (r .octave) (r .tritave)))
+    by : (o : Outcome Layout) → layoutOutcome r ≡ o → length (outputOf (andThen o (λ (l : Layout). ask 9 (hasLampsIn l) (given (tableIn l))))) ≤ 403596
+    by (given l) is = with-lamps r l is (hasLampsIn l) refl
+    by (refused n) is = refusal-most n (subst Low is (layout-low r))
 
 output-fits : (line : List ℕ) → length (output line) ≤ 403596
 unfolding output lineTable

@@ -16,19 +16,24 @@ use Rattle.layout_speller.specs.declared.speller.Speller.{Speller}
 use Rattle.layout_speller.specs.Parts.{nameOf}
 use Rattle.table.specs.Tables.{keyLine, getTable}
 
--- The layout that is asked for, which is accepted and has lamps.
-pub record Printable (r : IsomorphicLayout) (l : Layout) : Type 0 where
-  pub accepted : Accepted (r .genchain) (r .octave) (r .tritave) l
-  pub has-lamps : hasLampsIn (r .genchain) (r .octave) l ≡ true
+-- What the questions gave has a table: it is accepted, and has lamps.
+pub record Tabled (r : IsomorphicLayout) (l : Layout) : Type 0 where
+  pub accepted : Accepted r l
+  pub has-lamps : hasLampsIn l ≡ true
 
 -- The answer to questions 1 to 4 and 9: no table without it.
 abbrev pub Asked : IsomorphicLayout → FoundAnswer → Type 0
-Asked r (FoundAnswer.Given f) = Printable r (layoutOf f)
+Asked r (FoundAnswer.Given f) = Tabled r (layoutOf f)
 Asked r (FoundAnswer.Refused q) = refused (numberOf q) ≡ getTable r
 
+-- The same of a layout alone, whoever asked.
+pub record Printable (l : Layout) : Type 0 where
+  pub caller : IsomorphicLayout
+  pub tabled : Tabled caller l
+
 -- A slice whose front is the layout's strip.
-pub record LampsIn (r : IsomorphicLayout) (l : Layout) (strip : List ℕ) : Type 0 where
-  pub lamps : (key : ℕ) → key < r .octave → getD strip key 0 ≡ lampIn (r .genchain) (r .octave) l key
+pub record LampsIn (l : Layout) (strip : List ℕ) : Type 0 where
+  pub lamps : (key : ℕ) → key < l .octave → getD strip key 0 ≡ lampIn l key
 
 -- A key's line, with its lamp code on a strip.
 unfoldable pub lineOf : Speller → List ℕ → ℕ → List ℕ

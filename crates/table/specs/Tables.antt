@@ -18,15 +18,14 @@ unfolding digits
 keyLine key name lamp = digits key ++ (space ∷ []) ++ name ++ (space ∷ []) ++ digits lamp ++ (lineFeed ∷ [])
 
 -- "a line per key from 0 to octave − 1 .. No header."
-unfoldable pub tableIn : ℕ → ℕ → Layout → List ℕ
+unfoldable pub tableIn : Layout → List ℕ
 unfolding joined keyLine nameIn lampOf
-tableIn code octave l = joined (λ key. keyLine key (nameIn code octave l key) (lampIn code octave l key)) octave
+tableIn l = joined (λ key. keyLine key (nameIn l key) (lampIn l key)) (l .octave)
 
 -- Questions 1 to 4, question 9, then the table.
 unfoldable pub getTable : IsomorphicLayout → Outcome (List ℕ)
 unfolding layoutOutcome hasLamps tableIn
-getTable r =
-    ofLayout r (λ (l : Layout). ask 9 (hasLampsIn (r .genchain) (r .octave) l) (given (tableIn (r .genchain) (r .octave) l)))
+getTable r = ofLayout r (λ (l : Layout). ask 9 (hasLampsIn l) (given (tableIn l)))
 
 -- The layout that a line asks for.
 abbrev pub layoutOn : Line → IsomorphicLayout

@@ -3,9 +3,10 @@
 // Holds the table of a layout, and the whole output for a line of input, which a program above only reads and writes.
 // `parts` holds what tables are written by. Every entry point answers every input; a refusal changes no byte that was lent.
 // specs/: Tables defines, Theorems states how much room holds every output, Examples what is printed for some lines. Nothing is assumed.
-pub mod parts;
+mod parts;
 
 use answer::CountAnswer;
+use genchain::rows;
 use layout::IsomorphicLayout;
 use layout::parts::FoundAnswer;
 use line::LineAnswer;
@@ -20,9 +21,10 @@ ghost use Rattle.table.specs.Tables.{getTable, output};
 pub fn table_len(layout: IsomorphicLayout) -> CountAnswer
     ensures { λ r. ⌜ countOutcome r ≡ counted (getTable layout) ⌝ }
 {
-    match parts::ask(layout) {
+    let row = rows::row(layout.genchain);
+    match parts::ask(layout, row) {
         FoundAnswer::Refused(q) => CountAnswer::Refused(q),
-        FoundAnswer::Given(found) => CountAnswer::Given(parts::table_length(layout, found)),
+        FoundAnswer::Given(found) => CountAnswer::Given(parts::table_length(row, found)),
     }
 }
 
@@ -30,9 +32,10 @@ pub fn table_len(layout: IsomorphicLayout) -> CountAnswer
 pub fn write_table(layout: IsomorphicLayout, out: &mut [u8]) -> CountAnswer
     ensures { λ r. ⌜ Filled (inRoom (length (now (out .entry))) (getTable layout)) (countOutcome r) (now (out .entry)) (now (out .exit)) ⌝ }
 {
-    match parts::ask(layout) {
+    let row = rows::row(layout.genchain);
+    match parts::ask(layout, row) {
         FoundAnswer::Refused(q) => CountAnswer::Refused(q),
-        FoundAnswer::Given(found) => parts::print_table(layout, found, out),
+        FoundAnswer::Given(found) => parts::print_table(row, found, out),
     }
 }
 
@@ -49,9 +52,10 @@ pub fn respond(line: &[u8], out: &mut [u8]) -> CountAnswer
                 octave: asked.octave,
                 tritave: asked.tritave,
             };
-            match parts::ask(layout) {
+            let row = rows::row(asked.genchain);
+            match parts::ask(layout, row) {
                 FoundAnswer::Refused(q) => parts::write_refusal(q.number() as u16, out),
-                FoundAnswer::Given(found) => parts::print_table(layout, found, out),
+                FoundAnswer::Given(found) => parts::print_table(row, found, out),
             }
         }
     }

@@ -3,7 +3,7 @@
 // Row, pergen and lamps are read and solved once for all keys; degree and cycle are carried from key to key.
 use answer::CountAnswer;
 use answer::Refusal;
-use genchain::rows;
+use genchain::rows::ChainRow;
 use layout::IsomorphicLayout;
 use layout::parts::Found;
 use layout::parts::FoundAnswer;
@@ -20,20 +20,22 @@ ghost use lib.ListN.{length};
 ghost use Rattle.answer.specs.Lent.{heldIn, Filled};
 ghost use Rattle.answer.specs.Refusals.{countOutcome};
 ghost use Rattle.text.specs.Writing.{Room, Wrote, joined};
+ghost use Rattle.genchain.specs.Chains.{chainOf, rowOf};
 ghost use Rattle.layout.specs.Parts.{layoutOf};
 ghost use Rattle.notes.specs.Parts.{planText, ShortLetters};
 ghost use Rattle.table.specs.Tables.{keyLine, tableIn, refusalLine};
 ghost use Rattle.layout_speller.specs.Parts.{Sound};
 ghost use Rattle.table.specs.Parts.{Asked, Printable, LampsIn, numbersLine, lineOf};
 
-// Questions 1 to 4 and 9.
-pub fn ask(layout: IsomorphicLayout) -> FoundAnswer
+// Questions 1 to 4 and 9, of a layout whose chain has this row.
+pub(crate) fn ask(layout: IsomorphicLayout, row: ChainRow) -> FoundAnswer
+    requires { ⌜ row ≡ rowOf (chainOf (layout .genchain)) ⌝ }
     ensures { λ r. ⌜ Asked layout r ⌝ }
 {
-    match layout::parts::search(layout) {
+    match layout::parts::find(layout, row) {
         FoundAnswer::Refused(q) => FoundAnswer::Refused(q),
         FoundAnswer::Given(found) => {
-            let plan = layout_layers::parts::plan_of(layout, found);
+            let plan = layout_layers::parts::plan_of(found);
             if 202 < layout_layers::parts::total_of(plan) {
                 return FoundAnswer::Refused(Refusal::LampLayer);
             }
@@ -43,11 +45,11 @@ pub fn ask(layout: IsomorphicLayout) -> FoundAnswer
 }
 
 // The lamp codes of the octave at the front of a slice that holds them.
-fn put_lamps(layout: IsomorphicLayout, found: Found, strip: &mut [u8])
-    requires { ⌜ Printable layout (layoutOf found) × (layout .octave ≤ length (now strip)) ⌝ }
-    ensures { λ r. ⌜ LampsIn layout (layoutOf found) (now (strip .exit)) ⌝ }
+fn put_lamps(found: Found, strip: &mut [u8])
+    requires { ⌜ Printable (layoutOf found) × (found .octave ≤ length (now strip)) ⌝ }
+    ensures { λ r. ⌜ LampsIn (layoutOf found) (now (strip .exit)) ⌝ }
 {
-    let plan = layout_layers::parts::plan_of(layout, found);
+    let plan = layout_layers::parts::plan_of(found);
     let total = layout_layers::parts::total_of(plan);
     lamps::parts::put_strip(strip, plan, total);
 }
@@ -121,27 +123,25 @@ fn write_lines(speller: Speller, strip: &[u8], keys: u16, out: &mut [u8]) -> Cou
 }
 
 // How many bytes a table has. No layout with lamps has more than 1,818 keys (`LampsBoundTheOctave` of `lamps`).
-pub fn table_length(layout: IsomorphicLayout, found: Found) -> usize
-    requires { ⌜ Printable layout (layoutOf found) ⌝ }
-    ensures { λ r. ⌜ r ≡ length (tableIn (layout .genchain) (layout .octave) (layoutOf found)) ⌝ }
+pub(crate) fn table_length(row: ChainRow, found: Found) -> usize
+    requires { ⌜ (row ≡ rowOf (chainOf (found .chain))) × Printable (layoutOf found) ⌝ }
+    ensures { λ r. ⌜ r ≡ length (tableIn (layoutOf found)) ⌝ }
 {
     let mut strip: [u8; 1818] = [0; 1818];
-    put_lamps(layout, found, &mut strip);
-    let row = rows::row(layout.genchain);
-    let speller = layout_speller::speller::speller_of(row, layout, found);
-    lines_length(speller, &strip, layout.octave)
+    put_lamps(found, &mut strip);
+    let speller = layout_speller::speller::speller_of(row, found);
+    lines_length(speller, &strip, found.octave)
 }
 
 // A table at the front of a slice that holds it (10). All lamp codes are found first, and then line by line the names.
-pub fn print_table(layout: IsomorphicLayout, found: Found, out: &mut [u8]) -> CountAnswer
-    requires { ⌜ Printable layout (layoutOf found) ⌝ }
-    ensures { λ r. ⌜ Filled (heldIn (length (now (out .entry))) (tableIn (layout .genchain) (layout .octave) (layoutOf found))) (countOutcome r) (now (out .entry)) (now (out .exit)) ⌝ }
+pub(crate) fn print_table(row: ChainRow, found: Found, out: &mut [u8]) -> CountAnswer
+    requires { ⌜ (row ≡ rowOf (chainOf (found .chain))) × Printable (layoutOf found) ⌝ }
+    ensures { λ r. ⌜ Filled (heldIn (length (now (out .entry))) (tableIn (layoutOf found))) (countOutcome r) (now (out .entry)) (now (out .exit)) ⌝ }
 {
     let mut strip: [u8; 1818] = [0; 1818];
-    put_lamps(layout, found, &mut strip);
-    let row = rows::row(layout.genchain);
-    let speller = layout_speller::speller::speller_of(row, layout, found);
-    write_lines(speller, &strip, layout.octave, out)
+    put_lamps(found, &mut strip);
+    let speller = layout_speller::speller::speller_of(row, found);
+    write_lines(speller, &strip, found.octave, out)
 }
 
 // A refusal's line; the place after it.
@@ -155,7 +155,7 @@ fn put_refusal(out: &mut [u8], number: u16) -> usize
 }
 
 // A refusal's line at the front of a slice that holds it (10).
-pub fn write_refusal(number: u16, out: &mut [u8]) -> CountAnswer
+pub(crate) fn write_refusal(number: u16, out: &mut [u8]) -> CountAnswer
     ensures { λ r. ⌜ Filled (heldIn (length (now (out .entry))) (refusalLine number)) (countOutcome r) (now (out .entry)) (now (out .exit)) ⌝ }
 {
     let bytes = decimal::number_len(number) + 9;

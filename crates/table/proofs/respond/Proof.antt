@@ -1,10 +1,10 @@
 -- The line, then the layout: one law for each way in which the output is made.
 use mathlib.Core.Path.{sym, ap, subst, _∙_}
 use Rattle.line.specs.Lines.{lineAnswered}
-use Rattle.layout.proofs.Calls.{filled-as}
+use Rattle.layout.proofs.Calls.{filled-as, row-found}
 use Rattle.table.specs.Tables.{layoutOn}
 use Rattle.table.specs.Parts.{Asked}
-use Rattle.table.proofs.Calls.{table-given, output-no-line, output-refused, output-given}
+use Rattle.table.proofs.Calls.{printable, table-given, output-no-line, output-refused, output-given}
 use borrow.Author.Needs.{needs}
 use Rattle.table.proofs.respond.Statement.{statement}
 use Rattle.table.proofs.respond.Tie as tie
@@ -34,6 +34,9 @@ write-refusal-requires c κs = search needs
 enum-known-asked : tie.Need-enum-known-asked
 enum-known-asked c = search needs
 
+row-requires : tie.Need-row-requires
+row-requires c κs = search needs
+
 ask-requires : tie.Need-ask-requires
 ask-requires c κs = search needs
 
@@ -54,8 +57,9 @@ enum-known-found c = search needs
 
 print-table-requires : tie.Need-print-table-requires
 print-table-requires c κs =
-    let asked = c .before .before .before .before .before .before .asked .given .0 .0 in
-    subst (Asked (layoutOn asked)) (c .before .before .found .given .1) (c .before .before .before .before .ask .ensures)
+    let asked = c .before .before .before .before .before .before .before .asked .given .0 .0 in
+    let ok = subst (Asked (layoutOn asked)) (c .before .before .found .given .1) (c .before .before .before .before .ask .ensures) in
+    (row-found _ _ (sym (ok .accepted)) _ (c .before .before .before .before .before .row .ensures), printable _ _ ok)
 
 same-length : tie.Need-same-length
 same-length c = search needs
@@ -72,7 +76,7 @@ returns-2 c =
     let n = w .before .before in
     let q = n .before .before in
     let a = q .before .before in
-    let g = a .before .before in
+    let g = a .before .before .before in
     let asked = sym (ap lineAnswered (g .asked .given .1)) ∙ g .before .before .parse .ensures in
     filled-as (output-refused _ _ _ asked _ _ (n .number2 .ensures) (subst (Asked _) (q .q2 .given .1) (a .ask .ensures))) (w .write-refusal2 .ensures)
 
@@ -84,7 +88,7 @@ returns-3 c =
     let t = c .before .before in
     let f = t .before .before .before in
     let a = f .before .before in
-    let g = a .before .before in
+    let g = a .before .before .before in
     let asked = sym (ap lineAnswered (g .asked .given .1)) ∙ g .before .before .parse .ensures in
     filled-as (output-given _ _ _ asked _ (table-given _ _ (subst (Asked _) (f .found .given .1) (a .ask .ensures)))) (t .print-table .ensures)
 
@@ -98,6 +102,7 @@ respond-spec =
     cast-write-refusal
     write-refusal-requires
     enum-known-asked
+    row-requires
     ask-requires
     enum-known-q-2
     number-requires-2

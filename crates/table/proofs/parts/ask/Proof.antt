@@ -1,13 +1,14 @@
 -- Questions 1 to 4 by the search, question 9 by the plan's number of layer numbers.
 use mathlib.Core.Path.{sym, ap, _∙_}
 use Rattle.layout.specs.Parts.{foundOutcome}
-use Rattle.table.proofs.Calls.{table-refused, table-too-deep, printable}
+use Rattle.layout.proofs.Calls.{laid-of}
+use Rattle.table.proofs.Calls.{table-refused, table-too-deep, has-table}
 use borrow.Author.Needs.{needs}
 use Rattle.table.proofs.parts.ask.Statement.{statement}
 use Rattle.table.proofs.parts.ask.Tie as tie
 
-search-requires : tie.Need-search-requires
-search-requires c κs = search needs
+find-requires : tie.Need-find-requires
+find-requires c κs = search needs
 
 enum-known-q : tie.Need-enum-known-q
 enum-known-q c = search needs
@@ -16,7 +17,7 @@ enum-known-found : tie.Need-enum-known-found
 enum-known-found c = search needs
 
 plan-of-requires : tie.Need-plan-of-requires
-plan-of-requires c κs = sym (sym (ap foundOutcome (c .before .found .given .1)) ∙ c .before .before .before .search .ensures)
+plan-of-requires c κs = laid-of _ _ (sym (ap foundOutcome (c .before .found .given .1)) ∙ c .before .before .before .find .ensures)
 
 total-of-requires : tie.Need-total-of-requires
 total-of-requires c κs = search needs
@@ -26,23 +27,23 @@ returns c =
     let t = c .before in
     let p = t .before in
     let f = p .before in
-    table-too-deep _ _ (sym (ap foundOutcome (f .before .found .given .1)) ∙ f .before .before .before .search .ensures) _ (p .plan-of .ensures) _ (t .total-of .ensures) (c .if1 .taken)
+    table-too-deep _ _ (sym (ap foundOutcome (f .before .found .given .1)) ∙ f .before .before .before .find .ensures) _ (p .plan-of .ensures) _ (t .total-of .ensures) (c .if1 .taken)
 
 returns-2 : tie.Need-returns-2
-returns-2 c = table-refused _ _ (sym (ap foundOutcome (c .before .q .given .1)) ∙ c .before .before .before .search .ensures)
+returns-2 c = table-refused _ _ (sym (ap foundOutcome (c .before .q .given .1)) ∙ c .before .before .before .find .ensures)
 
 returns-3 : tie.Need-returns-3
 returns-3 c =
     let t = c .before in
     let p = t .before in
     let f = p .before in
-    printable _ _ (sym (ap foundOutcome (f .before .found .given .1)) ∙ f .before .before .before .search .ensures) _ (p .plan-of .ensures) _ (t .total-of .ensures) (c .if1 .left)
+    has-table _ _ (sym (ap foundOutcome (f .before .found .given .1)) ∙ f .before .before .before .find .ensures) _ (p .plan-of .ensures) _ (t .total-of .ensures) (c .if1 .left)
 
 pub ask-spec : {M : Type 1} → statement M
 ask-spec =
     tie.close
     (tie.spec
-    search-requires
+    find-requires
     enum-known-q
     enum-known-found
     plan-of-requires

@@ -3,16 +3,13 @@ use mathlib.Core.Path.{ap}
 use native.Mathlib.Omega.{arith}
 use lib.ListN.{length}
 use Rattle.answer.specs.Lent.{heldIn}
-use Rattle.lamps.proofs.Theorems.{lamps-bound-the-octave}
 use Rattle.layout.proofs.Calls.{filled-as}
-use Rattle.layout.proofs.Finding.{accepted}
-use Rattle.table.proofs.Calls.{table-is}
+use Rattle.table.proofs.Calls.{laid-out, few-keys, table-is}
 use borrow.Author.Needs.{needs}
 use Rattle.table.proofs.parts.print_table.Statement.{statement}
 use Rattle.table.proofs.parts.print_table.Tie as tie
 use Rattle.table.proofs.parts.print_table.Reads as reads
 use Rattle.table.proofs.parts.print_table.Lts as lts
-use Rattle.genchain.proofs.rows.row.Reads as row-reads
 use Rattle.layout_speller.proofs.speller.speller_of.Reads as speller-of-reads
 use Rattle.table.proofs.parts.put_lamps.Reads as put-lamps-reads
 use Rattle.table.proofs.parts.write_lines.Reads as write-lines-reads
@@ -22,21 +19,18 @@ slice-aggregate-put-lamps c = search needs
 
 put-lamps-requires : tie.Need-put-lamps-requires
 put-lamps-requires c κs =
-    let ok = c .before .before .pre in (ok, lamps-bound-the-octave _ _ _ _ (ok .accepted) (ok .has-lamps))
-
-row-requires : tie.Need-row-requires
-row-requires c κs = accepted _ _ _ _ (c .before .before .before .before .pre .accepted) .chain
+    let ok = c .before .before .pre .1 in (ok, few-keys _ ok)
 
 speller-of-requires : tie.Need-speller-of-requires
-speller-of-requires c κs = search needs
+speller-of-requires c κs = let s = c .before .before .before .before in (s .pre .0, laid-out _ (s .pre .1))
 
 slice-aggregate-write-lines : tie.Need-slice-aggregate-write-lines
 slice-aggregate-write-lines c = search needs
 
 write-lines-requires : tie.Need-write-lines-requires
 write-lines-requires c κs =
-    let ok = c .before .before .before .before .before .before .before .before .pre in
-    (c .before .before .speller-of .ensures .sound, c .before .before .speller-of .ensures .octave-is, omega (arith, lamps-bound-the-octave _ _ _ _ (ok .accepted) (ok .has-lamps)))
+    let ok = c .before .before .before .before .before .before .before .pre .1 in
+    (c .before .before .speller-of .ensures .sound, c .before .before .speller-of .ensures .octave-is, omega (arith, few-keys _ ok))
 
 same-length : tie.Need-same-length
 same-length c = search needs
@@ -44,8 +38,8 @@ same-length c = search needs
 returns : tie.Need-returns
 returns c =
     let w = c .before .before in
-    let s = w .before .before .before .before .before .before .before .before .before in
-    filled-as (ap (heldIn (length (s .args .out .now))) (table-is _ _ (s .pre) _ (w .before .before .before .speller-of .ensures) _ (w .before .before .before .before .before .before .put-lamps .ensures))) (w .write-lines .ensures)
+    let s = w .before .before .before .before .before .before .before .before in
+    filled-as (ap (heldIn (length (s .args .out .now))) (table-is _ (s .pre .1) _ (w .before .before .before .speller-of .ensures) _ (w .before .before .before .before .before .put-lamps .ensures))) (w .write-lines .ensures)
 
 pub print-table-spec : {M : Type 1} → statement M
 print-table-spec =
@@ -53,7 +47,6 @@ print-table-spec =
     (tie.spec
     slice-aggregate-put-lamps
     put-lamps-requires
-    row-requires
     speller-of-requires
     slice-aggregate-write-lines
     write-lines-requires

@@ -2,15 +2,12 @@
 use mathlib.Core.Path.{ap, _∙_}
 use native.Mathlib.Omega.{arith}
 use lib.ListN.{length}
-use Rattle.lamps.proofs.Theorems.{lamps-bound-the-octave}
-use Rattle.layout.proofs.Finding.{accepted}
-use Rattle.table.proofs.Calls.{table-is}
+use Rattle.table.proofs.Calls.{laid-out, few-keys, table-is}
 use borrow.Author.Needs.{needs}
 use Rattle.table.proofs.parts.table_length.Statement.{statement}
 use Rattle.table.proofs.parts.table_length.Tie as tie
 use Rattle.table.proofs.parts.table_length.Reads as reads
 use Rattle.table.proofs.parts.table_length.Lts as lts
-use Rattle.genchain.proofs.rows.row.Reads as row-reads
 use Rattle.layout_speller.proofs.speller.speller_of.Reads as speller-of-reads
 use Rattle.table.proofs.parts.lines_length.Reads as lines-length-reads
 use Rattle.table.proofs.parts.put_lamps.Reads as put-lamps-reads
@@ -19,27 +16,24 @@ slice-aggregate-put-lamps : tie.Need-slice-aggregate-put-lamps
 slice-aggregate-put-lamps c = search needs
 
 put-lamps-requires : tie.Need-put-lamps-requires
-put-lamps-requires c κs = let ok = c .before .pre in (ok, lamps-bound-the-octave _ _ _ _ (ok .accepted) (ok .has-lamps))
-
-row-requires : tie.Need-row-requires
-row-requires c κs = accepted _ _ _ _ (c .before .before .before .pre .accepted) .chain
+put-lamps-requires c κs = let ok = c .before .pre .1 in (ok, few-keys _ ok)
 
 speller-of-requires : tie.Need-speller-of-requires
-speller-of-requires c κs = search needs
+speller-of-requires c κs = let s = c .before .before .before in (s .pre .0, laid-out _ (s .pre .1))
 
 slice-aggregate-lines-length : tie.Need-slice-aggregate-lines-length
 slice-aggregate-lines-length c = search needs
 
 lines-length-requires : tie.Need-lines-length-requires
 lines-length-requires c κs =
-    let ok = c .before .before .before .before .before .before .pre in
-    (c .before .speller-of .ensures .sound, c .before .speller-of .ensures .octave-is, omega (arith, lamps-bound-the-octave _ _ _ _ (ok .accepted) (ok .has-lamps)))
+    let ok = c .before .before .before .before .before .pre .1 in
+    (c .before .speller-of .ensures .sound, c .before .speller-of .ensures .octave-is, omega (arith, few-keys _ ok))
 
 returns : tie.Need-returns
 returns c =
-    let s = c .before .before .before .before .before .before .before in
+    let s = c .before .before .before .before .before .before in
     c .lines-length .ensures
-    ∙ ap length (table-is _ _ (s .pre) _ (c .before .before .speller-of .ensures) _ (c .before .before .before .before .before .put-lamps .ensures))
+    ∙ ap length (table-is _ (s .pre .1) _ (c .before .before .speller-of .ensures) _ (c .before .before .before .before .put-lamps .ensures))
 
 pub table-length-spec : {M : Type 1} → statement M
 table-length-spec =
@@ -47,7 +41,6 @@ table-length-spec =
     (tie.spec
     slice-aggregate-put-lamps
     put-lamps-requires
-    row-requires
     speller-of-requires
     slice-aggregate-lines-length
     lines-length-requires
