@@ -4,6 +4,7 @@
 // specs/: Lamps defines, Answers says what each call answers, Theorems and Examples state what holds.
 // A layout with a sharp or flat layer of number 100 or more has no strip (9). Lamps follow the layers and not the names.
 // Every entry point answers every input; the modules of parts ask for more, as their heads say. Nothing is assumed.
+mod key_codes;
 pub mod parts;
 
 use answer::CountAnswer;

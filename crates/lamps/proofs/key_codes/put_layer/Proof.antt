@@ -5,8 +5,8 @@ use native.Mathlib.Omega.{arith}
 use Rattle.layout_layers.specs.Parts.{Walk}
 use Rattle.layout_layers.proofs.ChainLaws.{walk-none, walk-then, walk-one, walk-count, turn-room}
 use Rattle.lamps.specs.Parts.{codeOf}
-use Rattle.lamps.proofs.parts.put_layer.Statement.{statement}
-use Rattle.lamps.proofs.parts.put_layer.Tie as tie
+use Rattle.lamps.proofs.key_codes.put_layer.Statement.{statement}
+use Rattle.lamps.proofs.key_codes.put_layer.Tie as tie
 
 abbrev Inv-loop : tie.InvT-loop
 Inv-loop out₀ total chain size layer first-code spot₀ k₀ out spot k =

@@ -8,8 +8,8 @@ use Rattle.layout_layers.proofs.PlanLaws.{layer-alternates, number-alternates}
 use Rattle.lamps.specs.Parts.{codeOf}
 use Rattle.lamps.proofs.StripLaws.{turn-most}
 use borrow.Author.Needs.{needs}
-use Rattle.lamps.proofs.parts.put_alternating.Statement.{statement}
-use Rattle.lamps.proofs.parts.put_alternating.Tie as tie
+use Rattle.lamps.proofs.key_codes.put_alternating.Statement.{statement}
+use Rattle.lamps.proofs.key_codes.put_alternating.Tie as tie
 
 abbrev Inv-loop : tie.InvT-loop
 Inv-loop out₀ plan total chain turns turn₀ out turn =

@@ -6,8 +6,8 @@ use native.Mathlib.Omega.{arith}
 use Rattle.layout_layers.specs.Parts.{Walk, runNumber}
 use Rattle.layout_layers.proofs.ChainLaws.{run-empty, run-start, run-more, run-room, run-fits, layer-fits, walk-count, ahead-part}
 use Rattle.lamps.specs.Parts.{codeOf}
-use Rattle.lamps.proofs.parts.put_run.Statement.{statement}
-use Rattle.lamps.proofs.parts.put_run.Tie as tie
+use Rattle.lamps.proofs.key_codes.put_run.Statement.{statement}
+use Rattle.lamps.proofs.key_codes.put_run.Tie as tie
 
 abbrev Inv-loop : tie.InvT-loop
 Inv-loop out₀ total chain size times first spot₀ k₀ out spot k =

@@ -14,8 +14,8 @@ use Rattle.layout_layers.proofs.RunPlaces.{count-within}
 use Rattle.layout_layers.proofs.ChainLaws.{chain-start, chain-ahead, chain-fits, chain-more, chain-done}
 use Rattle.lamps.specs.Parts.{codeOf}
 use borrow.Author.Needs.{needs}
-use Rattle.lamps.proofs.parts.put_chain.Statement.{statement}
-use Rattle.lamps.proofs.parts.put_chain.Tie as tie
+use Rattle.lamps.proofs.key_codes.put_chain.Statement.{statement}
+use Rattle.lamps.proofs.key_codes.put_chain.Tie as tie
 
 abbrev Inv-loop : tie.InvT-loop
 Inv-loop out₀ total sizes times chain spot₀ first₀ i₀ out spot first i =

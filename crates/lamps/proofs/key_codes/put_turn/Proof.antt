@@ -6,8 +6,8 @@ use Rattle.layout_layers.specs.Parts.{Spread}
 use Rattle.layout_layers.proofs.SpreadLaws.{InBlock, block-none, block-more, block-whole, block-single, single-room, single-first, block-number}
 use Rattle.lamps.specs.Parts.{codeOf}
 use borrow.Author.Needs.{needs}
-use Rattle.lamps.proofs.parts.put_turn.Statement.{statement}
-use Rattle.lamps.proofs.parts.put_turn.Tie as tie
+use Rattle.lamps.proofs.key_codes.put_turn.Statement.{statement}
+use Rattle.lamps.proofs.key_codes.put_turn.Tie as tie
 
 abbrev Inv-loop : tie.InvT-loop
 Inv-loop out₀ total cycles turn layer first-code at base c₀ out c =

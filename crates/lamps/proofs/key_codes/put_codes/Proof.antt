@@ -1,8 +1,8 @@
 -- In turn where the scale is equalized, along the chain where it is not.
 use Rattle.lamps.proofs.StripLaws.{codes-listed}
 use borrow.Author.Needs.{needs}
-use Rattle.lamps.proofs.parts.put_codes.Statement.{statement}
-use Rattle.lamps.proofs.parts.put_codes.Tie as tie
+use Rattle.lamps.proofs.key_codes.put_codes.Statement.{statement}
+use Rattle.lamps.proofs.key_codes.put_codes.Tie as tie
 
 put-alternating-requires : tie.Need-put-alternating-requires
 put-alternating-requires c κs =
