@@ -3,6 +3,8 @@
 use std::fmt::Debug;
 
 use judge::layouts;
+use judge::layouts::kind_of;
+use judge::patterns;
 use judge::spelling;
 use reading::Outcome;
 use reading::Whole;
@@ -12,7 +14,6 @@ use reading::fitted;
 use reading::layers;
 use reading::layers::Kind;
 use reading::layouts::Layout;
-use reading::layouts::strip_of;
 use tune::layout::IsomorphicLayout;
 use tune::layout::Layer;
 use vetchnoon::Refused;
@@ -21,7 +22,6 @@ use crate::classes;
 use crate::classes::Class;
 use crate::question::Call;
 use crate::question::Question;
-use crate::subjects::patterns::original_numbers;
 use crate::tally::Answers;
 use crate::tally::Original;
 use crate::tally::Tally;
@@ -116,7 +116,7 @@ impl GivenLayout {
                     derived.reduced_period,
                     derived.inverse,
                 ];
-                numbers.extend(original_numbers(layout.mos()));
+                numbers.extend(patterns::numbers(layout.mos()));
                 numbers
             });
             Original::of(derived)
@@ -208,10 +208,9 @@ impl GivenLayout {
             Ok(layout) => layout.strip(),
             Err(number) => Err(*number),
         };
-        let octave = usize::from(self.octave);
         let original = self
-            .original_layers()
-            .then(|layers| strip_from(&layers[..octave]));
+            .original
+            .then(|layout| Original::of_option(layouts::strip(layout).map(Result::ok)));
         self.compare_each(tally, Call::Lamp, &reading, vetchnoon::lamp);
         let class = self.class(classes::of_layout_layers);
         let question = self.asking(Call::LampStrip);
@@ -231,20 +230,12 @@ impl GivenLayout {
         tally.compare(self.asking(Call::BookLen), &answers, None);
 
         let call = |out: &mut [u8]| vetchnoon::book(self.code, self.octave, self.tritave, out);
-        let original = self.original_book();
+        let original = self
+            .original
+            .then(|layout| Original::of(layouts::book(layout)));
         let class = self.class(classes::of_layout_book);
         let question = self.asking(Call::Book);
         tally.compare_filling(question, reading, original, class, call);
-    }
-
-    /// A book of the original's names, laid out as document 01 says.
-    fn original_book(&self) -> Original<Vec<u8>> {
-        self.original.then(|layout| {
-            let names: Result<Vec<String>, _> = (0..self.octave)
-                .map(|key| layouts::note_name(layout, key))
-                .collect();
-            Original::of(names.map(|names| books::of_names(&names)))
-        })
     }
 }
 
@@ -289,22 +280,4 @@ fn number_of(layer: Layer, total: Whole) -> Option<u16> {
     };
     let in_range = (0..total).contains(&number);
     (in_range && layers::kind(number, total) == kind_of(layer)).then(|| fitted(number))
-}
-
-fn kind_of(layer: Layer) -> Kind {
-    match layer {
-        Layer::Natural => Kind::Natural,
-        Layer::Sharp(level) => Kind::Sharp(level.into()),
-        Layer::Enharmonic(level) => Kind::Enharmonic(level.into()),
-        Layer::Flat(level) => Kind::Flat(level.into()),
-    }
-}
-
-/// The strip that the original's layers make, or none where they have no codes.
-fn strip_from(layers: &[Layer]) -> Original<Vec<u8>> {
-    let kinds: Vec<Kind> = layers.iter().copied().map(kind_of).collect();
-    match strip_of(&kinds) {
-        Ok(strip) => Original::Answered(strip),
-        Err(_) => Original::Declined,
-    }
 }
