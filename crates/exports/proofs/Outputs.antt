@@ -20,9 +20,11 @@ use Rattle.genchain.specs.Chains.{chainOf, rowOf}
 use Rattle.layers.specs.Answers.{layersOutcome}
 use Rattle.layers.specs.Layers.{layersOf}
 use Rattle.layout.specs.Answers.{inRoom, getNoteName}
-use Rattle.layout.specs.Layouts.{Layout, layoutOutcome}
-use Rattle.layout.specs.Names.{nameIn, noteName}
+use Rattle.layout.specs.Layouts.{Layout, layoutOutcome, Accepted}
+use Rattle.layout.specs.Names.{nameIn}
 use Rattle.layout.specs.declared.IsomorphicLayout.{IsomorphicLayout}
+use Rattle.layout.proofs.Calls.{of-refused, of-given}
+use Rattle.layout.proofs.Finding.{accepted, octave-is}
 use Rattle.layout_book.specs.LayoutBooks.{bookIn, getBook}
 use Rattle.layout_speller.proofs.Spelled.{name-short}
 use Rattle.layout_speller.proofs.Spellers.{speller-of}
@@ -118,20 +120,16 @@ kind-given n k is p q = ap₂ (λ (x y : ℕ). given (x ∷ y ∷ [])) p q ∙ a
 
 -- ---- layouts
 
-module _ (code octave tritave : ℕ) where
-  abbrev laidOut : Layout → Outcome (List ℕ)
-  laidOut l = given (layoutNumbers octave l)
-
-  pub layout-refused : (n : ℕ) → refused n ≡ layoutOutcome code octave tritave → refused n ≡ layoutOutput code octave tritave
+module _ (r : IsomorphicLayout) where
+  pub layout-refused : (n : ℕ) → refused n ≡ layoutOutcome r → refused n ≡ layoutOutput r
   unfolding layoutOutput
-  layout-refused n e = ap (λ (o : Outcome Layout). andThen o laidOut) e
+  layout-refused n e = of-refused r _ n e
 
-  pub layout-given : (l : Layout) (s : Solved) → given l ≡ layoutOutcome code octave tritave → s ≡ solvedOf octave (l .generator)
-      → given (l .generator ∷ (solvedNumbers s ++ fields (l .pattern))) ≡ layoutOutput code octave tritave
+  pub layout-given : (l : Layout) (s : Solved) → given l ≡ layoutOutcome r → s ≡ solvedOf (l .octave) (l .generator)
+      → given (l .generator ∷ (solvedNumbers s ++ fields (l .pattern))) ≡ layoutOutput r
   unfolding layoutOutput layoutNumbers
   layout-given l s e is =
-      ap (λ (x : List ℕ). given (l .generator ∷ (x ++ fields (l .pattern)))) (solved-numbers octave (l .generator) s is)
-      ∙ ap (λ (o : Outcome Layout). andThen o laidOut) e
+      ap (λ (x : List ℕ). given (l .generator ∷ (x ++ fields (l .pattern)))) (solved-numbers (l .octave) (l .generator) s is) ∙ of-given r _ l e
 
 -- ---- names and books are short enough to be counted
 
@@ -141,20 +139,22 @@ fits-given (given l) f h text e = subst (λ (t : List ℕ). length t < 2 ^ 63) (
 fits-given (refused n) f h text e = absurd (let z : _≡_ {A = ℕ} 0 1 = cc in omega arith)
 
 module _ (r : IsomorphicLayout) (small : r .octave ≤ 65535) where
-  name-fits : (key : ℕ) (l : Layout) → layoutOutcome (r .genchain) (r .octave) (r .tritave) ≡ given l
-      → length (nameIn (r .genchain) (r .octave) l key) < 2 ^ 63
+  octave-fits : (l : Layout) → Accepted r l → l .octave ≤ 65535
+  octave-fits l e = omega (arith, octave-is r l e)
+
+  name-fits : (key : ℕ) (l : Layout) → Accepted r l → length (nameIn l key) < 2 ^ 63
   name-fits key l e =
       let w
-      = speller-of (r .genchain) (r .octave) (r .tritave) l e (rowOf (chainOf (r .genchain))) (solvedOf (r .octave) (l .generator)) refl refl small in
+      = speller-of l (accepted r l e) (rowOf (chainOf (l .chain))) (solvedOf (l .octave) (l .generator)) refl refl (octave-fits l e) in
       subst (λ (t : List ℕ). length t < 2 ^ 63) (w .names key) (omega (arith, name-short _ (w .sound) key))
 
   pub names-fit : (key : ℕ) (text : List ℕ) → getNoteName r key ≡ given text → length text < 2 ^ 63
-  unfolding getNoteName noteName
-  names-fit key = fits-given _ (λ (l : Layout). nameIn (r .genchain) (r .octave) l key) (name-fits key)
+  unfolding getNoteName
+  names-fit key = fits-given _ (λ (l : Layout). nameIn l key) (name-fits key)
 
-  book-fits : (l : Layout) → layoutOutcome (r .genchain) (r .octave) (r .tritave) ≡ given l → length (bookIn (r .genchain) (r .octave) l) < 2 ^ 63
-  book-fits l e = omega (arith, offsets-fit (r .genchain) (r .octave) (r .tritave) l e small .whole)
+  book-fits : (l : Layout) → Accepted r l → length (bookIn l) < 2 ^ 63
+  book-fits l e = omega (arith, offsets-fit r l e (octave-fits l e) .whole)
 
   pub books-fit : (text : List ℕ) → getBook r ≡ given text → length text < 2 ^ 63
   unfolding getBook
-  books-fit = fits-given _ (λ (l : Layout). bookIn (r .genchain) (r .octave) l) book-fits
+  books-fit = fits-given _ bookIn book-fits

@@ -77,7 +77,7 @@ pub record ExamplesHold : Type 0 where
   -- the numbers 0 to 5 of 6: natural, sharp 0 and 1, enharmonic 2, flat 1 and 0
   pub kinds : map (λ (j : ℕ). kindNumbers (kindOf 6 j)) (0 ∷ 1 ∷ 2 ∷ 3 ∷ 4 ∷ 5 ∷ [])
       ≡ (0 ∷ 0 ∷ []) ∷ (1 ∷ 0 ∷ []) ∷ (1 ∷ 1 ∷ []) ∷ (2 ∷ 2 ∷ []) ∷ (3 ∷ 1 ∷ []) ∷ (3 ∷ 0 ∷ []) ∷ []
-  pub layouts : map (λ (e : LayoutExample). layoutOutput (e .code) (e .octave) (e .tritave)) layoutExamples
+  pub layouts : map (λ (e : LayoutExample). layoutOutput (layout (e .code) (e .octave) (e .tritave))) layoutExamples
       ≡ map (λ (e : LayoutExample). e .output) layoutExamples
   pub spellings : map
       (λ (e : SpellingExample). getSoundedKey (layout 1 (e .octave) (e .tritave)) (spelling (e .letter) (e .signs) (e .stars)))

@@ -11,6 +11,7 @@ use Rattle.genchain.specs.Answers.{askChain}
 use Rattle.genchain.specs.Chains.{chainOf}
 use Rattle.layout.specs.declared.IsomorphicLayout.{IsomorphicLayout}
 use Rattle.layout.specs.Layouts.{Layout, layoutOutcome}
+use Rattle.layout.specs.Answers.{ofLayout}
 use Rattle.layout_layers.specs.declared.Layer.{Layer}
 use Rattle.layout_layers.specs.declared.Layer.the-variants.{Natural, Sharp, Enharmonic, Flat}
 use Rattle.mos.specs.declared.Mos.{Mos}
@@ -85,15 +86,14 @@ nameOutput code = askChain code (given (chainOf code .name))
 -- ---- layouts
 
 -- The generator, the pergen's numbers and the pattern's.
-unfoldable pub layoutNumbers : ℕ → Layout → List ℕ
+unfoldable pub layoutNumbers : Layout → List ℕ
 unfolding pergenNumbers
-layoutNumbers octave l = l .generator ∷ (pergenNumbers octave (l .generator) ++ fields (l .pattern))
+layoutNumbers l = l .generator ∷ (pergenNumbers (l .octave) (l .generator) ++ fields (l .pattern))
 
 -- Questions 1 to 4, then these.
-unfoldable pub layoutOutput : ℕ → ℕ → ℕ → Outcome (List ℕ)
+unfoldable pub layoutOutput : IsomorphicLayout → Outcome (List ℕ)
 unfolding layoutOutcome layoutNumbers
-layoutOutput code octave tritave =
-    andThen (layoutOutcome code octave tritave) (λ (l : Layout). given (layoutNumbers octave l))
+layoutOutput r = ofLayout r (λ (l : Layout). given (layoutNumbers l))
 
 -- A layer's kind as a number, in the order in which "Step patterns" names the kinds.
 abbrev pub kindNumber : Layer → ℕ

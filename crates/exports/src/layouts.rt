@@ -19,7 +19,7 @@ ghost use Rattle.exports.specs.Written.{layout, layoutOutput, spelling, 
 // Generator, cycles, reduced period, inverse, then the pattern's four numbers (1, 2, 3, 4, 10).
 #[no_mangle]
 pub extern "C" fn vn_layout(chain: u16, octave: u16, tritave: u16, out: &mut [u16]) -> i64
-    ensures { λ r. ⌜ Fills (layoutOutput chain octave tritave) r (now (out .entry)) (now (out .exit)) ⌝ }
+    ensures { λ r. ⌜ Fills (layoutOutput (layout chain octave tritave)) r (now (out .entry)) (now (out .exit)) ⌝ }
 {
     let layout = IsomorphicLayout {
         genchain: chain,
@@ -29,7 +29,7 @@ pub extern "C" fn vn_layout(chain: u16, octave: u16, tritave: u16, out: &mut [u1
     match layout::parts::search(layout) {
         FoundAnswer::Refused(question) => codes::refused(question),
         FoundAnswer::Given(found) => {
-            let solved = euclid::solve(octave, found.generator);
+            let solved = euclid::solve(found.octave, found.generator);
             let pattern = found.pattern;
             let numbers: [u16; 8] = [
                 found.generator,

@@ -31,7 +31,7 @@ put-requires c κs = search needs
 
 returns : tie.Need-returns
 returns c =
-    fills-refused _ _ (layout-refused _ _ _ _ (sym (ap foundOutcome (c .before .before .question .given .1)) ∙ c .before .before .before .before .search .ensures))
+    fills-refused _ _ (layout-refused _ _ (sym (ap foundOutcome (c .before .before .question .given .1)) ∙ c .before .before .before .before .search .ensures))
     (coded (c .refused .ok) (c .refused .ensures))
 
 same-length : tie.Need-same-length
@@ -39,7 +39,7 @@ same-length c = search needs
 
 returns-2 : tie.Need-returns-2
 returns-2 c =
-    fills-as (layout-given _ _ _ _ _ (sym (ap foundOutcome (c .before .before .before .before .before .before .before .before .found .given .1)) ∙ c .before .before .before .before .before .before .before .before .before .before .search .ensures) (c .before .before .before .before .before .before .solve .ensures))
+    fills-as (layout-given _ _ _ (sym (ap foundOutcome (c .before .before .before .before .before .before .before .before .found .given .1)) ∙ c .before .before .before .before .before .before .before .before .before .before .search .ensures) (c .before .before .before .before .before .before .solve .ensures))
     (c .before .before .put .ok)
     (c .before .before .put .ensures)
 
