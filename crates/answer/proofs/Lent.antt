@@ -1,5 +1,5 @@
 -- Laws of lent slices: how question 10 is answered, and what a refusal leaves. That a written output fills a slice is in text: Writing.
-use mathlib.Core.Path.{_≡_, refl, sym, ap, _∙_}
+use mathlib.Core.Path.{_≡_, sym, ap, _∙_}
 use Prim.Native.Nat.{ℕ, _≤_, _<_}
 use mathlib.Core.List.{List}
 use lib.ListN.{length}

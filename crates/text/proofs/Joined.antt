@@ -4,7 +4,7 @@ use native.Mathlib.Nat.{add-zero, add-suc, le-refl, add-sub-of-le, mul-suc, mul-
 use native.Mathlib.Numerals.{add-one}
 use native.Mathlib.Omega.{arith}
 use mathlib.Core.Path.{_≡_, refl, sym, ap, ap₂, _∙_}
-use mathlib.Core.List.{List, [], _∷_, _++_, append-nil, append-assoc}
+use mathlib.Core.List.{List, [], _++_, append-nil, append-assoc}
 use lib.ListN.{length, length-append, take, drop}
 use lib.Seq.{drop-at, take-append-seam}
 use Rattle.text.specs.Writing.{Room, Wrote, joined}

@@ -27,25 +27,6 @@ valueFrom sofar (digit ∷ rest) = valueFrom (10 * sofar + (digit - 48)) rest
 abbrev pub value : List ℕ → ℕ
 value text = valueFrom 0 text
 
--- ---- writing
-
--- The last digits of a number, as many as it has and at most `most`.
-unfoldable pub lastDigits : ℕ → ℕ → List ℕ
-lastDigits zero n = []
-lastDigits (suc most) n =
-    elim (ltb n 10) [ true ↦ (48 + n) ∷ [] | false ↦ lastDigits most (n / 10) ++ ((48 + n % 10) ∷ []) ]
-
--- A number in decimal, without leading zeros; n + 1 digits are always enough for n.
-unfoldable pub digits : ℕ → List ℕ
-unfolding lastDigits
-digits n = lastDigits (n + 1) n
-
--- What `number_len` promises of a number below 65,536.
-pub record DigitsLength (n r : ℕ) : Type 0 where
-  pub is-length : r ≡ length (digits n)
-  pub some : 1 ≤ r
-  pub few : r ≤ 5
-
 -- ---- reading at a place
 
 -- The digits that begin at a place, the number that they say, and the place after them.
@@ -82,3 +63,22 @@ pickDigit false digit = 10
 
 unfoldable pub digitAt : List ℕ → ℕ → ℕ
 digitAt text at = pickDigit (isDigit (getD text at 0)) (getD text at 0 - 48)
+
+-- ---- writing
+
+-- The last digits of a number, as many as it has and at most `most`.
+unfoldable pub lastDigits : ℕ → ℕ → List ℕ
+lastDigits zero n = []
+lastDigits (suc most) n =
+    elim (ltb n 10) [ true ↦ (48 + n) ∷ [] | false ↦ lastDigits most (n / 10) ++ ((48 + n % 10) ∷ []) ]
+
+-- A number in decimal, without leading zeros; n + 1 digits are always enough for n.
+unfoldable pub digits : ℕ → List ℕ
+unfolding lastDigits
+digits n = lastDigits (n + 1) n
+
+-- What `number_len` promises of a number below 65,536.
+pub record DigitsLength (n r : ℕ) : Type 0 where
+  pub is-length : r ≡ length (digits n)
+  pub some : 1 ≤ r
+  pub few : r ≤ 5

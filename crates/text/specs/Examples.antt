@@ -1,6 +1,6 @@
 -- Worked examples of the definitions, and one theorem that they hold.
-use Prim.Native.Nat.{ℕ, _+_}
-use mathlib.Core.List.{List, [], _∷_, map}
+use Prim.Native.Nat.{_+_}
+use mathlib.Core.List.{[], _∷_, map}
 use mathlib.Core.Path.{_≡_}
 use lib.ListN.{replicate}
 use Rattle.text.specs.Writing.{joined}
