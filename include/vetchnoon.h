@@ -1,6 +1,6 @@
 /* Vetchnoon: keyboard layouts of generator chains, as a C library.
  *
- * Link libexports.a. Nothing is allocated, kept between calls or shared: every call may be made from any thread.
+ * Link libvetchnoon.a. Nothing is allocated, kept between calls or shared: every call may be made from any thread.
  *
  * What the library runs on
  *   x86-64 Linux, C calling convention, size_t of 64 bits. It needs memset and memcpy, which a C library has, and nothing

@@ -1,7 +1,7 @@
 // The six chains of letters, after `Genchain` in src/layout.rs of the original.
 //
 // Holds for each chain code from 0 to 5 the letters and the place of key 0's letter (document 01, "The six chains"). The letters
-// stand in one constant table, in `rows`. `generators` has the chains' generators, `chain_names` their names.
+// stand in one constant table, in `rows`. `genchain_generators` has the chains' generators, `genchain_names` their names.
 // specs/: Chains has the six chains as data, Answers says what each call answers, here and in these two crates, Theorems what is
 // proved of the letters.
 // Every entry point answers every input; the modules of parts ask for more, as their heads say. Nothing is assumed.

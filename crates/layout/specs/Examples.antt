@@ -1,4 +1,4 @@
--- Worked examples beside document 01's marked ones, and one theorem that the definitions give them. (Those are in `lamps`, with the strips.)
+-- Worked examples beside document 01's marked ones, and one theorem that the definitions give them. (Those are in `layout_lamps`, with the strips.)
 use Prim.Native.Nat.{ℕ}
 use mathlib.Core.List.{List, [], _∷_, map}
 use mathlib.Core.Path.{_≡_}

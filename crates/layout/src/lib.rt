@@ -1,8 +1,8 @@
 // Layouts of the six chains, after `IsomorphicLayout` and `Genchain::create_layout` in src/layout.rs of the original.
 //
 // Holds making a layout from chain code, octave and tritave, its pergen and pattern, a spelling's key, and spellings and names of its
-// keys (document 01, "The six chains", "Pergen and spelling", "Step patterns"). `scale_names` has the name of its scale.
-// specs/: Layouts, ScaleNames and Names define, Answers says what each call answers, in `scale_names` too, Theorems what a reader
+// keys (document 01, "The six chains", "Pergen and spelling", "Step patterns"). `layout_scale_names` has the name of its scale.
+// specs/: Layouts, ScaleNames and Names define, Answers says what each call answers, in `layout_scale_names` too, Theorems what a reader
 // of key names may rely on. A layout holds only the three numbers that a caller chose; each call asks questions 1 to 4 of them again.
 // Every entry point answers every input; the modules of parts ask for more, as their heads say. Nothing is assumed.
 pub mod parts;

@@ -70,7 +70,7 @@ fn with_pattern(layout: IsomorphicLayout, row: ChainRow, generator: u16) -> Foun
     let step = within_octave(octave, generator);
     let mut found: [u16; 4] = [0, 0, 0, 0];
     // from the genesis: both counts 1, and the steps
-    if walks::parts::seek(1, 1, step, octave - step, num_letters as u32, &mut found) {
+    if mos_walks::parts::seek(1, 1, step, octave - step, num_letters as u32, &mut found) {
         return FoundAnswer::Given(Found {
             chain: layout.genchain,
             octave,
@@ -88,7 +88,7 @@ pub fn find(layout: IsomorphicLayout, row: ChainRow) -> FoundAnswer
     requires { ⌜ row ≡ rowOf (chainOf (layout .genchain)) ⌝ }
     ensures { λ r. ⌜ foundOutcome r ≡ layoutOutcome layout ⌝ }
 {
-    match generators::generator(layout.genchain, layout.octave, layout.tritave) {
+    match genchain_generators::generator(layout.genchain, layout.octave, layout.tritave) {
         NumberAnswer::Refused(q) => FoundAnswer::Refused(q),
         NumberAnswer::Given(generator) => with_pattern(layout, row, generator),
     }
@@ -112,7 +112,7 @@ pub(crate) fn accidentals(found: Found, key: u16) -> Accidentals
         num_symbols: found.num_letters,
         genchain_origin: found.start,
     };
-    spelling::parts::accidentals(solved.reduced_period, format, generation)
+    pergen_spelling::parts::accidentals(solved.reduced_period, format, generation)
 }
 
 // The plan of a key's name, with the letters of the chain's row. The style goes by the steps: sharp first where the primary is at
@@ -160,6 +160,6 @@ pub(crate) fn sounded(found: Found, spelling: Spelling) -> NumberAnswer
         period: found.octave,
         generator: found.generator,
     };
-    let sides = sounding::parts::sides_of(format, spelling);
-    NumberAnswer::Given(sounding::parts::sounded(pergen, sides, stars))
+    let sides = pergen_sounding::parts::sides_of(format, spelling);
+    NumberAnswer::Given(pergen_sounding::parts::sounded(pergen, sides, stars))
 }

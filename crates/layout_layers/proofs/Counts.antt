@@ -14,8 +14,8 @@ use Rattle.pergen.specs.Spelling.{starsOf}
 use Rattle.pergen.proofs.Inverse.{period-is, cycles-positive}
 use Rattle.pergen.proofs.Keys.{cycle-below}
 use Rattle.pergen.proofs.DegreePlaces.{stars-are, few-signs}
-use Rattle.layers.specs.Layers.{layerSizes}
-use Rattle.layers.proofs.Theorems.{enough-layers}
+use Rattle.mos_layers.specs.Layers.{layerSizes}
+use Rattle.mos_layers.proofs.Theorems.{enough-layers}
 use Rattle.layout.specs.declared.IsomorphicLayout.{IsomorphicLayout}
 use Rattle.layout.specs.Layouts.{Layout, Accepted, accidentalsIn}
 use Rattle.layout.proofs.Finding.{Parts, accepted}

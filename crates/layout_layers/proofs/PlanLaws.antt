@@ -16,15 +16,15 @@ use Rattle.math.specs.Gcd.{gcdOrOne}
 use Rattle.pergen.specs.Pergen.{reduced, degree, cycle}
 use Rattle.pergen.proofs.Inverse.{period-is, cycles-positive}
 use Rattle.pergen.proofs.CarriedWalk.{turn-stays, turn-wraps}
-use Rattle.layers.specs.declared.Runs.{Runs}
-use Rattle.layers.specs.Layers.{dropEmpty, numbered, layerSizes, layersOf}
-use Rattle.layers.specs.Parts.{runSizes}
-use Rattle.layers.specs.Theorems.{sum}
-use Rattle.layers.proofs.Sizes.{few, sum-drop}
-use Rattle.layers.proofs.Plans.{all-sum}
-use Rattle.layers.proofs.Theorems as Sums
-use Rattle.layers.proofs.Theorems.{code-cycles}
-use Rattle.layers.proofs.Answers.{RunsOf}
+use Rattle.mos_layers.specs.declared.Runs.{Runs}
+use Rattle.mos_layers.specs.Layers.{dropEmpty, numbered, layerSizes, layersOf}
+use Rattle.mos_layers.specs.Parts.{runSizes}
+use Rattle.mos_layers.specs.Theorems.{sum}
+use Rattle.mos_layers.proofs.Sizes.{few, sum-drop}
+use Rattle.mos_layers.proofs.Plans.{all-sum}
+use Rattle.mos_layers.proofs.Theorems as Sums
+use Rattle.mos_layers.proofs.Theorems.{code-cycles}
+use Rattle.mos_layers.proofs.Answers.{RunsOf}
 use Rattle.layout.specs.Layouts.{Layout, cyclesIn, reducedIn}
 use Rattle.layout.specs.Parts.{Laid}
 use Rattle.layout.proofs.Finding.{Parts, laid}

@@ -18,11 +18,11 @@ use Rattle.pergen.specs.Pergen.{cycles, reduced, degree, cycle, inverse}
 use Rattle.pergen.proofs.Inverse.{period-is, cycles-positive, reduced-positive}
 use Rattle.pergen.proofs.Keys.{cycle-below, degree-and-cycle-tell-keys-apart}
 use Rattle.pergen.proofs.CarriedWalk.{keyWith, key-with-below, key-with-cycle, key-with-degree}
-use Rattle.layers.specs.Layers.{holding, sharps, allSizes, dropEmpty, numbered, layerSizes, layersOf}
-use Rattle.layers.specs.Theorems.{sum}
-use Rattle.layers.proofs.Sizes.{few, sum-drop}
-use Rattle.layers.proofs.Plans.{holding-both}
-use Rattle.layers.proofs.Theorems.{layer-sizes-sum}
+use Rattle.mos_layers.specs.Layers.{holding, sharps, allSizes, dropEmpty, numbered, layerSizes, layersOf}
+use Rattle.mos_layers.specs.Theorems.{sum}
+use Rattle.mos_layers.proofs.Sizes.{few, sum-drop}
+use Rattle.mos_layers.proofs.Plans.{holding-both}
+use Rattle.mos_layers.proofs.Theorems.{layer-sizes-sum}
 use Rattle.layout.specs.declared.IsomorphicLayout.{IsomorphicLayout}
 use Rattle.layout.specs.Layouts.{Layout, Accepted}
 use Rattle.layout.proofs.Finding.{Parts, accepted}

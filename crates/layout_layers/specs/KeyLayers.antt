@@ -9,7 +9,7 @@ use Rattle.text.specs.Writing.{joined}
 use Rattle.mos.specs.declared.Mos.{Mos}
 use Rattle.mos.specs.Patterns.{pick, primary, secondary, secondaries}
 use Rattle.pergen.specs.Pergen.{cycles, reduced, degree, cycle}
-use Rattle.layers.specs.Layers.{layerSizes, layersOf}
+use Rattle.mos_layers.specs.Layers.{layerSizes, layersOf}
 use Rattle.layout.specs.Layouts.{Layout}
 use Rattle.layout_layers.specs.declared.Layer.{Layer}
 use Rattle.layout_layers.specs.declared.Layer.the-variants.{Natural, Sharp, Enharmonic, Flat}

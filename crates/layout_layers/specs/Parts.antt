@@ -6,10 +6,10 @@ use lib.ListN.{length, getD, drop}
 use Rattle.text.specs.Writing.{joined}
 use Rattle.mos.specs.Patterns.{pick, primaries, secondaries, primary, secondary, cyclesOf}
 use Rattle.pergen.specs.Pergen.{inverse}
-use Rattle.layers.specs.declared.Runs.{Runs}
-use Rattle.layers.specs.Layers.{allSizes, dropEmpty, numbered}
-use Rattle.layers.specs.Parts.{runSizes}
-use Rattle.layers.specs.Theorems.{sum}
+use Rattle.mos_layers.specs.declared.Runs.{Runs}
+use Rattle.mos_layers.specs.Layers.{allSizes, dropEmpty, numbered}
+use Rattle.mos_layers.specs.Parts.{runSizes}
+use Rattle.mos_layers.specs.Theorems.{sum}
 use Rattle.layout.specs.Layouts.{Layout, cyclesIn, reducedIn}
 use Rattle.layout_layers.specs.declared.chain.Chain.{Chain}
 use Rattle.layout_layers.specs.declared.chain.Spot.{Spot}

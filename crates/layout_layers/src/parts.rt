@@ -7,18 +7,18 @@ use crate::chain::Chain;
 use crate::chain::Spot;
 use answer::CountAnswer;
 use answer::Refusal;
-use layers::Runs;
-use layers::parts::divided;
 use layout::parts::Found;
+use mos_layers::Runs;
+use mos_layers::parts::divided;
 ghost use mathlib.Core.Path.{_≡_};
 ghost use mathlib.Core.Bool.{true, false};
 ghost use Prim.Native.Nat.{_+_, _*_, _/_, _%_, _<_, _≤_};
 ghost use lib.ListN.{length, replicate};
 ghost use Rattle.answer.specs.Lent.{heldIn, Filled};
 ghost use Rattle.answer.specs.Refusals.{countOutcome};
-ghost use Rattle.layers.specs.Parts.{runSizes};
-ghost use Rattle.layers.specs.Theorems.{sum};
-ghost use Rattle.layers.specs.Layers.{dropEmpty};
+ghost use Rattle.mos_layers.specs.Parts.{runSizes};
+ghost use Rattle.mos_layers.specs.Theorems.{sum};
+ghost use Rattle.mos_layers.specs.Layers.{dropEmpty};
 ghost use Rattle.layout.specs.Parts.{layoutOf, Laid};
 ghost use Rattle.layout_layers.specs.KeyLayers.{alternating};
 ghost use Rattle.layout_layers.specs.Parts.{
@@ -74,7 +74,7 @@ pub fn plan_of(found: Found) -> Plan
 {
     let pattern = found.pattern;
     let num_cycles = math::gcd_u16(pattern.primary_step, pattern.secondary_step);
-    let runs = layers::parts::runs_over(pattern, num_cycles);
+    let runs = mos_layers::parts::runs_over(pattern, num_cycles);
     let reduced_period = divided(found.octave, num_cycles);
     let step = layout::parts::within_octave(found.octave, found.generator);
     let advance = divided(step, num_cycles);
@@ -192,7 +192,7 @@ pub fn total_of(plan: Plan) -> u16
         return 2 * chain.num_cycles;
     }
     let runs = plan.runs;
-    (layers::parts::count_sizes(runs) * (chain.num_cycles as u32)) as u16
+    (mos_layers::parts::count_sizes(runs) * (chain.num_cycles as u32)) as u16
 }
 
 // How many scale degrees the entries have.
