@@ -1,6 +1,12 @@
 /* Vetchnoon: keyboard layouts of generator chains, as a C library.
  *
- * Link libexports.a. Nothing is allocated, kept between calls or shared: every call may be made from any thread.
+ * Link libvetchnoon.a. Nothing is allocated, kept between calls or shared: every call may be made from any thread.
+ *
+ * What the library runs on
+ *   x86-64 Linux, C calling convention, size_t of 64 bits. It needs memset and memcpy, which a C library has, and nothing
+ *   else; it makes no system calls.
+ *   Stack: at most 2.5 KiB for vn_key_table and 1 KiB for any other call, measured (2,424 bytes, and 600 for
+ *   vn_layout_layers, with the memset and memcpy of glibc); examples/check measures it again.
  *
  * What a call returns
  *   0 or more: the answer, or how many elements were written to the front of the slice that was lent.
@@ -56,6 +62,22 @@ extern "C" {
 #define VN_LINE 14
 #define VN_LETTER 16
 #define VN_STARS 21
+
+/* The kinds of layers, which vn_layer_kind tells. */
+#define VN_NATURAL 0
+#define VN_SHARP 1
+#define VN_ENHARMONIC 2
+#define VN_FLAT 3
+
+/* The version of this header. The first number changes where a call, a number above or an answer is changed or taken away,
+ * the second where some are added, the third where neither is so. Before these numbers stood here it was 1.0.0:
+ * vn_sounded_key took sharps and flats as two numbers, and asked 15, VN_SPELLING, in place of 16 and 21. */
+#define VN_VERSION_MAJOR 2
+#define VN_VERSION_MINOR 0
+#define VN_VERSION_PATCH 0
+
+/* The library was built for a size_t of 64 bits; with any other this line does not compile. */
+typedef char vn_size_t_has_64_bits[sizeof(size_t) == 8 ? 1 : -1];
 
 /* ---- numbers */
 
@@ -118,6 +140,18 @@ int64_t vn_mos_layers(uint16_t primary_count, uint16_t secondary_count, uint16_t
 int64_t vn_mos_key(uint16_t primary_count, uint16_t secondary_count, uint16_t primary_step, uint16_t secondary_step,
                    int16_t p, int16_t s, int64_t *out, size_t len);
 
+/* ---- chains of letters, by their code from 0 to 5 */
+
+/* Writes a chain's letters in order, as code points: at most 9 numbers. An index of a letter counts along them, from 0.
+ * Asks 1, 10. */
+int64_t vn_chain_letters(uint16_t chain, uint16_t *out, size_t len);
+
+/* Writes a chain's name, such as Meantone[7], in ASCII, at most 12 bytes, without a 0 at the end. Asks 1, 10. */
+int64_t vn_chain_name(uint16_t chain, uint8_t *out, size_t len);
+
+/* The index of key 0's letter among the chain's letters. Asks 1. */
+int64_t vn_start(uint16_t chain);
+
 /* ---- layouts: a chain code from 0 to 5, and the step counts of octave and tritave. Each call asks 1, 2, 3, 4 first. */
 
 /* Writes 8 numbers: generator, cycles, reduced period, inverse, and the pattern's counts and steps, primary first.
@@ -143,15 +177,31 @@ int64_t vn_layout_accidentals(uint16_t chain, uint16_t octave, uint16_t tritave,
 int64_t vn_sounded_key(uint16_t chain, uint16_t octave, uint16_t tritave, uint16_t letter, int32_t signs,
                        uint16_t stars);
 
+/* ---- layers and lamps of a layout's keys. Keys of one layer number are lit alike, key 0 aside. Of T numbers, as
+ * vn_layer_count says, 0 is the natural layer; j below T / 2 is sharp layer j - 1; j = T / 2, which only an even T has, is the
+ * enharmonic layer j - 1; any other j is flat layer T - j - 1. So sharp and flat layers count from 0, away from the natural
+ * one. */
+
 /* How many layer numbers there are: T. Asks 1, 2, 3, 4. */
 int64_t vn_layer_count(uint16_t chain, uint16_t octave, uint16_t tritave);
 
 /* Writes the layer number of each key of the octave, of two octaves at sharpness 0. Asks 1, 2, 3, 4, 10. */
 int64_t vn_layout_layers(uint16_t chain, uint16_t octave, uint16_t tritave, uint16_t *out, size_t len);
 
-/* Writes the lamp code of each key of the octave: home 0, natural 1, sharp k 2 + k, flat k 102 + k, enharmonic 255.
- * Asks 1, 2, 3, 4, 9, 10. */
+/* The layer number of one key, of any octave: what vn_layout_layers writes repeats. Asks 1, 2, 3, 4. */
+int64_t vn_layer(uint16_t chain, uint16_t octave, uint16_t tritave, uint16_t key);
+
+/* Writes 2 numbers, what a layer number means of T = total: its kind, VN_NATURAL, VN_SHARP, VN_ENHARMONIC or VN_FLAT, and
+ * which layer of that kind it is, from 0. A number from T on, which no key has, counts as flat 0, but 0 is natural whatever
+ * T is. Asks 10. */
+int64_t vn_layer_kind(uint16_t total, uint16_t number, uint16_t *out, size_t len);
+
+/* Writes the lamp code of each key of the octave: home, which is key 0, has 0; else natural 1, sharp k 2 + k,
+ * flat k 102 + k, enharmonic 255. Asks 1, 2, 3, 4, 9, 10. */
 int64_t vn_lamp_strip(uint16_t chain, uint16_t octave, uint16_t tritave, uint8_t *out, size_t len);
+
+/* The lamp code of one key, of any octave: the strip repeats each octave. Asks 1, 2, 3, 4, 9. */
+int64_t vn_lamp(uint16_t chain, uint16_t octave, uint16_t tritave, uint16_t key);
 
 /* ---- books of key names, and key tables */
 
@@ -162,8 +212,9 @@ int64_t vn_book_len(uint16_t chain, uint16_t octave, uint16_t tritave);
  * names. Asks 1, 2, 3, 4, 10. */
 int64_t vn_book(uint16_t chain, uint16_t octave, uint16_t tritave, uint8_t *out, size_t len);
 
-/* Writes 2 numbers: at which offset of the book, and in how many bytes, a key's name stands. Any bytes are answered.
- * Asks 10, 11, 12, 13. */
+/* Writes 2 numbers: at which offset of the book, and in how many bytes, a key's name stands. Any bytes are answered, and the
+ * whole book is checked at each call: the time grows with its number of keys. A caller who leaves the book unchanged may
+ * keep both numbers. Asks 10, 11, 12, 13. */
 int64_t vn_book_find(const uint8_t *book, size_t book_len, uint32_t key, uint32_t *out, size_t len);
 
 /* Writes what the key table program prints for a line of input, such as "1 12 19\n": a line for each key, or

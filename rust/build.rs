@@ -1,4 +1,4 @@
-//! Links the proved static library, which `rt staticlib exports` writes.
+//! Links the proved static library, which `rt staticlib vetchnoon` writes.
 //!
 //! It is looked for in the folder that `VETCHNOON_LIB` names, or else in
 //! `target/staticlib` of this repository.
@@ -16,15 +16,15 @@ fn main() {
         || Path::new(env!("CARGO_MANIFEST_DIR")).join("../target/staticlib"),
         PathBuf::from,
     );
-    let library = folder.join("libexports.a");
+    let library = folder.join("libvetchnoon.a");
     println!("cargo::rerun-if-changed={}", library.display());
     if !library.is_file() {
         println!(
-            "cargo::error={} is not there: run `rt staticlib exports` in the repository, or name its folder by VETCHNOON_LIB",
+            "cargo::error={} is not there: run `rt staticlib vetchnoon` in the repository, or name its folder by VETCHNOON_LIB",
             library.display()
         );
         process::exit(1);
     }
     println!("cargo::rustc-link-search=native={}", folder.display());
-    println!("cargo::rustc-link-lib=static=exports");
+    println!("cargo::rustc-link-lib=static=vetchnoon");
 }

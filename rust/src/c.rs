@@ -35,6 +35,10 @@ unsafe extern "C" {
     ) -> i64;
     pub fn vn_mos_find(period: u16, generator: u16, steps: u16, out: *mut u16, len: usize) -> i64;
 
+    pub fn vn_chain_letters(chain: u16, out: *mut u16, len: usize) -> i64;
+    pub fn vn_chain_name(chain: u16, out: *mut u8, len: usize) -> i64;
+    pub fn vn_start(chain: u16) -> i64;
+
     pub fn vn_layout(chain: u16, octave: u16, tritave: u16, out: *mut u16, len: usize) -> i64;
     pub fn vn_scale_name(chain: u16, octave: u16, tritave: u16, out: *mut u8, len: usize) -> i64;
     pub fn vn_note_name(
@@ -71,7 +75,10 @@ unsafe extern "C" {
         out: *mut u16,
         len: usize,
     ) -> i64;
+    pub fn vn_layer(chain: u16, octave: u16, tritave: u16, key: u16) -> i64;
+    pub fn vn_layer_kind(total: u16, number: u16, out: *mut u16, len: usize) -> i64;
     pub fn vn_lamp_strip(chain: u16, octave: u16, tritave: u16, out: *mut u8, len: usize) -> i64;
+    pub fn vn_lamp(chain: u16, octave: u16, tritave: u16, key: u16) -> i64;
     pub fn vn_book_len(chain: u16, octave: u16, tritave: u16) -> i64;
     pub fn vn_book(chain: u16, octave: u16, tritave: u16, out: *mut u8, len: usize) -> i64;
     pub fn vn_book_find(

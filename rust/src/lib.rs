@@ -33,6 +33,12 @@ impl Error for Refused {}
 /// A step pattern: primary count, secondary count, primary step, secondary step.
 pub type Pattern = [u16; 4];
 
+/// The kinds of layers, as [`layer_kind`] writes them.
+pub const NATURAL: u16 = 0;
+pub const SHARP: u16 = 1;
+pub const ENHARMONIC: u16 = 2;
+pub const FLAT: u16 = 3;
+
 /// An answer that is not negative is the value, a negative one minus the refusal's number.
 fn value<T>(answer: i64) -> Result<T, Refused>
 where
@@ -87,6 +93,21 @@ filling! {
     accidentals = vn_accidentals(period: u16, generator: u16, symbols: u16, origin: u16, key: u16; u16);
     /// The pattern with that many steps on the walk from the genesis, or nothing (2, 10).
     mos_find = vn_mos_find(period: u16, generator: u16, steps: u16; u16);
+    /// A chain's letters in order, as code points (1, 10).
+    chain_letters = vn_chain_letters(chain: u16; u16);
+    /// A chain's name (1, 10).
+    ///
+    /// ```
+    /// let mut name = [0; 16];
+    /// let bytes = vetchnoon::chain_name(1, &mut name).unwrap();
+    /// assert_eq!(&name[..bytes], b"Meantone[7]");
+    ///
+    /// let mut letters = [0; 9];
+    /// let count = vetchnoon::chain_letters(1, &mut letters).unwrap();
+    /// assert_eq!(letters[..count], [b'F', b'C', b'G', b'D', b'A', b'E', b'B'].map(u16::from));
+    /// assert_eq!(vetchnoon::start(1), Ok(3)); // key 0 is D
+    /// ```
+    chain_name = vn_chain_name(chain: u16; u8);
     /// Generator, cycles, reduced period, inverse, and the pattern (1, 2, 3, 4, 10).
     layout = vn_layout(chain: u16, octave: u16, tritave: u16; u16);
     /// The scale's name (1, 2, 3, 4, 10).
@@ -97,6 +118,18 @@ filling! {
     layout_accidentals = vn_layout_accidentals(chain: u16, octave: u16, tritave: u16, key: u16; u16);
     /// The layer number of each key of the octave, or of two at sharpness 0 (1, 2, 3, 4, 10).
     layout_layers = vn_layout_layers(chain: u16, octave: u16, tritave: u16; u16);
+    /// What a layer number means, of as many as `total` says: its kind, [`NATURAL`], [`SHARP`],
+    /// [`ENHARMONIC`] or [`FLAT`], and which layer of that kind it is, from 0 (10).
+    ///
+    /// ```
+    /// let total = vetchnoon::layer_count(1, 31, 49).unwrap();
+    /// let number = vetchnoon::layer(1, 31, 49, 1).unwrap();
+    /// let mut kind = [0; 2];
+    /// vetchnoon::layer_kind(total, number, &mut kind).unwrap();
+    /// assert_eq!(kind, [vetchnoon::FLAT, 1]);
+    /// assert_eq!(vetchnoon::lamp(1, 31, 49, 1), Ok(102 + 1));
+    /// ```
+    layer_kind = vn_layer_kind(total: u16, number: u16; u16);
     /// The lamp code of each key of the octave (1, 2, 3, 4, 9, 10).
     lamp_strip = vn_lamp_strip(chain: u16, octave: u16, tritave: u16; u8);
     /// The book of all names of the octave (1, 2, 3, 4, 10).
@@ -122,6 +155,11 @@ filling_from_pattern! {
     mos_key = vn_mos_key(p: i16, s: i16; i64);
 }
 
+/// The index of key 0's letter among the chain's letters, from 0 (1).
+pub fn start(chain: u16) -> Result<u16, Refused> {
+    value(unsafe { c::vn_start(chain) })
+}
+
 /// How many bytes a key's name has (1, 2, 3, 4).
 pub fn note_name_len(chain: u16, octave: u16, tritave: u16, key: u16) -> Result<usize, Refused> {
     value(unsafe { c::vn_note_name_len(chain, octave, tritave, key) })
@@ -143,6 +181,16 @@ pub fn sounded_key(
 /// How many layer numbers there are (1, 2, 3, 4).
 pub fn layer_count(chain: u16, octave: u16, tritave: u16) -> Result<u16, Refused> {
     value(unsafe { c::vn_layer_count(chain, octave, tritave) })
+}
+
+/// The layer number of one key, of any octave (1, 2, 3, 4).
+pub fn layer(chain: u16, octave: u16, tritave: u16, key: u16) -> Result<u16, Refused> {
+    value(unsafe { c::vn_layer(chain, octave, tritave, key) })
+}
+
+/// The lamp code of one key, of any octave (1, 2, 3, 4, 9).
+pub fn lamp(chain: u16, octave: u16, tritave: u16, key: u16) -> Result<u8, Refused> {
+    value(unsafe { c::vn_lamp(chain, octave, tritave, key) })
 }
 
 /// How many bytes the book of a layout has (1, 2, 3, 4).

@@ -1,10 +1,8 @@
 -- The worked examples hold by computation.
 use mathlib.Core.Path.{refl}
-use Rattle.answer.specs.Writing.{joined}
 use Rattle.answer.specs.Examples.{ExamplesHold}
 
 pub examples-hold : ExamplesHold
-unfolding joined
 examples-hold =
     record {
       numbers = refl;
@@ -19,5 +17,4 @@ examples-hold =
       no-count = refl;
       front = refl;
       untouched = refl;
-      in-turn = refl;
     }

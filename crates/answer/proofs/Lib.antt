@@ -1,6 +1,3 @@
-pub mod Writing
-pub mod Copying
-pub mod Joined
 pub mod Lent
 pub mod Questions
 pub mod Asked

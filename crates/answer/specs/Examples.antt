@@ -3,7 +3,6 @@ use Prim.Native.Nat.{ℕ, _+_}
 use mathlib.Core.Bool.{true, false}
 use mathlib.Core.List.{List, [], _∷_, map}
 use mathlib.Core.Path.{_≡_}
-use lib.ListN.{replicate}
 use Rattle.answer.specs.declared.Refusal.{Refusal}
 use Rattle.answer.specs.declared.Refusal.the-variants.{
   Chain,
@@ -26,7 +25,6 @@ use Rattle.answer.specs.declared.Refusal.the-variants.{
 use Rattle.answer.specs.Outcome.{Outcome, given, refused, ask, andThen}
 use Rattle.answer.specs.Refusals.{numberOf}
 use Rattle.answer.specs.Lent.{heldIn, counted, written}
-use Rattle.answer.specs.Writing.{joined}
 
 -- The questions in document 01's order.
 abbrev pub inOrder : List Refusal
@@ -63,5 +61,3 @@ pub record ExamplesHold : Type 0 where
   -- a longer slice keeps what lies past the output, and a refusal changes nothing
   pub front : written (given (5 ∷ 6 ∷ [])) (1 ∷ 2 ∷ 3 ∷ 4 ∷ []) ≡ 5 ∷ 6 ∷ 3 ∷ 4 ∷ []
   pub untouched : written (refused 10) (1 ∷ 2 ∷ 3 ∷ []) ≡ 1 ∷ 2 ∷ 3 ∷ []
-  -- keys 0, 1 and 2, with 1, 2 and 3 times their number
-  pub in-turn : joined (λ k. replicate (k + 1) k) 3 ≡ 0 ∷ 1 ∷ 1 ∷ 2 ∷ 2 ∷ 2 ∷ []

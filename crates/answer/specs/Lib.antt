@@ -1,5 +1,4 @@
 pub mod Outcome
 pub mod Refusals
 pub mod Lent
-pub mod Writing
 pub mod Examples

@@ -1,11 +1,9 @@
 // What every entry point answers: a value, or the number of the first question that it says no to.
 //
 // Holds the fourteen questions of document 01 ("Questions before an answer") and two of document 02 as one enum with their numbers,
-// the answers that several crates share, and in `writer` the stores that all texts are made of.
+// and the answers that several crates share.
 // specs/: an outcome and how questions are asked (Outcome), the numbers (Refusals), what a lent slice holds
-// after an answer (Lent), and what writing a text means (Writing). Nothing is assumed.
-pub mod writer;
-
+// after an answer (Lent). Nothing is assumed.
 ghost use mathlib.Core.Path.{_≡_};
 ghost use Rattle.answer.specs.Refusals.{numberOf};
 

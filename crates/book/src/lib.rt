@@ -1,17 +1,14 @@
 // Looking a key's name up in a book (document 01, "Lamps and book").
 //
 // Holds the reading of a book: how many keys it has, where a key's name stands, and the name as a part of the
-// caller's bytes. Every public function here answers any bytes whatever, damaged ones too, with questions 11, 12 and 13,
-// and no byte outside the book's text is ever handed out. `writer` holds the store of a book's numbers, which asks for room.
+// caller's bytes. Every public function answers any bytes whatever, damaged ones too, with questions 11, 12 and 13,
+// and no byte outside the book's text is ever handed out.
 // specs/: the format and its questions (Books); which part of the caller's book a lookup hands back (Lookups); that the
 // names of an accepted book are its text, and that a written book is read back (Theorems). Nothing is assumed.
-pub mod writer;
-
 use answer::Refusal;
+use text::little_endian::read_u32;
 ghost use mathlib.Core.Path.{_≡_};
-ghost use Prim.Native.Nat.{_+_, _<_, _≤_};
-ghost use lib.ListN.{length};
-ghost use Rattle.book.specs.Books.{value32, PairsHeld, textCovered, keysOutcome, findOutcome};
+ghost use Rattle.book.specs.Books.{PairsHeld, textCovered, keysOutcome, findOutcome};
 ghost use Rattle.book.specs.Answers.{keysAnswered, findAnswered};
 ghost use Rattle.book.specs.Lookups.{slice, LookedUp};
 
@@ -33,24 +30,6 @@ pub enum FindAnswer {
     Refused(Refusal),
 }
 
-fn wide(byte: u8) -> u32
-    ensures { λ r. ⌜ (r ≡ byte) × (r < 256) ⌝ }
-{
-    byte as u32
-}
-
-// Four bytes, least first, as a number.
-fn number_at(book: &[u8], at: usize) -> u32
-    requires { ⌜ at + 4 ≤ length (now book) ⌝ }
-    ensures { λ r. ⌜ r ≡ value32 (now (book .entry)) at ⌝ }
-{
-    let a = wide(book[at]);
-    let b = wide(book[at + 1]);
-    let c = wide(book[at + 2]);
-    let d = wide(book[at + 3]);
-    a + 256 * b + 65536 * c + 16777216 * d
-}
-
 // Question 12. A usize has 64 bits, so the sum of an offset and a length does not wrap.
 fn covers(book: &[u8], count: u32) -> bool
     requires { ⌜ PairsHeld (now book) count ⌝ }
@@ -60,8 +39,8 @@ fn covers(book: &[u8], count: u32) -> bool
     let mut key: u32 = 0;
     while key < count {
         let pair = 4 + 8 * (key as usize);
-        let offset = number_at(book, pair) as usize;
-        let length = number_at(book, pair + 4) as usize;
+        let offset = read_u32(book, pair) as usize;
+        let length = read_u32(book, pair + 4) as usize;
         if offset != due {
             return false;
         }
@@ -81,7 +60,7 @@ pub fn count(book: &[u8]) -> KeysAnswer
     if book.len() < 4 {
         return KeysAnswer::Refused(Refusal::BookPairs);
     }
-    let keys = number_at(book, 0);
+    let keys = read_u32(book, 0);
     if keys < 1 {
         return KeysAnswer::Refused(Refusal::BookPairs);
     }
@@ -104,8 +83,8 @@ pub fn find(book: &[u8], key: u32) -> FindAnswer
                 return FindAnswer::Refused(Refusal::BookKey);
             }
             let pair = 4 + 8 * (key as usize);
-            let offset = number_at(book, pair);
-            let length = number_at(book, pair + 4);
+            let offset = read_u32(book, pair);
+            let length = read_u32(book, pair + 4);
             FindAnswer::Found(Place { offset, length })
         }
         KeysAnswer::Refused(question) => FindAnswer::Refused(question),

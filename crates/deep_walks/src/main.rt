@@ -1,6 +1,6 @@
 // The deepest walks, run to their ends: 65,534 self calls down from the genesis of 65535 and 1, and up from 1, 65535, 4, 0.
 //
-// Each line is what one entry point of `walks` or `listings` answers: the four numbers of a pattern, a count, `nothing`, or `refused`.
+// Each line is what one entry point of `mos_walks` or `mos_listings` answers: the four numbers of a pattern, a count, `nothing`, or `refused`.
 use answer::CountAnswer;
 use libc::STDOUT_FILENO;
 use mos::Mos;
@@ -77,21 +77,21 @@ fn put_last(out: &[u16]) {
 }
 
 fn walk_down(m: Mos, out: &mut [u16]) {
-    put_walked(walks::find_child(m, 65535));
-    put_walked(walks::find_child(m, 65536));
-    put_walked(walks::nth_child(m, 65533));
-    put_walked(walks::nth_child(m, 65534));
-    put_count(listings::children_len(m));
-    put_count(listings::children(m, out));
+    put_walked(mos_walks::find_child(m, 65535));
+    put_walked(mos_walks::find_child(m, 65536));
+    put_walked(mos_walks::nth_child(m, 65533));
+    put_walked(mos_walks::nth_child(m, 65534));
+    put_count(mos_listings::children_len(m));
+    put_count(mos_listings::children(m, out));
     put_last(out);
 }
 
 fn walk_up(m: Mos, out: &mut [u16]) {
-    put_made(walks::genesis(m));
-    put_walked(walks::nth_parent(m, 65534));
-    put_walked(walks::nth_parent(m, 65535));
-    put_count(listings::parents_len(m));
-    put_count(listings::parents(m, out));
+    put_made(mos_walks::genesis(m));
+    put_walked(mos_walks::nth_parent(m, 65534));
+    put_walked(mos_walks::nth_parent(m, 65535));
+    put_count(mos_listings::parents_len(m));
+    put_count(mos_listings::parents(m, out));
 }
 
 fn down(out: &mut [u16]) {

@@ -1,14 +1,18 @@
 -- From the parts to what the calls answer: one law for each way in which a call ends.
 use Prim.Native.Nat.{ℕ, zero, suc, _≤_, _<_}
 use mathlib.Core.Path.{_≡_, refl, sym, ap, _∙_}
-use mathlib.Core.List.{List}
+use mathlib.Core.Bool.{Bool, true, false}
+use mathlib.Core.List.{List, [], _∷_}
+use native.Mathlib.Nat.{le-of-suc-le-suc, not-suc-le-zero}
 use native.Mathlib.Omega.{arith}
-use lib.ListN.{length}
-use Rattle.answer.specs.Outcome.{Outcome, given, refused}
+use lib.Dec.{ltb}
+use lib.ListN.{length, getD}
+use borrow.Author.Tests.{ltb-true, ltb-false}
 use Rattle.answer.specs.Lent.{heldIn}
+use Rattle.answer.specs.Outcome.{Outcome, given, refused}
 use Rattle.answer.proofs.Questions.{ask-none, ask-some, ask-above, ask-below}
 use Rattle.answer.proofs.Lent.{held, not-held}
-use Rattle.genchain.specs.Chains.{chains, chainOf, rowOf, fifth}
+use Rattle.genchain.specs.Chains.{Chain, chains, noChain, chainOf, rowOf, fifth}
 use Rattle.genchain.specs.Answers.{askChain, generatorOutcome, numLettersOutcome, startOutcome, nameLengthOutcome, lettersOutcome, nameOutcome}
 use Rattle.genchain.specs.declared.rows.ChainRow.{ChainRow}
 
@@ -18,6 +22,24 @@ no-chain code rest h = ask-above 1 code 6 rest h
 
 pub some-chain : {A : Type 0} (code : ℕ) (rest : Outcome A) → code < 6 → askChain code rest ≡ rest
 some-chain code rest h = ask-below 1 code 6 rest h
+
+-- what the test of the code tells
+module _ {b : Bool} (code : ℕ) (tested : b ≡ ltb code 6) where
+  pub is-chain : b ≡ true → code < 6
+  is-chain t = ltb-true code 6 (sym tested ∙ t)
+
+  pub is-none : b ≡ false → 6 ≤ code
+  is-none t = ltb-false code 6 (sym tested ∙ t)
+
+-- a code from 6 on has the chain without letters
+past : (l : List Chain) (k : ℕ) → length l ≤ k → getD l k noChain ≡ noChain
+past [] k h = refl
+past (c ∷ l) zero h = absurd (not-suc-le-zero h)
+past (c ∷ l) (suc k) h = past l k (le-of-suc-le-suc h)
+
+pub row-of-none : (code : ℕ) → 6 ≤ code → rowOf noChain ≡ rowOf (chainOf code)
+unfolding chains chainOf
+row-of-none code h = ap rowOf (sym (past chains code h))
 
 -- ---- the generator
 
@@ -86,10 +108,6 @@ module _ (code : ℕ) (h : code < 6) where
   unfolding lettersOutcome
   letters-not-held room k = some-chain code _ h ∙ not-held room (chainOf code .letters) k
 
-  pub name-held : (room : ℕ) → length (chainOf code .name) ≤ room → nameOutcome code room ≡ given (chainOf code .name)
+  pub name-by-chain : (room : ℕ) → nameOutcome code room ≡ heldIn room (chainOf code .name)
   unfolding nameOutcome
-  name-held room k = some-chain code _ h ∙ held room _ k
-
-  pub name-not-held : (room : ℕ) → room < length (chainOf code .name) → nameOutcome code room ≡ refused 10
-  unfolding nameOutcome
-  name-not-held room k = some-chain code _ h ∙ not-held room (chainOf code .name) k
+  name-by-chain room = some-chain code _ h

@@ -1,6 +1,5 @@
 pub mod Tables
 pub mod GoodChains
 pub mod TableRows
-pub mod ChainNames
 pub mod Calls
 pub mod Examples

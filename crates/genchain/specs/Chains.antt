@@ -1,4 +1,5 @@
--- The six chains as data (document 01, "The six chains"): a record for each row of its table, in the order of the codes.
+-- The six chains as data (document 01, "The six chains", and "Step patterns" for the scale names): a record for each row of its
+-- table, in the order of the codes.
 use Prim.Native.Nat.{ℕ, _-_, _*_, _/_, _%_, _<_}
 use mathlib.Core.Path.{_≡_}
 use mathlib.Core.List.{List, [], _∷_, _++_}
@@ -48,56 +49,75 @@ pub record Chain : Type 0 where
   pub start : ℕ
   -- from octave and tritave
   pub generator : ℕ → ℕ → Outcome ℕ
+  -- "Scale names, sharpness above / below 0", in ASCII
+  pub scaleAbove : List ℕ
+  pub scaleBelow : List ℕ
 
 unfoldable pub chains : List Chain
 chains =
-    -- 0, Mavila[9]: β F C G D A E B φ
+    -- 0, Mavila[9]: β F C G D A E B φ; armotonic / balzano
     record {
       name = 77 ∷ 97 ∷ 118 ∷ 105 ∷ 108 ∷ 97 ∷ 91 ∷ 57 ∷ 93 ∷ [];
       letters = 946 ∷ 70 ∷ 67 ∷ 71 ∷ 68 ∷ 65 ∷ 69 ∷ 66 ∷ 966 ∷ [];
       start = 4;
       generator = fifth;
+      scaleAbove = 97 ∷ 114 ∷ 109 ∷ 111 ∷ 116 ∷ 111 ∷ 110 ∷ 105 ∷ 99 ∷ [];
+      scaleBelow = 98 ∷ 97 ∷ 108 ∷ 122 ∷ 97 ∷ 110 ∷ 111 ∷ [];
     }
-    -- 1, Meantone[7]: F C G D A E B
+    -- 1, Meantone[7]: F C G D A E B; diatonic / antidiatonic
     ∷ record {
       name = 77 ∷ 101 ∷ 97 ∷ 110 ∷ 116 ∷ 111 ∷ 110 ∷ 101 ∷ 91 ∷ 55 ∷ 93 ∷ [];
       letters = 70 ∷ 67 ∷ 71 ∷ 68 ∷ 65 ∷ 69 ∷ 66 ∷ [];
       start = 3;
       generator = fifth;
+      scaleAbove = 100 ∷ 105 ∷ 97 ∷ 116 ∷ 111 ∷ 110 ∷ 105 ∷ 99 ∷ [];
+      scaleBelow = 97 ∷ 110 ∷ 116 ∷ 105 ∷ 100 ∷ 105 ∷ 97 ∷ 116 ∷ 111 ∷ 110 ∷ 105 ∷ 99 ∷ [];
     }
-    -- 2, Meantone[5]: C G D A E
+    -- 2, Meantone[5]: C G D A E; antipentic / pentic
     ∷ record {
       name = 77 ∷ 101 ∷ 97 ∷ 110 ∷ 116 ∷ 111 ∷ 110 ∷ 101 ∷ 91 ∷ 53 ∷ 93 ∷ [];
       letters = 67 ∷ 71 ∷ 68 ∷ 65 ∷ 69 ∷ [];
       start = 2;
       generator = fifth;
+      scaleAbove = 97 ∷ 110 ∷ 116 ∷ 105 ∷ 112 ∷ 101 ∷ 110 ∷ 116 ∷ 105 ∷ 99 ∷ [];
+      scaleBelow = 112 ∷ 101 ∷ 110 ∷ 116 ∷ 105 ∷ 99 ∷ [];
     }
-    -- 3, Porcupine[8]: A B C D E F G H
+    -- 3, Porcupine[8]: A B C D E F G H; pine / antipine
     ∷ record {
       name = 80 ∷ 111 ∷ 114 ∷ 99 ∷ 117 ∷ 112 ∷ 105 ∷ 110 ∷ 101 ∷ 91 ∷ 56 ∷ 93 ∷ [];
       letters = 65 ∷ 66 ∷ 67 ∷ 68 ∷ 69 ∷ 70 ∷ 71 ∷ 72 ∷ [];
       start = 3;
       generator = thirdOfFourth;
+      scaleAbove = 112 ∷ 105 ∷ 110 ∷ 101 ∷ [];
+      scaleBelow = 97 ∷ 110 ∷ 116 ∷ 105 ∷ 112 ∷ 105 ∷ 110 ∷ 101 ∷ [];
     }
-    -- 4, Tetracot[7]: A B C D E F G
+    -- 4, Tetracot[7]: A B C D E F G; archeotonic / onyx
     ∷ record {
       name = 84 ∷ 101 ∷ 116 ∷ 114 ∷ 97 ∷ 99 ∷ 111 ∷ 116 ∷ 91 ∷ 55 ∷ 93 ∷ [];
       letters = 65 ∷ 66 ∷ 67 ∷ 68 ∷ 69 ∷ 70 ∷ 71 ∷ [];
       start = 3;
       generator = quarterOfFifth;
+      scaleAbove = 97 ∷ 114 ∷ 99 ∷ 104 ∷ 101 ∷ 111 ∷ 116 ∷ 111 ∷ 110 ∷ 105 ∷ 99 ∷ [];
+      scaleBelow = 111 ∷ 110 ∷ 121 ∷ 120 ∷ [];
     }
-    -- 5, Hanson[7]: C A F D B G E
+    -- 5, Hanson[7]: C A F D B G E; smitonic / mosh
     ∷ record {
       name = 72 ∷ 97 ∷ 110 ∷ 115 ∷ 111 ∷ 110 ∷ 91 ∷ 55 ∷ 93 ∷ [];
       letters = 67 ∷ 65 ∷ 70 ∷ 68 ∷ 66 ∷ 71 ∷ 69 ∷ [];
       start = 3;
       generator = octaveLessSixth;
+      scaleAbove = 115 ∷ 109 ∷ 105 ∷ 116 ∷ 111 ∷ 110 ∷ 105 ∷ 99 ∷ [];
+      scaleBelow = 109 ∷ 111 ∷ 115 ∷ 104 ∷ [];
     }
     ∷ []
 
--- What stands for a code from 6 on: no letters, no name.
+-- "at 0 always equalized"
+abbrev pub equalized : List ℕ
+equalized = 101 ∷ 113 ∷ 117 ∷ 97 ∷ 108 ∷ 105 ∷ 122 ∷ 101 ∷ 100 ∷ []
+
+-- What stands for a code from 6 on: no letters, no names.
 abbrev pub noChain : Chain
-noChain = record { name = []; letters = []; start = 0; generator = fifth }
+noChain = record { name = []; letters = []; start = 0; generator = fifth; scaleAbove = []; scaleBelow = [] }
 
 -- The chain of a code.
 unfoldable pub chainOf : ℕ → Chain

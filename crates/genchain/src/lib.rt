@@ -1,12 +1,11 @@
 // The six chains of letters, after `Genchain` in src/layout.rs of the original.
 //
 // Holds for each chain code from 0 to 5 the letters and the place of key 0's letter (document 01, "The six chains"). The letters
-// stand in one constant table, in `rows`. `generators` has the chains' generators, `chain_names` their names.
+// stand in one constant table, in `rows`. `genchain_generators` has the chains' generators, `genchain_names` their names.
 // specs/: Chains has the six chains as data, Answers says what each call answers, here and in these two crates, Theorems what is
 // proved of the letters.
 // Every entry point answers every input; the modules of parts ask for more, as their heads say. Nothing is assumed.
 pub mod rows;
-pub mod texts;
 
 use answer::CountAnswer;
 use answer::NumberAnswer;
@@ -25,36 +24,36 @@ ghost use Rattle.genchain.specs.Answers.{
 pub fn num_letters(code: u16) -> NumberAnswer
     ensures { λ r. ⌜ numberOutcome r ≡ numLettersOutcome code ⌝ }
 {
-    if 6 <= code {
-        return NumberAnswer::Refused(Refusal::Chain);
+    if rows::is_chain(code) {
+        let row = rows::row(code);
+        return NumberAnswer::Given(row.num_letters);
     }
-    let row = rows::row(code);
-    NumberAnswer::Given(row.num_letters)
+    NumberAnswer::Refused(Refusal::Chain)
 }
 
 // The place of key 0's letter on the chain, counted from 0 (1).
 pub fn start(code: u16) -> NumberAnswer
     ensures { λ r. ⌜ numberOutcome r ≡ startOutcome code ⌝ }
 {
-    if 6 <= code {
-        return NumberAnswer::Refused(Refusal::Chain);
+    if rows::is_chain(code) {
+        let row = rows::row(code);
+        return NumberAnswer::Given(row.start);
     }
-    let row = rows::row(code);
-    NumberAnswer::Given(row.start)
+    NumberAnswer::Refused(Refusal::Chain)
 }
 
 // The chain's letters in order, as code points (1, 10).
 pub fn letters(code: u16, out: &mut [u16]) -> CountAnswer
     ensures { λ r. ⌜ Filled (lettersOutcome code (length (now (out .entry)))) (countOutcome r) (now (out .entry)) (now (out .exit)) ⌝ }
 {
-    if 6 <= code {
-        return CountAnswer::Refused(Refusal::Chain);
+    if rows::is_chain(code) {
+        let row = rows::row(code);
+        let count = row.num_letters as usize;
+        if out.len() < count {
+            return CountAnswer::Refused(Refusal::Room);
+        }
+        rows::put_letters(out, row);
+        return CountAnswer::Given(count);
     }
-    let row = rows::row(code);
-    let count = row.num_letters as usize;
-    if out.len() < count {
-        return CountAnswer::Refused(Refusal::Room);
-    }
-    rows::put_letters(out, row);
-    CountAnswer::Given(count)
+    CountAnswer::Refused(Refusal::Chain)
 }

@@ -1,10 +1,10 @@
-// The table of the chains: parts, and no entry points. Callers have asked question 1, and 10 before they write.
+// The table of the chains: parts, and no entry points. Callers have asked question 10 before they write.
 //
 // The table is made anew at every read, so read a chain's row once for a call, and hand the row on.
 ghost use mathlib.Core.Path.{_≡_};
-ghost use Prim.Native.Nat.{_<_};
+ghost use lib.Dec.{ltb};
 ghost use lib.ListN.{length};
-ghost use Rattle.answer.specs.Writing.{Room, Wrote};
+ghost use Rattle.text.specs.Writing.{Room, Wrote};
 ghost use Rattle.genchain.specs.Chains.{chainOf, rowOf, TableRow, lettersIn};
 
 // A chain's letters as code points, 0 past the last; how many there are; the place of key 0's letter.
@@ -48,12 +48,25 @@ const CHAINS: [ChainRow; 6] = [
     },
 ];
 
-// The row of a chain.
+// Question 1.
+pub fn is_chain(code: u16) -> bool
+    ensures { λ r. ⌜ r ≡ ltb code 6 ⌝ }
+{
+    code < 6
+}
+
+// The row of a chain; one without letters for a code from 6 on.
 pub fn row(code: u16) -> ChainRow
-    requires { ⌜ code < 6 ⌝ }
     ensures { λ r. ⌜ r ≡ rowOf (chainOf code) ⌝ }
 {
-    CHAINS[code as usize]
+    if is_chain(code) {
+        return CHAINS[code as usize];
+    }
+    ChainRow {
+        letters: [0, 0, 0, 0, 0, 0, 0, 0, 0],
+        num_letters: 0,
+        start: 0,
+    }
 }
 
 // The letters of a row at the front of a slice; how many there are.

@@ -9,8 +9,8 @@ use Rattle.answer.specs.Outcome.{Outcome, given, refused}
 use Rattle.answer.specs.Lent.{heldIn, counted, written, Filled}
 use Rattle.answer.proofs.Asked.{given-same}
 use Rattle.answer.proofs.Lent.{held}
-use Rattle.table.specs.Tables.{output}
-use Rattle.table.proofs.Fitting.{tables-fit}
+use Rattle.layout_table.specs.Tables.{output}
+use Rattle.layout_table.proofs.Fitting.{tables-fit}
 
 module _ (line : List ℕ) {xs ys : List ℕ} {a : Outcome ℕ} (room : 403596 ≤ length xs) (f : Filled (heldIn (length xs) (output line)) a xs ys) where
   whole : heldIn (length xs) (output line) ≡ given (output line)

@@ -10,7 +10,7 @@ use Rattle.answer.specs.Outcome.{Outcome, andThen}
 use Rattle.line.specs.declared.Line.{Line}
 use Rattle.line.specs.Lines.{lineFeed, lineOutcome}
 use Rattle.line.proofs.Enough.{later-bytes-ignored}
-use Rattle.table.specs.Tables.{layoutOn, getTable, lineTable, outputOf, output}
+use Rattle.layout_table.specs.Tables.{layoutOn, getTable, lineTable, outputOf, output}
 use Rattle.key_table.specs.Reading.{firstLine, LineIsEnough}
 
 first-feed : (rest : List ℕ) → firstLine (lineFeed ∷ rest) ≡ lineFeed ∷ []

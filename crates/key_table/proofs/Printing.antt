@@ -5,7 +5,7 @@ use mathlib.Core.Path.{_≡_, sym, ap, _∙_}
 use mathlib.Core.List.{List}
 use lib.ListN.{length, take}
 use lib.Seq.{length-take-le}
-use Rattle.table.specs.Tables.{output}
+use Rattle.layout_table.specs.Tables.{output}
 use Rattle.key_table.specs.Reading.{longest, LineRead, Printed}
 use Rattle.key_table.specs.declared.Input.{Input}
 use Rattle.key_table.proofs.OneLine.{line-is-enough}

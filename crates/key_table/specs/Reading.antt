@@ -8,7 +8,7 @@ use mathlib.Core.Path.{_≡_}
 use lib.ListN.{length, getD, take, set}
 use lib.Dec.{eqb, ltb}
 use Rattle.line.specs.Lines.{lineFeed}
-use Rattle.table.specs.Tables.{output}
+use Rattle.layout_table.specs.Tables.{output}
 use Rattle.key_table.specs.declared.Input.{Input}
 
 -- "one line": the bytes up to and with the first line feed, or all where none comes.

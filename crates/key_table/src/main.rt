@@ -1,9 +1,9 @@
 // The key table program: reads a line, and prints the table of the layout that it asks for, or the number of a refusal.
 //
-// What is printed is `output` of the whole line that was read, by `table::respond`; this program reads and writes, and no more. It reads
+// What is printed is `output` of the whole line that was read, by `layout_table::respond`; this program reads and writes, and no more. It reads
 // byte by byte to the line feed, so that whoever reads on finds the bytes after it, and a person at a terminal is answered as soon as
 // the line is typed. It keeps 18 bytes: a longer line is refused whatever follows (`LineIsEnough`). Nothing that can be printed lacks
-// room (`TablesFit` of `table`). specs/Reading states what is read and printed. Which bytes a read hands over, and where written bytes
+// room (`TablesFit` of `layout_table`). specs/Reading states what is read and printed. Which bytes a read hands over, and where written bytes
 // go, rests on the kit's library.
 use answer::CountAnswer;
 use libc::STDERR_FILENO;
@@ -12,7 +12,7 @@ use libc::STDOUT_FILENO;
 ghost use mathlib.Core.Path.{_≡_};
 ghost use Prim.Native.Nat.{_≤_, _<_, min};
 ghost use lib.ListN.{length, take};
-ghost use Rattle.table.specs.Tables.{output};
+ghost use Rattle.layout_table.specs.Tables.{output};
 ghost use Rattle.key_table.specs.Reading.{after, longest, keptIn, LineRead, Printed};
 
 // Where reading stands: how many bytes were handed over, the last of them (0 before the first), and whether the last read had none.
@@ -89,7 +89,7 @@ fn answered(line: &[u8], out: &mut [u8]) -> usize
     requires { ⌜ 403596 ≤ length (now out) ⌝ }
     ensures { λ r. ⌜ (take r (now (out .exit)) ≡ output (now (line .entry))) × (r ≤ length (now (out .exit))) ⌝ }
 {
-    match table::respond(line, out) {
+    match layout_table::respond(line, out) {
         CountAnswer::Given(bytes) => bytes,
         CountAnswer::Refused(_) => 0,
     }

@@ -1,23 +1,22 @@
 -- What it takes for a layout to be accepted, and what the search for it answers: by cases on the generator's outcome.
-use Prim.Native.Nat.{ℕ, zero, suc, _<_, _≤_}
-use mathlib.Core.Path.{_≡_, refl, sym, ap, _∙_}
+use Prim.Native.Nat.{ℕ, _-_, _%_, _<_}
+use mathlib.Core.Path.{_≡_, refl, ap, ap₂, _∙_, subst}
 use mathlib.Core.Option.{Option, none, some}
-use mathlib.Core.List.{List}
-use mathlib.Core.Bool.{Bool, true, false}
-use native.Mathlib.Nat.{mod-le, pos-of-ne-zero}
 use native.Mathlib.Omega.{arith}
 use lib.Dec.{ltb, leb}
 use borrow.Author.Tests.{ltb-true, leb-true}
 use Rattle.answer.specs.Outcome.{Outcome, given, refused, andThen}
 use Rattle.answer.proofs.Asked.{given-same, asked-yes, asked-rest}
 use Rattle.genchain.specs.declared.rows.ChainRow.{ChainRow}
-use Rattle.genchain.specs.Chains.{chainOf, rowOf, TableRow}
-use Rattle.genchain.proofs.TableRows.{row-good, row-count, row-start}
+use Rattle.genchain.specs.Chains.{chainOf, rowOf}
 use Rattle.genchain.specs.Answers.{generatorOutcome}
+use Rattle.genchain.proofs.GoodChains.{chains-are-good}
 use Rattle.mos.specs.declared.Mos.{Mos}
-use Rattle.mos.specs.Patterns.{genesis}
+use Rattle.mos.specs.Patterns.{mos, genesis}
 use Rattle.mos.specs.Walks.{children, firstWith}
 use Rattle.layout.specs.Layouts.{Layout, lettersOf, withPattern, layoutOutcome, Accepted}
+use Rattle.layout.specs.Parts.{Laid}
+use Rattle.layout.specs.declared.IsomorphicLayout.{IsomorphicLayout}
 
 -- ---- what a given generator tells
 
@@ -35,57 +34,96 @@ generated code octave tritave G e =
 
 -- ---- what the search answers
 
-module _ (code octave tritave : ℕ) where
-  pub find-refused : (n : ℕ) → refused n ≡ generatorOutcome code octave tritave → refused n ≡ layoutOutcome code octave tritave
-  unfolding layoutOutcome
-  find-refused n e =
-      ap (λ (o : Outcome ℕ). andThen o (λ (G : ℕ). withPattern G (firstWith (lettersOf code) (children (genesis octave G))))) e
+abbrev pub generatorOf : IsomorphicLayout → Outcome ℕ
+generatorOf r = generatorOutcome (r .genchain) (r .octave) (r .tritave)
 
-  pub find-given : (G n : ℕ) (x : Outcome Layout) → given G ≡ generatorOutcome code octave tritave → n ≡ lettersOf code
-      → x ≡ withPattern G (firstWith n (children (genesis octave G))) → x ≡ layoutOutcome code octave tritave
+abbrev pub walked : IsomorphicLayout → ℕ → Option Mos
+walked r G = firstWith (lettersOf (r .genchain)) (children (genesis (r .octave) G))
+
+module _ (r : IsomorphicLayout) where
+  pub find-refused : (n : ℕ) → refused n ≡ generatorOf r → refused n ≡ layoutOutcome r
   unfolding layoutOutcome
-  find-given G n x e q p =
-      p
-      ∙ ap (λ (k : ℕ). withPattern G (firstWith k (children (genesis octave G)))) q
-      ∙ ap (λ (o : Outcome ℕ). andThen o (λ (H : ℕ). withPattern H (firstWith (lettersOf code) (children (genesis octave H))))) e
+  find-refused n e = ap (λ (o : Outcome ℕ). andThen o (λ (G : ℕ). withPattern r G (walked r G))) e
+
+  pub find-given : (G : ℕ) (x : Outcome Layout) → given G ≡ generatorOf r → x ≡ withPattern r G (walked r G) → x ≡ layoutOutcome r
+  unfolding layoutOutcome
+  find-given G x e p = p ∙ ap (λ (o : Outcome ℕ). andThen o (λ (H : ℕ). withPattern r H (walked r H))) e
+
+  -- with the numbers of the chain's row, and the walk from the generator within the octave
+  module _ (row : ChainRow) (is : row ≡ rowOf (chainOf (r .genchain))) (G step : ℕ) (within : step ≡ G % r .octave) where
+    abbrev walkedFrom : Option Mos
+    walkedFrom = firstWith (row .«num_letters») (children (mos 1 1 step (r .octave - step)))
+
+    abbrev madeOf : Mos → ChainRow → Layout
+    madeOf m w =
+        record { chain = r .genchain; octave = r .octave; generator = G; letters = w .«num_letters»; start = w .start; pattern = m }
+
+    same-walk : walkedFrom ≡ walked r G
+    unfolding rowOf
+    same-walk =
+        ap₂ (λ (w : ChainRow) (s : ℕ). firstWith (w .«num_letters») (children (mos 1 1 s (r .octave - s)))) is within
+
+    pub walk-met : (m : Mos) → some m ≡ walkedFrom → given (madeOf m row) ≡ withPattern r G (walked r G)
+    unfolding rowOf
+    walk-met m e = ap (λ (w : ChainRow). given (madeOf m w)) is ∙ ap (withPattern r G) (e ∙ same-walk)
+
+    pub walk-without : none ≡ walkedFrom → refused 4 ≡ withPattern r G (walked r G)
+    walk-without e = ap (withPattern r G) (e ∙ same-walk)
 
 -- ---- what an accepted layout is
 
-pub record Parts (code octave tritave : ℕ) (l : Layout) : Type 0 where
-  pub chain : code < 6
-  pub positive : 0 < octave
-  pub generator : generatorOutcome code octave tritave ≡ given (l .generator)
-  pub pattern : firstWith (lettersOf code) (children (genesis octave (l .generator))) ≡ some (l .pattern)
+pub record Parts (l : Layout) : Type 0 where
+  pub chain : l .chain < 6
+  pub positive : 0 < l .octave
+  pub letters-are : l .letters ≡ lettersOf (l .chain)
+  pub start-below : l .start < l .letters
+  pub pattern : firstWith (l .letters) (children (genesis (l .octave) (l .generator))) ≡ some (l .pattern)
 
-pub accepted : (code octave tritave : ℕ) (l : Layout) → Accepted code octave tritave l → Parts code octave tritave l
+-- the layout that the questions make of a record, with this generator and this pattern
+abbrev layoutWith : IsomorphicLayout → ℕ → Mos → Layout
+layoutWith r G m =
+    record {
+      chain = r .genchain;
+      octave = r .octave;
+      generator = G;
+      letters = lettersOf (r .genchain);
+      start = chainOf (r .genchain) .start;
+      pattern = m;
+    }
+
+-- what holds of all of these holds of the accepted one
+made : (r : IsomorphicLayout) (l : Layout) (Q : Layout → Type 0)
+    → ((G : ℕ) (m : Mos) → generatorOf r ≡ given G → walked r G ≡ some m → Q (layoutWith r G m)) → Accepted r l → Q l
 unfolding layoutOutcome
-accepted code octave tritave l e = by (generatorOutcome code octave tritave) refl e
+made r l Q f e = by (generatorOf r) refl e
   where
-    walked : ℕ → Option Mos
-    walked G = firstWith (lettersOf code) (children (genesis octave G))
-
-    of : (G : ℕ) (o : Option Mos) → generatorOutcome code octave tritave ≡ given G → walked G ≡ o → withPattern G o ≡ given l → Parts code octave tritave l
+    of : (G : ℕ) (o : Option Mos) → generatorOf r ≡ given G → walked r G ≡ o → withPattern r G o ≡ given l → Q l
     of G none g w q = absurd (let z : _≡_ {A = ℕ} 0 1 = cc in omega arith)
-    of G (some m) g w q =
-        let is : _≡_ {A = Layout} (record { generator = G; pattern = m }) l = given-same q in
-        let r = generated code octave tritave G g in
-        record {
-          chain = r .chain;
-          positive = r .positive;
-          generator = g ∙ ap (λ (x : Layout). given (x .generator)) is;
-          pattern = ap walked (sym (ap (λ (x : Layout). x .generator) is)) ∙ w ∙ ap (λ (x : Layout). some (x .pattern)) is;
-        }
+    of G (some m) g w q = subst Q (given-same q) (f G m g w)
 
-    by : (o : Outcome ℕ) → generatorOutcome code octave tritave ≡ o
-        → andThen o (λ (G : ℕ). withPattern G (walked G)) ≡ given l → Parts code octave tritave l
-    by (given G) g q = of G (walked G) g refl q
+    by : (o : Outcome ℕ) → generatorOf r ≡ o → andThen o (λ (G : ℕ). withPattern r G (walked r G)) ≡ given l → Q l
+    by (given G) g q = of G (walked r G) g refl q
     by (refused n) g q = absurd (let z : _≡_ {A = ℕ} 0 1 = cc in omega arith)
 
--- ---- what a row of the table tells
+pub accepted : (r : IsomorphicLayout) (l : Layout) → Accepted r l → Parts l
+accepted r l =
+    made r l Parts
+    (λ G m g w.
+    let asked = generated (r .genchain) (r .octave) (r .tritave) G g in
+    record {
+      chain = asked .chain;
+      positive = asked .positive;
+      letters-are = refl;
+      start-below = chains-are-good (r .genchain) (asked .chain) .start-below;
+      pattern = w;
+    })
 
-pub count-found : (code : ℕ) (row : ChainRow) → row ≡ rowOf (chainOf code) → row .«num_letters» ≡ lettersOf code
-unfolding rowOf
-count-found code row e = ap (λ (r : ChainRow). r .«num_letters») e
+pub laid : (l : Layout) → Laid l → Parts l
+laid l h = accepted (h .caller) l (h .accepted)
 
-pub start-below : (row : ChainRow) → TableRow row → row .start < row .«num_letters»
-start-below row t = omega (arith, row-count row t, row-start row t, row-good row t .start-below)
+-- what it has of its caller's record
+pub chain-is : (r : IsomorphicLayout) (l : Layout) → Accepted r l → l .chain ≡ r .genchain
+chain-is r l = made r l (λ (k : Layout). k .chain ≡ r .genchain) (λ G m g w. refl)
+
+pub octave-is : (r : IsomorphicLayout) (l : Layout) → Accepted r l → l .octave ≡ r .octave
+octave-is r l = made r l (λ (k : Layout). k .octave ≡ r .octave) (λ G m g w. refl)

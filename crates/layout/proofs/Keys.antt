@@ -1,8 +1,8 @@
 -- An accepted layout has at least as many keys in a cycle as letters: its pattern's N steps, each at least n, fill the octave.
-use Prim.Native.Nat.{ℕ, zero, suc, _+_, _*_, _-_, _/_, _%_, _<_, _≤_, _∣_}
+use Prim.Native.Nat.{ℕ, zero, suc, _+_, _*_, _-_, _%_, _<_, _≤_, _∣_}
 use mathlib.Core.Path.{_≡_, refl, sym, ap, _∙_, subst}
 use mathlib.Core.Logic.{_⊎_, inl, inr, ⊎-elim}
-use mathlib.Core.Option.{Option, none, some}
+use mathlib.Core.Option.{some}
 use mathlib.Core.List.{List, [], _∷_}
 use mathlib.Core.Bool.{Bool, true, false}
 use native.Mathlib.Nat.{mod-lt, dvd-mod-iff, dvd-sub, dvd-add, dvd-antisymm, le-div-iff-mul-le, le-refl}
@@ -13,13 +13,13 @@ use borrow.Author.Tests.{eqb-true}
 use Rattle.math.specs.Gcd.{gcd}
 use Rattle.math.proofs.Gcd.{gcd-is}
 use Rattle.mos.specs.declared.Mos.{Mos}
-use Rattle.mos.specs.Patterns.{primary, secondary, countOf, sizeOf, genesis, childOf}
+use Rattle.mos.specs.Patterns.{primary, secondary, countOf, sizeOf, genesis}
 use Rattle.mos.specs.Walks.{children, firstWith}
 use Rattle.mos.proofs.Descent.{child-at, child-steps, child-keeps-size}
 use Rattle.mos.proofs.Theorems.{walk-keeps, child-keeps, letters-fit, genesis-size}
 use Rattle.pergen.specs.Pergen.{cycles, reduced}
 use Rattle.pergen.proofs.Inverse.{cycles-positive}
-use Rattle.layout.specs.Layouts.{Layout, lettersOf}
+use Rattle.layout.specs.Layouts.{Layout, reducedIn}
 use Rattle.layout.proofs.Finding.{Parts}
 
 -- the first pattern with n steps stands somewhere on the walk and has n steps
@@ -65,17 +65,18 @@ genesis-divisor P G h =
     (y .greatest _ whole (dvd-mod-iff _ whole .0 (x .left)))
     (x .greatest _ rest (dvd-sub _ (y .left) rest))
 
-pub enough : (code P tritave : ℕ) (l : Layout) → Parts code P tritave l → 2 < lettersOf code → lettersOf code ≤ reduced P (l .generator)
+pub enough : (l : Layout) → Parts l → 2 < l .letters → l .letters ≤ reducedIn l
 unfolding reduced cycles
-enough code P tritave l a h =
+enough l a h =
+    let P = l .octave in
     let G = l .generator in
     let m = l .pattern in
-    let at = first-at (lettersOf code) (children (genesis P G)) m (a .pattern) in
+    let at = first-at (l .letters) (children (genesis P G)) m (a .pattern) in
     let more : 2 < countOf m = subst (λ (n : ℕ). 2 < n) (sym (at .2)) h in
     let above = steps-above P G (at .0) m (at .1) more in
     let fits : countOf m * gcd (primary m) (secondary m) ≤ sizeOf m = letters-fit .size m (above .0) (above .1) in
     let divisor : gcd (primary m) (secondary m) ≡ gcd P G = walk-divisor P G (at .0) m (at .1) ∙ genesis-divisor P G (a .positive) in
-    let all : lettersOf code * gcd P G ≤ P
+    let all : l .letters * gcd P G ≤ P
     = subst (λ (n : ℕ). n * gcd P G ≤ P) (at .2)
     (subst (λ (d : ℕ). countOf m * d ≤ P) divisor
     (subst (λ (s : ℕ). countOf m * gcd (primary m) (secondary m) ≤ s) (walk-size P G (at .0) m (a .positive) (at .1)) fits)) in

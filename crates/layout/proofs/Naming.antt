@@ -6,11 +6,9 @@ use mathlib.Core.List.{List, [], _∷_, List·Memᴰ, List·Memᴰ·not-nil}
 use native.Mathlib.Omega.{arith}
 use lib.IntN.{ℤ, pos}
 use lib.ListN.{length}
-use Rattle.answer.specs.Outcome.{Outcome, given, andThen}
+use Rattle.answer.specs.Outcome.{given}
 use Rattle.answer.proofs.Asked.{given-same}
 use Rattle.genchain.specs.Chains.{chainOf}
-use Rattle.genchain.specs.Theorems.{GoodChain}
-use Rattle.genchain.proofs.GoodChains.{chains-are-good}
 use Rattle.math.specs.Division.{Apart}
 use Rattle.math.proofs.Division.{apart→remainder, remainder→apart}
 use Rattle.notes.specs.Names.{printed, firstPrinted, nameText}
@@ -21,93 +19,82 @@ use Rattle.notes.proofs.OneSpelling.{equal-names-have-one-first-spelling}
 use Rattle.pergen.specs.declared.Cycle.{Cycle}
 use Rattle.pergen.specs.declared.Accidentals.{Accidentals}
 use Rattle.pergen.specs.declared.Spelling.{Spelling}
-use Rattle.pergen.specs.Pergen.{cycles, reduced, degree, cycle, cycleOf}
+use Rattle.pergen.specs.Pergen.{degree, cycle, cycleOf}
 use Rattle.pergen.specs.Spelling.{accidentalsOf, keyAccidentals, place, sounds, soundedKey, starsOf, sharpSpelling, flatSpelling}
 use Rattle.pergen.proofs.Keys.{spellings-of-one-key, degree-and-cycle-tell-keys-apart, cycle-below}
 use Rattle.pergen.proofs.DegreePlaces.{accidentals-sound-their-key, cycle-kept, stars-are}
-use Rattle.layout.specs.Layouts.{Layout, Accepted, lettersOf, accidentalsIn, sharpFirst}
-use Rattle.layout.specs.Names.{placeIn, keyOf, printedIn, cycleIn, textIn, nameIn, noteName}
+use Rattle.layout.specs.Layouts.{Layout, cyclesIn, reducedIn, accidentalsIn, sharpFirst}
+use Rattle.layout.specs.Names.{placeIn, keyOf, printedIn, cycleIn, textIn, nameIn}
+use Rattle.layout.specs.Answers.{getNoteName}
 use Rattle.layout.specs.Theorems.{SpellingsSoundOneKey, SoundsKey, NamesSoundTheirKey, NamesTellKeysApart, EnoughKeys}
 use Rattle.layout.proofs.Finding.{Parts, accepted}
-use Rattle.layout.proofs.Keys.{enough}
-
-good-chain : (code P tritave : ℕ) (l : Layout) → Parts code P tritave l → GoodChain (chainOf code)
-good-chain code P tritave l a = chains-are-good code (a .chain)
+use Rattle.layout.proofs.PatternShape.{pattern-shape}
+use Rattle.layout.proofs.Calls.{name-given}
 
 pub enough-keys : EnoughKeys
-enough-keys code P tritave l e =
-    let a = accepted code P tritave l e in
-    enough code P tritave l a (omega (arith, good-chain code P tritave l a .at-least-five))
+enough-keys r l e = pattern-shape l (accepted r l e) .enough-keys
 
 pub spellings-sound-one-key : SpellingsSoundOneKey
 unfolding keyOf
-spellings-sound-one-key code P tritave l e x y hx hy =
-    spellings-of-one-key P (l .generator) (accepted code P tritave l e .positive)
-    (placeIn code x) (placeIn code y) (x .stars) (y .stars) (hx .stars) (hy .stars)
+spellings-sound-one-key r l e x y hx hy =
+    spellings-of-one-key (l .octave) (l .generator) (accepted r l e .positive)
+    (placeIn l x) (placeIn l y) (x .stars) (y .stars) (hx .stars) (hy .stars)
 
 -- ---- the spellings in a name
 
-module _ (code P tritave : ℕ) (l : Layout) (a : Parts code P tritave l) (i : ℕ) where
-  start-below : chainOf code .start < lettersOf code
-  start-below = good-chain code P tritave l a .start-below
-
-  stars-below : (s : ℕ) → s ≡ cycle P (l .generator) i → s < cycles P (l .generator)
-  stars-below s e = subst (λ (n : ℕ). n < cycles P (l .generator)) (sym e) (cycle-below P (l .generator) (a .positive) i)
+module _ (l : Layout) (a : Parts l) (i : ℕ) where
+  stars-below : (s : ℕ) → s ≡ cycle (l .octave) (l .generator) i → s < cyclesIn l
+  stars-below s e = subst (λ (n : ℕ). n < cyclesIn l) (sym e) (cycle-below (l .octave) (l .generator) (a .positive) i)
 
   -- the cycle that the accidentals hold is the key's
-  cycle-is : (accidentalsIn code P l i) .cycle ≡ cycleIn P l i
+  cycle-is : (accidentalsIn l i) .cycle ≡ cycleIn l i
   unfolding accidentalsIn keyAccidentals
-  cycle-is = cycle-kept (reduced P (l .generator)) (lettersOf code) (chainOf code .start) (degree P (l .generator) i) (cycleIn P l i)
+  cycle-is = cycle-kept (reducedIn l) (l .letters) (l .start) (degree (l .octave) (l .generator) i) (cycleIn l i)
 
   -- both spellings of the key: letters of the chain, its stars, and they sound it
-  sharp-sound : SoundsKey code P l i (sharpSpelling (accidentalsIn code P l i))
+  sharp-sound : SoundsKey l i (sharpSpelling (accidentalsIn l i))
   unfolding keyOf accidentalsIn sharpSpelling
   sharp-sound =
-      let t = accidentals-sound-their-key P (l .generator) (lettersOf code) (chainOf code .start) i (a .positive) start-below in
+      let t = accidentals-sound-their-key (l .octave) (l .generator) (l .letters) (l .start) i (a .positive) (a .start-below) in
       record {
         spelling =
             record {
               letter = t .2 .0;
-              stars = stars-below _ (stars-are P (l .generator) (lettersOf code) (chainOf code .start) i (a .positive) start-below);
+              stars = stars-below _ (stars-are (l .octave) (l .generator) (l .letters) (l .start) i (a .positive) (a .start-below));
             };
         stars = ap starsOf cycle-is;
         sounds = t .1 .0;
       }
 
-  flat-sound : SoundsKey code P l i (flatSpelling (accidentalsIn code P l i))
+  flat-sound : SoundsKey l i (flatSpelling (accidentalsIn l i))
   unfolding keyOf accidentalsIn flatSpelling
   flat-sound =
-      let t = accidentals-sound-their-key P (l .generator) (lettersOf code) (chainOf code .start) i (a .positive) start-below in
+      let t = accidentals-sound-their-key (l .octave) (l .generator) (l .letters) (l .start) i (a .positive) (a .start-below) in
       record {
         spelling =
             record {
               letter = t .2 .1;
-              stars = stars-below _ (stars-are P (l .generator) (lettersOf code) (chainOf code .start) i (a .positive) start-below);
+              stars = stars-below _ (stars-are (l .octave) (l .generator) (l .letters) (l .start) i (a .positive) (a .start-below));
             };
         stars = ap starsOf cycle-is;
         sounds = t .1 .1;
       }
 
-  printed-sound : (x : Spelling) → List·Memᴰ x (printed (sharpFirst l) (accidentalsIn code P l i)) → SoundsKey code P l i x
-  printed-sound x m = by (spellings-in-a-name-are-the-keys (sharpFirst l) (accidentalsIn code P l i) .each x m)
+  printed-sound : (x : Spelling) → List·Memᴰ x (printed (sharpFirst l) (accidentalsIn l i)) → SoundsKey l i x
+  printed-sound x m = by (spellings-in-a-name-are-the-keys (sharpFirst l) (accidentalsIn l i) .each x m)
     where
-      by : (x ≡ sharpSpelling (accidentalsIn code P l i)) ⊎ (x ≡ flatSpelling (accidentalsIn code P l i)) → SoundsKey code P l i x
-      by (inl e) = subst (SoundsKey code P l i) (sym e) sharp-sound
-      by (inr e) = subst (SoundsKey code P l i) (sym e) flat-sound
+      by : (x ≡ sharpSpelling (accidentalsIn l i)) ⊎ (x ≡ flatSpelling (accidentalsIn l i)) → SoundsKey l i x
+      by (inl e) = subst (SoundsKey l i) (sym e) sharp-sound
+      by (inr e) = subst (SoundsKey l i) (sym e) flat-sound
 
-  first-sound : SoundsKey code P l i (firstPrinted (sharpFirst l) (accidentalsIn code P l i))
-  first-sound = printed-sound _ (spellings-in-a-name-are-the-keys (sharpFirst l) (accidentalsIn code P l i) .some)
+  first-sound : SoundsKey l i (firstPrinted (sharpFirst l) (accidentalsIn l i))
+  first-sound = printed-sound _ (spellings-in-a-name-are-the-keys (sharpFirst l) (accidentalsIn l i) .some)
 
-  lettered : Lettered code (accidentalsIn code P l i)
+  lettered : Lettered (l .chain) (accidentalsIn l i)
   unfolding accidentalsIn
   lettered =
-      let t = accidentals-sound-their-key P (l .generator) (lettersOf code) (chainOf code .start) i (a .positive) start-below in
-      record { sharp = t .2 .0; flat = t .2 .1 }
-
-  -- the name, as the call's outcome
-  name-given : Accepted code P tritave l → noteName code P tritave i ≡ given (nameIn code P l i)
-  unfolding noteName
-  name-given e = ap (λ (o : Outcome Layout). andThen o (λ (k : Layout). given (nameIn code P k i))) e
+      let t = accidentals-sound-their-key (l .octave) (l .generator) (l .letters) (l .start) i (a .positive) (a .start-below) in
+      record { sharp = omega (arith, a .letters-are, t .2 .0); flat = omega (arith, a .letters-are, t .2 .1) }
 
 -- what has a member is not empty
 not-empty : {x : Spelling} (xs : List Spelling) → List·Memᴰ x xs → 0 < length xs
@@ -116,55 +103,52 @@ not-empty (y ∷ ys) m = omega arith
 
 pub names-sound-their-key : NamesSoundTheirKey
 unfolding printedIn nameIn nameText
-names-sound-their-key code P tritave l e i =
-    let a = accepted code P tritave l e in
-    let x = accidentalsIn code P l i in
+names-sound-their-key r l e i =
+    let a = accepted r l e in
+    let x = accidentalsIn l i in
     record {
       bytes =
-          name-given code P tritave l a i e
-          ∙ ap (λ (c : Cycle). given (textIn code l c (printed (sharpFirst l) x))) (cycle-is code P tritave l a i);
+          sym (name-given r l (sym e) i)
+          ∙ ap (λ (c : Cycle). given (textIn l c (printed (sharpFirst l) x))) (cycle-is l a i);
       some = not-empty _ (spellings-in-a-name-are-the-keys (sharpFirst l) x .some);
-      each = printed-sound code P tritave l a i;
+      each = printed-sound l a i;
     }
 
 -- ---- names tell keys apart
 
 -- one place and as many stars: one key
-same-sound : (code P : ℕ) (l : Layout) (x y : Spelling) → SameSpelling x y → keyOf code P l x ≡ keyOf code P l y
+same-sound : (l : Layout) (x y : Spelling) → SameSpelling x y → keyOf l x ≡ keyOf l y
 unfolding keyOf soundedKey
-same-sound code P l x y s =
-    ap₂ (λ (p : ℤ) (k : ℕ). sounds P (l .generator) p k) (s .place (lettersOf code) (chainOf code .start)) (s .stars)
+same-sound l x y s =
+    ap₂ (λ (p : ℤ) (k : ℕ). sounds (l .octave) (l .generator) p k) (s .place (l .letters) (l .start)) (s .stars)
 
-same-accidentals : (code P tritave : ℕ) (l : Layout) → Parts code P tritave l → (i j : ℕ) → i % P ≡ j % P → accidentalsIn code P l i ≡ accidentalsIn code P l j
+same-accidentals : (l : Layout) → Parts l → (i j : ℕ) → i % l .octave ≡ j % l .octave → accidentalsIn l i ≡ accidentalsIn l j
 unfolding accidentalsIn keyAccidentals cycleOf
-same-accidentals code P tritave l a i j e =
-    let h = degree-and-cycle-tell-keys-apart P (l .generator) (a .positive) i j .0 e in
-    ap₂ (λ (d : ℕ) (c : Cycle). accidentalsOf (reduced P (l .generator)) (lettersOf code) (chainOf code .start) d c)
-    (h .0) (same-cycle (h .1))
+same-accidentals l a i j e =
+    let h = degree-and-cycle-tell-keys-apart (l .octave) (l .generator) (a .positive) i j .0 e in
+    ap₂ (λ (d : ℕ) (c : Cycle). accidentalsOf (reducedIn l) (l .letters) (l .start) d c) (h .0) (same-cycle (h .1))
   where
-    same-cycle : cycle P (l .generator) i ≡ cycle P (l .generator) j → cycleOf P (l .generator) i ≡ cycleOf P (l .generator) j
+    same-cycle : cycle (l .octave) (l .generator) i ≡ cycle (l .octave) (l .generator) j → cycleIn l i ≡ cycleIn l j
     same-cycle q = rw q
 
 pub names-tell-keys-apart : NamesTellKeysApart
 unfolding nameIn chainName
-names-tell-keys-apart code P tritave l e i j = (there, back)
+names-tell-keys-apart r l e i j = (there, back)
   where
-    a : Parts code P tritave l
-    a = accepted code P tritave l e
+    a : Parts l
+    a = accepted r l e
 
-    there : noteName code P tritave i ≡ noteName code P tritave j → Apart P (pos i) (pos j)
+    there : getNoteName r i ≡ getNoteName r j → Apart (l .octave) (pos i) (pos j)
     there q =
-        let names = given-same (sym (name-given code P tritave l a i e) ∙ q ∙ name-given code P tritave l a j e) in
-        let same = equal-names-have-one-first-spelling code (a .chain) (sharpFirst l) (accidentalsIn code P l i) (accidentalsIn code P l j)
-        (lettered code P tritave l a i) (lettered code P tritave l a j) names in
-        remainder→apart P (a .positive) (pos i) (pos j)
-        (sym (first-sound code P tritave l a i .sounds)
-        ∙ same-sound code P l _ _ same
-        ∙ first-sound code P tritave l a j .sounds)
+        let names = given-same (name-given r l (sym e) i ∙ q ∙ sym (name-given r l (sym e) j)) in
+        let same = equal-names-have-one-first-spelling (l .chain) (a .chain) (sharpFirst l) (accidentalsIn l i) (accidentalsIn l j)
+        (lettered l a i) (lettered l a j) names in
+        remainder→apart (l .octave) (a .positive) (pos i) (pos j)
+        (sym (first-sound l a i .sounds) ∙ same-sound l _ _ same ∙ first-sound l a j .sounds)
 
-    back : Apart P (pos i) (pos j) → noteName code P tritave i ≡ noteName code P tritave j
+    back : Apart (l .octave) (pos i) (pos j) → getNoteName r i ≡ getNoteName r j
     back q =
-        name-given code P tritave l a i e
-        ∙ ap (λ (x : Accidentals). given (nameText (chainOf code .letters) (sharpFirst l) x))
-        (same-accidentals code P tritave l a i j (apart→remainder P (a .positive) (pos i) (pos j) q))
-        ∙ sym (name-given code P tritave l a j e)
+        sym (name-given r l (sym e) i)
+        ∙ ap (λ (x : Accidentals). given (nameText (chainOf (l .chain) .letters) (sharpFirst l) x))
+        (same-accidentals l a i j (apart→remainder (l .octave) (a .positive) (pos i) (pos j) q))
+        ∙ name-given r l (sym e) j

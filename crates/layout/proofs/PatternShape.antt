@@ -1,37 +1,38 @@
 -- What is known of an accepted layout's pattern: its N steps are above 0 and fill the octave, and their divisor is the number of cycles.
 use Prim.Native.Nat.{ℕ, _/_, _<_, _≤_}
-use mathlib.Core.Path.{_≡_, refl, sym, ap, ap₂, _∙_, subst}
+use mathlib.Core.Path.{_≡_, sym, ap₂, _∙_, subst}
 use native.Mathlib.Omega.{arith}
 use Rattle.math.proofs.Gcd.{gcd-positive, gcd-or-one}
-use Rattle.genchain.specs.Chains.{chainOf}
 use Rattle.genchain.proofs.GoodChains.{chains-are-good}
 use Rattle.mos.specs.Patterns.{primary, secondary, countOf, sizeOf, genesis, cyclesOf, reducedSizeOf}
 use Rattle.mos.specs.Walks.{children}
 use Rattle.pergen.specs.Pergen.{cycles, reduced}
-use Rattle.layout.specs.Layouts.{Layout, lettersOf}
+use Rattle.layout.specs.Layouts.{Layout, cyclesIn, reducedIn}
 use Rattle.layout.proofs.Finding.{Parts}
 use Rattle.layout.proofs.Keys.{first-at, steps-above, walk-size, walk-divisor, genesis-divisor, enough}
 
-pub record PatternShape (code P : ℕ) (l : Layout) : Type 0 where
-  pub letters : countOf (l .pattern) ≡ lettersOf code
+pub record PatternShape (l : Layout) : Type 0 where
+  pub letters : countOf (l .pattern) ≡ l .letters
   pub primary-above : 0 < primary (l .pattern)
   pub secondary-above : 0 < secondary (l .pattern)
-  pub size : sizeOf (l .pattern) ≡ P
-  pub cycles-are : cyclesOf (l .pattern) ≡ cycles P (l .generator)
-  pub reduced-is : reducedSizeOf (l .pattern) ≡ reduced P (l .generator)
-  pub at-least-five : 5 ≤ lettersOf code
-  pub at-most-nine : lettersOf code ≤ 9
-  pub start-below : chainOf code .start < lettersOf code
-  pub enough-keys : lettersOf code ≤ reduced P (l .generator)
+  pub size : sizeOf (l .pattern) ≡ l .octave
+  pub cycles-are : cyclesOf (l .pattern) ≡ cyclesIn l
+  pub reduced-is : reducedSizeOf (l .pattern) ≡ reducedIn l
+  pub at-least-five : 5 ≤ l .letters
+  pub at-most-nine : l .letters ≤ 9
+  pub start-below : l .start < l .letters
+  pub enough-keys : l .letters ≤ reducedIn l
 
-pub pattern-shape : (code P tritave : ℕ) (l : Layout) → Parts code P tritave l → PatternShape code P l
+pub pattern-shape : (l : Layout) → Parts l → PatternShape l
 unfolding cycles reduced cyclesOf reducedSizeOf
-pattern-shape code P tritave l a =
+pattern-shape l a =
+    let P = l .octave in
     let G = l .generator in
     let m = l .pattern in
-    let good = chains-are-good code (a .chain) in
-    let at = first-at (lettersOf code) (children (genesis P G)) m (a .pattern) in
-    let more : 2 < lettersOf code = omega (arith, good .at-least-five) in
+    let good = chains-are-good (l .chain) (a .chain) in
+    let at = first-at (l .letters) (children (genesis P G)) m (a .pattern) in
+    let five : 5 ≤ l .letters = omega (arith, a .letters-are, good .at-least-five) in
+    let more : 2 < l .letters = omega arith in
     let above = steps-above P G (at .0) m (at .1) (subst (λ (n : ℕ). 2 < n) (sym (at .2)) more) in
     let whole = walk-size P G (at .0) m (a .positive) (at .1) in
     let divisor = gcd-or-one (primary m) (secondary m) (gcd-positive (primary m) (secondary m) (above .0))
@@ -44,8 +45,8 @@ pattern-shape code P tritave l a =
       size = whole;
       cycles-are = divisor;
       reduced-is = ap₂ (λ (x y : ℕ). x / y) whole divisor;
-      at-least-five = good .at-least-five;
-      at-most-nine = good .at-most-nine;
-      start-below = good .start-below;
-      enough-keys = enough code P tritave l a more;
+      at-least-five = five;
+      at-most-nine = omega (arith, a .letters-are, good .at-most-nine);
+      start-below = a .start-below;
+      enough-keys = enough l a more;
     }

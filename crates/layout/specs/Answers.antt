@@ -10,30 +10,28 @@ use Rattle.pergen.specs.declared.PerGen.{PerGen}
 use Rattle.pergen.specs.declared.Accidentals.{Accidentals}
 use Rattle.pergen.specs.declared.Spelling.{Spelling}
 use Rattle.pergen.specs.Pergen.{cycles}
-use Rattle.layout.specs.Layouts.{Layout, layoutOutcome, lettersOf, accidentalsIn}
+use Rattle.layout.specs.Layouts.{Layout, layoutOutcome, cyclesIn, accidentalsIn}
 use Rattle.layout.specs.ScaleNames.{scaleName}
-use Rattle.layout.specs.Names.{keyOf, noteName}
+use Rattle.layout.specs.Names.{keyOf, nameIn}
 use Rattle.layout.specs.declared.IsomorphicLayout.{IsomorphicLayout}
 use Rattle.layout.specs.declared.LayoutAnswer.{LayoutAnswer}
 use Rattle.layout.specs.declared.LayoutAnswer.the-variants as LayoutAnswer
 
--- Questions 1 to 4 of a record's three numbers, then what is asked of the layout.
+-- Questions 1 to 4 of a caller's record, then what is asked of the layout.
 abbrev pub ofLayout : {A : Type 0} → IsomorphicLayout → (Layout → Outcome A) → Outcome A
-ofLayout r next = andThen (layoutOutcome (r .genchain) (r .octave) (r .tritave)) next
+ofLayout r next = andThen (layoutOutcome r) next
 
-unfoldable pub createOutcome : ℕ → ℕ → ℕ → Outcome IsomorphicLayout
+unfoldable pub createOutcome : IsomorphicLayout → Outcome IsomorphicLayout
 unfolding layoutOutcome
-createOutcome code octave tritave =
-    andThen (layoutOutcome code octave tritave)
-    (λ (l : Layout). given (record { genchain = code; octave = octave; tritave = tritave }))
+createOutcome r = ofLayout r (λ (l : Layout). given r)
 
 unfoldable pub getGenchain : IsomorphicLayout → Outcome ℕ
 unfolding layoutOutcome
-getGenchain r = ofLayout r (λ (l : Layout). given (r .genchain))
+getGenchain r = ofLayout r (λ (l : Layout). given (l .chain))
 
 unfoldable pub getPergen : IsomorphicLayout → Outcome PerGen
 unfolding layoutOutcome
-getPergen r = ofLayout r (λ (l : Layout). given (record { period = r .octave; generator = l .generator }))
+getPergen r = ofLayout r (λ (l : Layout). given (record { period = l .octave; generator = l .generator }))
 
 unfoldable pub getMos : IsomorphicLayout → Outcome Mos
 unfolding layoutOutcome
@@ -41,29 +39,28 @@ getMos r = ofLayout r (λ (l : Layout). given (l .pattern))
 
 unfoldable pub getAccidentals : IsomorphicLayout → ℕ → Outcome Accidentals
 unfolding layoutOutcome accidentalsIn
-getAccidentals r key = ofLayout r (λ (l : Layout). given (accidentalsIn (r .genchain) (r .octave) l key))
+getAccidentals r key = ofLayout r (λ (l : Layout). given (accidentalsIn l key))
 
 -- Questions 1 to 4, then the scale's name.
 unfoldable pub getScaleName : IsomorphicLayout → Outcome (List ℕ)
 unfolding layoutOutcome scaleName
-getScaleName r = ofLayout r (λ (l : Layout). given (scaleName (r .genchain) (l .pattern)))
+getScaleName r = ofLayout r (λ (l : Layout). given (scaleName (l .chain) (l .pattern)))
 
 -- Questions 1 to 4, then the key's name.
 unfoldable pub getNoteName : IsomorphicLayout → ℕ → Outcome (List ℕ)
-unfolding noteName
-getNoteName r key = noteName (r .genchain) (r .octave) (r .tritave) key
+unfolding layoutOutcome nameIn
+getNoteName r key = ofLayout r (λ (l : Layout). given (nameIn l key))
 
--- 16. Is the letter's place below the number N of letters? 21. Are the stars below the number n of cycles? (Document 02.)
-abbrev pub askSpelling : {A : Type 0} → (N n : ℕ) → Spelling → Outcome A → Outcome A
-askSpelling N n x rest = ask 16 (ltb (x .index) N) (ask 21 (ltb (x .stars) n) rest)
+-- 16. Is the letter's place below the number of letters? 21. Are the stars below the number of cycles? (Document 02.) Then the key
+-- of the octave that the spelling sounds.
+unfoldable pub soundedIn : Layout → Spelling → Outcome ℕ
+unfolding cycles keyOf
+soundedIn l x = ask 16 (ltb (x .index) (l .letters)) (ask 21 (ltb (x .stars) (cyclesIn l)) (given (keyOf l x)))
 
--- Questions 1 to 4, then 16 and 21, then the key of the octave that the spelling sounds.
+-- Questions 1 to 4, then those of the spelling.
 unfoldable pub getSoundedKey : IsomorphicLayout → Spelling → Outcome ℕ
-unfolding layoutOutcome cycles keyOf
-getSoundedKey r x =
-    ofLayout r
-    (λ (l : Layout).
-    askSpelling (lettersOf (r .genchain)) (cycles (r .octave) (l .generator)) x (given (keyOf (r .genchain) (r .octave) l x)))
+unfolding layoutOutcome soundedIn
+getSoundedKey r x = ofLayout r (λ (l : Layout). soundedIn l x)
 
 -- Then question 10, of an output slice with `room` elements.
 abbrev pub inRoom : ℕ → Outcome (List ℕ) → Outcome (List ℕ)

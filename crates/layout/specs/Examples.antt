@@ -1,4 +1,4 @@
--- Worked examples beside document 01's marked ones, and one theorem that the definitions give them. (Those are in `lamps`, with the strips.)
+-- Worked examples beside document 01's marked ones, and one theorem that the definitions give them. (Those are in `layout_lamps`, with the strips.)
 use Prim.Native.Nat.{ℕ}
 use mathlib.Core.List.{List, [], _∷_, map}
 use mathlib.Core.Path.{_≡_}
@@ -129,22 +129,23 @@ printedExamples =
 
 -- Code 1, 24, 38: seven letters and two cycles.
 abbrev pub twoCycles : Layout
-twoCycles = record { generator = 14; pattern = mos 5 2 4 2 }
+twoCycles = record { chain = 1; octave = 24; generator = 14; letters = 7; start = 3; pattern = mos 5 2 4 2 }
 
 -- Theorem.
 pub record ExamplesHold : Type 0 where
   pub patterns : map (λ (e : ScaleExample). getMos (e .layout)) scaleExamples ≡ map (λ (e : ScaleExample). e .pattern) scaleExamples
   pub scales : map (λ (e : ScaleExample). getScaleName (e .layout)) scaleExamples ≡ map (λ (e : ScaleExample). e .scale) scaleExamples
   pub names : map (λ (e : NameExample). getNoteName (e .layout) (e .key)) nameExamples ≡ map (λ (e : NameExample). e .name) nameExamples
-  pub places : map (λ (e : SpellingExample). placeIn (e .layout .genchain) (e .spelling)) spellingExamples ≡ map (λ (e : SpellingExample). e .place) spellingExamples
+  pub places : map (λ (e : SpellingExample). ofLayout (e .layout) (λ (l : Layout). given (placeIn l (e .spelling)))) spellingExamples
+      ≡ map (λ (e : SpellingExample). given (e .place)) spellingExamples
   pub keys : map (λ (e : SpellingExample). getSoundedKey (e .layout) (e .spelling)) spellingExamples
       ≡ map (λ (e : SpellingExample). e .key) spellingExamples
-  pub printings : map (λ (e : PrintedExample). ofLayout (e .layout) (λ (l : Layout). given (printedIn (e .layout .genchain) (e .layout .octave) l (e .key)))) printedExamples
+  pub printings : map (λ (e : PrintedExample). ofLayout (e .layout) (λ (l : Layout). given (printedIn l (e .key)))) printedExamples
       ≡ map (λ (e : PrintedExample). e .spellings) printedExamples
   pub refusals : map (λ (e : RefusedSpelling). getSoundedKey (e .layout) (e .spelling)) refusedSpellings
       ≡ map (λ (e : RefusedSpelling). refused (e .question)) refusedSpellings
   -- in two cycles B with three sharps and a star is a spelling; one with an eighth letter, or with a second star, is none
-  pub two-cycles : Accepted 1 24 38 twoCycles
-  pub b-sharps-star : IsSpelling 1 24 twoCycles (spelt 6 (Sharps 3) 1)
-  pub eighth-letter : IsSpelling 1 24 twoCycles (spelt 7 (Sharps 0) 0) → ⊥
-  pub second-star : IsSpelling 1 24 twoCycles (spelt 0 (Sharps 0) 2) → ⊥
+  pub two-cycles : Accepted (layout 1 24 38) twoCycles
+  pub b-sharps-star : IsSpelling twoCycles (spelt 6 (Sharps 3) 1)
+  pub eighth-letter : IsSpelling twoCycles (spelt 7 (Sharps 0) 0) → ⊥
+  pub second-star : IsSpelling twoCycles (spelt 0 (Sharps 0) 2) → ⊥

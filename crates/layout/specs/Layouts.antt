@@ -1,8 +1,7 @@
 -- A layout of a chain in a tuning: questions 1 to 4 (document 01, "Questions before an answer" and "The six chains").
-use Prim.Native.Nat.{ℕ, _≤_}
+use Prim.Native.Nat.{ℕ}
 use mathlib.Core.Bool.{Bool}
 use mathlib.Core.Option.{Option, none, some}
-use mathlib.Core.List.{List}
 use mathlib.Core.Path.{_≡_}
 use lib.ListN.{length}
 use lib.Dec.{leb}
@@ -13,37 +12,67 @@ use Rattle.mos.specs.declared.Mos.{Mos}
 use Rattle.mos.specs.Patterns.{primary, secondary, genesis}
 use Rattle.mos.specs.Walks.{children, firstWith}
 use Rattle.pergen.specs.declared.Accidentals.{Accidentals}
+use Rattle.pergen.specs.Pergen.{cycles, reduced}
 use Rattle.pergen.specs.Spelling.{keyAccidentals}
+use Rattle.layout.specs.declared.IsomorphicLayout.{IsomorphicLayout}
 
--- How many letters a chain has: N.
+-- How many letters a chain has.
 abbrev pub lettersOf : ℕ → ℕ
 lettersOf code = length (chainOf code .letters)
 
--- What an accepted layout has beside its three numbers.
+-- What the questions find, and all that the definitions of keys and names read: "In a layout P is the octave, G the chain's
+-- generator, N its number of letters and the origin the start."
 pub record Layout : Type 0 where
+  -- the chain's code, which says what its letters are
+  pub chain : ℕ
+  -- P
+  pub octave : ℕ
+  -- G
   pub generator : ℕ
+  -- N
+  pub letters : ℕ
+  -- the place, from 0, of the letter of key 0
+  pub start : ℕ
+  -- the pattern with N steps
   pub pattern : Mos
 
 -- 4. "Does the walk of step patterns meet one with as many steps as the chain has letters? No: 4."
-abbrev pub withPattern : ℕ → Option Mos → Outcome Layout
-withPattern G none = refused 4
-withPattern G (some m) = given (record { generator = G; pattern = m })
+abbrev pub withPattern : IsomorphicLayout → ℕ → Option Mos → Outcome Layout
+withPattern r G none = refused 4
+withPattern r G (some m) =
+    given
+    (record {
+      chain = r .genchain;
+      octave = r .octave;
+      generator = G;
+      letters = lettersOf (r .genchain);
+      start = chainOf (r .genchain) .start;
+      pattern = m;
+    })
 
--- Questions 1 to 3 give the generator, and the walk from its genesis the pattern.
-unfoldable pub layoutOutcome : ℕ → ℕ → ℕ → Outcome Layout
+-- Of a caller's three numbers, questions 1 to 3 give the generator, and the walk from its genesis the pattern.
+unfoldable pub layoutOutcome : IsomorphicLayout → Outcome Layout
 unfolding generatorOutcome children
-layoutOutcome code octave tritave =
-    andThen (generatorOutcome code octave tritave)
-    (λ (G : ℕ). withPattern G (firstWith (lettersOf code) (children (genesis octave G))))
+layoutOutcome r =
+    andThen (generatorOutcome (r .genchain) (r .octave) (r .tritave))
+    (λ (G : ℕ). withPattern r G (firstWith (lettersOf (r .genchain)) (children (genesis (r .octave) G))))
 
 -- "A layout is accepted when the questions on it, here 1 to 4, all have the answer yes."
-abbrev pub Accepted : ℕ → ℕ → ℕ → Layout → Type 0
-Accepted code octave tritave l = layoutOutcome code octave tritave ≡ given l
+abbrev pub Accepted : IsomorphicLayout → Layout → Type 0
+Accepted r l = layoutOutcome r ≡ given l
 
--- "In a layout P is the octave, G the chain's generator, N its number of letters and the origin the start": the spellings of a key.
-unfoldable pub accidentalsIn : ℕ → ℕ → Layout → ℕ → Accidentals
+-- "n their greatest common divisor (cycles)"
+abbrev pub cyclesIn : Layout → ℕ
+cyclesIn l = cycles (l .octave) (l .generator)
+
+-- "R = P / n the reduced period"
+abbrev pub reducedIn : Layout → ℕ
+reducedIn l = reduced (l .octave) (l .generator)
+
+-- The spellings of a key.
+unfoldable pub accidentalsIn : Layout → ℕ → Accidentals
 unfolding keyAccidentals
-accidentalsIn code octave l key = keyAccidentals octave (l .generator) (lettersOf code) (chainOf code .start) key
+accidentalsIn l key = keyAccidentals (l .octave) (l .generator) (l .letters) (l .start) key
 
 -- "If the primary step is at least the secondary, signs are # and b, sharp first"
 abbrev pub sharpFirst : Layout → Bool

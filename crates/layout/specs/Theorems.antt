@@ -9,61 +9,57 @@ use lib.ListN.{length}
 use Rattle.answer.specs.Outcome.{given}
 use Rattle.math.specs.Division.{Apart}
 use Rattle.pergen.specs.declared.Spelling.{Spelling}
-use Rattle.pergen.specs.Pergen.{reduced}
 use Rattle.pergen.specs.Spelling.{starsOf}
-use Rattle.layout.specs.Layouts.{Layout, Accepted, lettersOf}
-use Rattle.layout.specs.Names.{IsSpelling, placeIn, keyOf, printedIn, cycleIn, textIn, noteName}
-use Rattle.layout.specs.Answers.{getSoundedKey}
+use Rattle.layout.specs.Layouts.{Layout, Accepted, reducedIn}
+use Rattle.layout.specs.Names.{IsSpelling, placeIn, keyOf, printedIn, cycleIn, textIn}
+use Rattle.layout.specs.Answers.{getNoteName, getSoundedKey}
+use Rattle.layout.specs.declared.IsomorphicLayout.{IsomorphicLayout}
 
 -- Take any two ways to write a note: each a letter, some sharps or some flats, and fewer stars than there are cycles, whether any
 -- cap bears them or not. They are the same key of the octave exactly when they have equally many stars and their places on the
 -- chain differ by a multiple of the reduced period.
 abbrev pub SpellingsSoundOneKey : Type 0
 SpellingsSoundOneKey =
-    (code octave tritave : ℕ) (l : Layout) → Accepted code octave tritave l
-    → (x y : Spelling) → IsSpelling code octave l x → IsSpelling code octave l y
-    → (keyOf code octave l x ≡ keyOf code octave l y)
-    ↔ ((x .stars ≡ y .stars) × Apart (reduced octave (l .generator)) (placeIn code x) (placeIn code y))
+    (r : IsomorphicLayout) (l : Layout) → Accepted r l
+    → (x y : Spelling) → IsSpelling l x → IsSpelling l y
+    → (keyOf l x ≡ keyOf l y) ↔ ((x .stars ≡ y .stars) × Apart (reducedIn l) (placeIn l x) (placeIn l y))
 
 -- Of a spelling, and a key by its number:
-pub record SoundsKey (code octave : ℕ) (l : Layout) (key : ℕ) (x : Spelling) : Type 0 where
+pub record SoundsKey (l : Layout) (key : ℕ) (x : Spelling) : Type 0 where
   -- it is one of the layout's,
-  pub spelling : IsSpelling code octave l x
+  pub spelling : IsSpelling l x
   -- it has the stars of the key's name,
-  pub stars : x .stars ≡ starsOf (cycleIn octave l key)
+  pub stars : x .stars ≡ starsOf (cycleIn l key)
   -- and it sounds that very key, in each octave.
-  pub sounds : keyOf code octave l x ≡ key % octave
+  pub sounds : keyOf l x ≡ key % l .octave
 
 -- Of the name of a key, as the naming call writes it:
-pub record NameSoundsKey (code octave tritave : ℕ) (l : Layout) (key : ℕ) : Type 0 where
+pub record NameSoundsKey (r : IsomorphicLayout) (l : Layout) (key : ℕ) : Type 0 where
   -- its bytes are the text of the printed spellings, of all of them in their order and of no others, and then the key's stars;
-  pub bytes : noteName code octave tritave key ≡ given (textIn code l (cycleIn octave l key) (printedIn code octave l key))
+  pub bytes : getNoteName r key ≡ given (textIn l (cycleIn l key) (printedIn l key))
   -- there is at least one;
-  pub some : 0 < length (printedIn code octave l key)
+  pub some : 0 < length (printedIn l key)
   -- and each of them sounds the key.
-  pub each : (x : Spelling) → List·Memᴰ x (printedIn code octave l key) → SoundsKey code octave l key x
+  pub each : (x : Spelling) → List·Memᴰ x (printedIn l key) → SoundsKey l key x
 
 -- Every spelling that stands in a key's name, as the naming call writes it, is one that can be played, and it sounds that very key.
 abbrev pub NamesSoundTheirKey : Type 0
-NamesSoundTheirKey =
-    (code octave tritave : ℕ) (l : Layout) → Accepted code octave tritave l → (key : ℕ) → NameSoundsKey code octave tritave l key
+NamesSoundTheirKey = (r : IsomorphicLayout) (l : Layout) → Accepted r l → (key : ℕ) → NameSoundsKey r l key
 
 -- No two keys of an octave have the same name, and the same key of another octave has the same name: the bytes that
 -- `get_note_name` writes for two key numbers are equal exactly when the numbers differ by whole octaves.
 abbrev pub NamesTellKeysApart : Type 0
 NamesTellKeysApart =
-    (code octave tritave : ℕ) (l : Layout) → Accepted code octave tritave l
-    → (i j : ℕ) → (noteName code octave tritave i ≡ noteName code octave tritave j) ↔ Apart octave (pos i) (pos j)
+    (r : IsomorphicLayout) (l : Layout) → Accepted r l
+    → (i j : ℕ) → (getNoteName r i ≡ getNoteName r j) ↔ Apart (l .octave) (pos i) (pos j)
 
--- An accepted layout has at least as many keys in a cycle as its chain has letters: the branch "R below N" is never reached.
+-- An accepted layout has at least as many keys in a cycle as letters: the branch "R below N" is never reached.
 abbrev pub EnoughKeys : Type 0
-EnoughKeys =
-    (code octave tritave : ℕ) (l : Layout) → Accepted code octave tritave l → lettersOf code ≤ reduced octave (l .generator)
+EnoughKeys = (r : IsomorphicLayout) (l : Layout) → Accepted r l → l .letters ≤ reducedIn l
 
 -- A spelling is answered with a key exactly where it is one of those that `SpellingsSoundOneKey` speaks of: in an accepted layout, with a
 -- letter of the chain and stars below the cycles. The answer is then the key that it sounds, and no other.
 abbrev pub SpellingsHaveAKey : Type 0
 SpellingsHaveAKey =
-    (code octave tritave : ℕ) (x : Spelling) (key : ℕ)
-    → (getSoundedKey (record { genchain = code; octave = octave; tritave = tritave }) x ≡ given key)
-    ↔ ((l : Layout) × Accepted code octave tritave l × IsSpelling code octave l x × (key ≡ keyOf code octave l x))
+    (r : IsomorphicLayout) (x : Spelling) (key : ℕ)
+    → (getSoundedKey r x ≡ given key) ↔ ((l : Layout) × Accepted r l × IsSpelling l x × (key ≡ keyOf l x))

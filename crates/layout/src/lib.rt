@@ -1,8 +1,8 @@
 // Layouts of the six chains, after `IsomorphicLayout` and `Genchain::create_layout` in src/layout.rs of the original.
 //
 // Holds making a layout from chain code, octave and tritave, its pergen and pattern, a spelling's key, and spellings and names of its
-// keys (document 01, "The six chains", "Pergen and spelling", "Step patterns"). `scale_names` has the name of its scale.
-// specs/: Layouts, ScaleNames and Names define, Answers says what each call answers, in `scale_names` too, Theorems what a reader
+// keys (document 01, "The six chains", "Pergen and spelling", "Step patterns"). `layout_scale_names` has the name of its scale.
+// specs/: Layouts, ScaleNames and Names define, Answers says what each call answers, in `layout_scale_names` too, Theorems what a reader
 // of key names may rely on. A layout holds only the three numbers that a caller chose; each call asks questions 1 to 4 of them again.
 // Every entry point answers every input; the modules of parts ask for more, as their heads say. Nothing is assumed.
 pub mod parts;
@@ -50,7 +50,7 @@ pub enum LayoutAnswer {
 
 // The layout of a chain in a tuning with so many steps to the octave and to the tritave (1, 2, 3, 4).
 pub fn create_layout(genchain: u16, octave: u16, tritave: u16) -> LayoutAnswer
-    ensures { λ r. ⌜ answerOutcome r ≡ createOutcome genchain octave tritave ⌝ }
+    ensures { λ r. ⌜ answerOutcome r ≡ createOutcome (record { genchain = genchain; octave = octave; tritave = tritave }) ⌝ }
 {
     let layout = IsomorphicLayout {
         genchain,
@@ -70,7 +70,7 @@ impl IsomorphicLayout {
     {
         match parts::search(self) {
             FoundAnswer::Refused(q) => NumberAnswer::Refused(q),
-            FoundAnswer::Given(_) => NumberAnswer::Given(self.genchain),
+            FoundAnswer::Given(found) => NumberAnswer::Given(found.chain),
         }
     }
 
@@ -81,7 +81,7 @@ impl IsomorphicLayout {
         match parts::search(self) {
             FoundAnswer::Refused(q) => PerGenAnswer::Refused(q),
             FoundAnswer::Given(found) => PerGenAnswer::Given(PerGen {
-                period: self.octave,
+                period: found.octave,
                 generator: found.generator,
             }),
         }
@@ -104,19 +104,9 @@ impl IsomorphicLayout {
     pub fn get_accidentals(self, key: u16) -> AccidentalsAnswer
         ensures { λ r. ⌜ accidentalsOutcome r ≡ getAccidentals self key ⌝ }
     {
-        let code = self.genchain;
-        if 6 <= code {
-            return AccidentalsAnswer::Refused(Refusal::Chain);
-        }
-        let row = rows::row(code);
-        match parts::find(self, row.num_letters) {
+        match parts::search(self) {
             FoundAnswer::Refused(q) => AccidentalsAnswer::Refused(q),
-            FoundAnswer::Given(found) => AccidentalsAnswer::Given(parts::accidentals(
-                row,
-                self.octave,
-                found.generator,
-                key,
-            )),
+            FoundAnswer::Given(found) => AccidentalsAnswer::Given(parts::accidentals(found, key)),
         }
     }
 
@@ -124,16 +114,11 @@ impl IsomorphicLayout {
     pub fn note_name_len(self, key: u16) -> CountAnswer
         ensures { λ r. ⌜ countOutcome r ≡ counted (getNoteName self key) ⌝ }
     {
-        let code = self.genchain;
-        if 6 <= code {
-            return CountAnswer::Refused(Refusal::Chain);
-        }
-        let row = rows::row(code);
-        match parts::find(self, row.num_letters) {
+        let row = rows::row(self.genchain);
+        match parts::find(self, row) {
             FoundAnswer::Refused(q) => CountAnswer::Refused(q),
             FoundAnswer::Given(found) => CountAnswer::Given(plans::plan_length(parts::plan_key(
                 row,
-                self.octave,
                 found,
                 key,
             ))),
@@ -144,14 +129,10 @@ impl IsomorphicLayout {
     pub fn get_note_name(self, key: u16, out: &mut [u8]) -> CountAnswer
         ensures { λ r. ⌜ Filled (inRoom (length (now (out .entry))) (getNoteName self key)) (countOutcome r) (now (out .entry)) (now (out .exit)) ⌝ }
     {
-        let code = self.genchain;
-        if 6 <= code {
-            return CountAnswer::Refused(Refusal::Chain);
-        }
-        let row = rows::row(code);
-        match parts::find(self, row.num_letters) {
+        let row = rows::row(self.genchain);
+        match parts::find(self, row) {
             FoundAnswer::Refused(q) => CountAnswer::Refused(q),
-            FoundAnswer::Given(found) => parts::write_name(row, self.octave, found, key, out),
+            FoundAnswer::Given(found) => parts::write_name(row, found, key, out),
         }
     }
 
@@ -159,19 +140,9 @@ impl IsomorphicLayout {
     pub fn get_sounded_key(self, spelling: Spelling) -> NumberAnswer
         ensures { λ r. ⌜ numberOutcome r ≡ getSoundedKey self spelling ⌝ }
     {
-        let code = self.genchain;
-        if 6 <= code {
-            return NumberAnswer::Refused(Refusal::Chain);
-        }
-        let row = rows::row(code);
-        match parts::find(self, row.num_letters) {
+        match parts::search(self) {
             FoundAnswer::Refused(q) => NumberAnswer::Refused(q),
-            FoundAnswer::Given(found) => parts::sounded(
-                row,
-                self.octave,
-                found.generator,
-                spelling,
-            ),
+            FoundAnswer::Given(found) => parts::sounded(found, spelling),
         }
     }
 }

@@ -19,18 +19,28 @@ ghost use Prim.Native.Nat.{_<_, _%_};
 ghost use lib.ListN.{length};
 ghost use Rattle.answer.specs.Lent.{heldIn, Filled};
 ghost use Rattle.answer.specs.Refusals.{numberOutcome, countOutcome};
-ghost use Rattle.genchain.specs.Chains.{TableRow, lettersIn};
+ghost use Rattle.genchain.specs.Chains.{chainOf, rowOf};
 ghost use Rattle.mos.specs.Patterns.{genesis};
 ghost use Rattle.mos.specs.Walks.{children, firstWith};
-ghost use Rattle.notes.specs.Names.{nameText};
 ghost use Rattle.notes.specs.Parts.{Planned};
-ghost use Rattle.pergen.specs.Spelling.{keyAccidentals};
-ghost use Rattle.layout.specs.Layouts.{lettersOf, withPattern, layoutOutcome, sharpFirst};
-ghost use Rattle.layout.specs.Parts.{layoutOf, foundOutcome, soundedAlong};
+ghost use Rattle.layout.specs.Layouts.{
+  lettersOf,
+  withPattern,
+  layoutOutcome,
+  accidentalsIn,
+  sharpFirst,
+};
+ghost use Rattle.layout.specs.Names.{nameIn};
+ghost use Rattle.layout.specs.Answers.{soundedIn};
+ghost use Rattle.layout.specs.Parts.{layoutOf, foundOutcome, Laid};
 
-// What an accepted layout has beside its three numbers.
+// What questions 1 to 4 find: all that keys and names are made from.
 pub struct Found {
+    pub chain: u16,
+    pub octave: u16,
     pub generator: u16,
+    pub num_letters: u16,
+    pub start: u16,
     pub pattern: Mos,
 }
 
@@ -50,81 +60,78 @@ pub fn within_octave(octave: u16, generator: u16) -> u16
     generator % octave
 }
 
-// The pattern with so many steps on the walk from the generator's genesis (4).
-pub fn with_pattern(octave: u16, generator: u16, num_letters: u16) -> FoundAnswer
-    requires { ⌜ 0 < octave ⌝ }
-    ensures { λ r. ⌜ foundOutcome r ≡ withPattern generator (firstWith «num_letters» (children (genesis octave generator))) ⌝ }
+// The layout with this generator, and the pattern that the walk from its genesis meets (4).
+fn with_pattern(layout: IsomorphicLayout, row: ChainRow, generator: u16) -> FoundAnswer
+    requires { ⌜ (row ≡ rowOf (chainOf (layout .genchain))) × (0 < layout .octave) ⌝ }
+    ensures { λ r. ⌜ foundOutcome r ≡ withPattern layout generator (firstWith (lettersOf (layout .genchain)) (children (genesis (layout .octave) generator))) ⌝ }
 {
+    let octave = layout.octave;
+    let num_letters = row.num_letters;
     let step = within_octave(octave, generator);
     let mut found: [u16; 4] = [0, 0, 0, 0];
     // from the genesis: both counts 1, and the steps
-    if walks::parts::seek(1, 1, step, octave - step, num_letters as u32, &mut found) {
+    if mos_walks::parts::seek(1, 1, step, octave - step, num_letters as u32, &mut found) {
         return FoundAnswer::Given(Found {
+            chain: layout.genchain,
+            octave,
             generator,
-            pattern: Mos {
-                num_primary_steps: found[0],
-                num_secondary_steps: found[1],
-                primary_step: found[2],
-                secondary_step: found[3],
-            },
+            num_letters,
+            start: row.start,
+            pattern: mos::parts::pattern_of(found),
         });
     }
     FoundAnswer::Refused(Refusal::Pattern)
 }
 
-// Questions 1 to 4, of a layout whose chain has so many letters.
-pub fn find(layout: IsomorphicLayout, num_letters: u16) -> FoundAnswer
-    requires { ⌜ «num_letters» ≡ lettersOf (layout .genchain) ⌝ }
-    ensures { λ r. ⌜ foundOutcome r ≡ layoutOutcome (layout .genchain) (layout .octave) (layout .tritave) ⌝ }
+// Questions 1 to 4, of a layout whose chain has this row.
+pub fn find(layout: IsomorphicLayout, row: ChainRow) -> FoundAnswer
+    requires { ⌜ row ≡ rowOf (chainOf (layout .genchain)) ⌝ }
+    ensures { λ r. ⌜ foundOutcome r ≡ layoutOutcome layout ⌝ }
 {
-    match generators::generator(layout.genchain, layout.octave, layout.tritave) {
+    match genchain_generators::generator(layout.genchain, layout.octave, layout.tritave) {
         NumberAnswer::Refused(q) => FoundAnswer::Refused(q),
-        NumberAnswer::Given(generator) => with_pattern(layout.octave, generator, num_letters),
+        NumberAnswer::Given(generator) => with_pattern(layout, row, generator),
     }
 }
 
 // Questions 1 to 4.
 pub fn search(layout: IsomorphicLayout) -> FoundAnswer
-    ensures { λ r. ⌜ foundOutcome r ≡ layoutOutcome (layout .genchain) (layout .octave) (layout .tritave) ⌝ }
+    ensures { λ r. ⌜ foundOutcome r ≡ layoutOutcome layout ⌝ }
 {
-    let code = layout.genchain;
-    if 6 <= code {
-        return FoundAnswer::Refused(Refusal::Chain);
-    }
-    let row = rows::row(code);
-    find(layout, row.num_letters)
+    find(layout, rows::row(layout.genchain))
 }
 
-// The two spellings of a key, along the letters of a row.
-pub fn accidentals(row: ChainRow, octave: u16, generator: u16, key: u16) -> Accidentals
-    requires { ⌜ TableRow row × (0 < octave) ⌝ }
-    ensures { λ r. ⌜ r ≡ keyAccidentals octave generator (row .«num_letters») (row .start) key ⌝ }
+// The two spellings of a key.
+pub(crate) fn accidentals(found: Found, key: u16) -> Accidentals
+    requires { ⌜ Laid (layoutOf found) ⌝ }
+    ensures { λ r. ⌜ r ≡ accidentalsIn (layoutOf found) key ⌝ }
 {
-    let solved = euclid::solve(octave, generator);
+    let solved = euclid::solve(found.octave, found.generator);
     let generation = euclid::generation(solved, key);
     let format = AccidentalsFormat {
-        num_symbols: row.num_letters,
-        genchain_origin: row.start,
+        num_symbols: found.num_letters,
+        genchain_origin: found.start,
     };
-    spelling::parts::accidentals(solved.reduced_period, format, generation)
+    pergen_spelling::parts::accidentals(solved.reduced_period, format, generation)
 }
 
-// The plan of a key's name. The style goes by the steps: sharp first where the primary is at least the secondary.
-pub fn plan_key(row: ChainRow, octave: u16, found: Found, key: u16) -> NamePlan
-    requires { ⌜ TableRow row × (0 < octave) ⌝ }
-    ensures { λ r. ⌜ Planned (lettersIn row) (sharpFirst (layoutOf found)) (keyAccidentals octave (found .generator) (row .«num_letters») (row .start) key) r ⌝ }
+// The plan of a key's name, with the letters of the chain's row. The style goes by the steps: sharp first where the primary is at
+// least the secondary.
+pub(crate) fn plan_key(row: ChainRow, found: Found, key: u16) -> NamePlan
+    requires { ⌜ (row ≡ rowOf (chainOf (found .chain))) × Laid (layoutOf found) ⌝ }
+    ensures { λ r. ⌜ Planned (chainOf (found .chain) .letters) (sharpFirst (layoutOf found)) (accidentalsIn (layoutOf found) key) r ⌝ }
 {
     let pattern = found.pattern;
-    let spelled = accidentals(row, octave, found.generator, key);
+    let spelled = accidentals(found, key);
     plans::plan_name(row, spelled, pattern.secondary_step <= pattern.primary_step)
 }
 
 // A key's name at the front of a slice that holds it (10).
-pub fn write_name(row: ChainRow, octave: u16, found: Found, key: u16, out: &mut [u8]) -> CountAnswer
-    requires { ⌜ TableRow row × (0 < octave) ⌝ }
-    ensures { λ r. ⌜ Filled (heldIn (length (now (out .entry))) (nameText (lettersIn row) (sharpFirst (layoutOf found)) (keyAccidentals octave (found .generator) (row .«num_letters») (row .start) key))) (countOutcome r) (now (out .entry)) (now (out .exit)) ⌝ }
+pub(crate) fn write_name(row: ChainRow, found: Found, key: u16, out: &mut [u8]) -> CountAnswer
+    requires { ⌜ (row ≡ rowOf (chainOf (found .chain))) × Laid (layoutOf found) ⌝ }
+    ensures { λ r. ⌜ Filled (heldIn (length (now (out .entry))) (nameIn (layoutOf found) key)) (countOutcome r) (now (out .entry)) (now (out .exit)) ⌝ }
 {
-    let plan = plan_key(row, octave, found, key);
+    let plan = plan_key(row, found, key);
     let bytes = plans::plan_length(plan);
     if out.len() < bytes {
         return CountAnswer::Refused(Refusal::Room);
@@ -133,31 +140,26 @@ pub fn write_name(row: ChainRow, octave: u16, found: Found, key: u16, out: &mut 
     CountAnswer::Given(bytes)
 }
 
-// The key that a spelling along the letters of a row sounds (16, 21).
-pub(crate) fn sounded(
-    row: ChainRow,
-    octave: u16,
-    generator: u16,
-    spelling: Spelling,
-) -> NumberAnswer
-    requires { ⌜ 0 < octave ⌝ }
-    ensures { λ r. ⌜ numberOutcome r ≡ soundedAlong (row .«num_letters») (row .start) octave generator spelling ⌝ }
+// The key that a spelling sounds (16, 21).
+pub(crate) fn sounded(found: Found, spelling: Spelling) -> NumberAnswer
+    requires { ⌜ Laid (layoutOf found) ⌝ }
+    ensures { λ r. ⌜ numberOutcome r ≡ soundedIn (layoutOf found) spelling ⌝ }
 {
     let stars = spelling.stars;
-    if row.num_letters <= spelling.index {
+    if found.num_letters <= spelling.index {
         return NumberAnswer::Refused(Refusal::Letter);
     }
-    if math::gcd_u16(octave, generator) <= stars {
+    if math::gcd_u16(found.octave, found.generator) <= stars {
         return NumberAnswer::Refused(Refusal::Stars);
     }
     let format = AccidentalsFormat {
-        num_symbols: row.num_letters,
-        genchain_origin: row.start,
+        num_symbols: found.num_letters,
+        genchain_origin: found.start,
     };
     let pergen = PerGen {
-        period: octave,
-        generator,
+        period: found.octave,
+        generator: found.generator,
     };
-    let sides = sounding::parts::sides_of(format, spelling);
-    NumberAnswer::Given(sounding::parts::sounded(pergen, sides, stars))
+    let sides = pergen_sounding::parts::sides_of(format, spelling);
+    NumberAnswer::Given(pergen_sounding::parts::sounded(pergen, sides, stars))
 }

@@ -1,13 +1,13 @@
 -- From a speller's book to what the calls answer: equal names make equal books, and one law for each way in which a call ends.
 use Prim.Native.Nat.{ℕ, _+_, _*_}
-use mathlib.Core.Path.{_≡_, refl, sym, ap, ap₂, _∙_}
+use mathlib.Core.Path.{_≡_, sym, ap, ap₂, _∙_}
 use mathlib.Core.List.{List, _++_}
 use lib.ListN.{length}
 use Rattle.answer.specs.Outcome.{Outcome, given, refused, andThen}
 use Rattle.answer.specs.Lent.{heldIn, counted}
-use Rattle.answer.specs.Writing.{joined}
-use Rattle.answer.proofs.Joined.{joined-same}
-use Rattle.book.specs.Books.{le32, pairText, bookText}
+use Rattle.text.proofs.Joined.{joined-same}
+use Rattle.book.specs.Books.{pairText, bookText}
+use Rattle.text.specs.LittleEndian.{le32}
 use Rattle.book.proofs.Written.{pair-is, book-is}
 use Rattle.layout.specs.declared.IsomorphicLayout.{IsomorphicLayout}
 use Rattle.layout.specs.Layouts.{Layout, layoutOutcome}
@@ -15,8 +15,8 @@ use Rattle.layout.specs.Names.{nameIn}
 use Rattle.layout.specs.Answers.{inRoom}
 use Rattle.layout.proofs.Calls.{of-refused, of-given}
 use Rattle.layout_book.specs.LayoutBooks.{bookIn, getBook}
-use Rattle.layout_book.specs.Parts.{nameOf, SpellerOf}
-use Rattle.layout_book.specs.declared.parts.Speller.{Speller}
+use Rattle.layout_speller.specs.Parts.{nameOf, SpellerOf}
+use Rattle.layout_speller.specs.declared.speller.Speller.{Speller}
 
 module _ (f g : ℕ → List ℕ) (same : (k : ℕ) → f k ≡ g k) (keys : ℕ) where
   same-pair : (k : ℕ) → pairText f keys k ≡ pairText g keys k
@@ -33,23 +33,23 @@ module _ (f g : ℕ → List ℕ) (same : (k : ℕ) → f k ≡ g k) (keys : ℕ
       (joined-same f g keys (λ i l. same i))
       ∙ sym (book-is g keys)
 
-pub book-refused : (r : IsomorphicLayout) (n : ℕ) → refused n ≡ layoutOutcome (r .genchain) (r .octave) (r .tritave) → refused n ≡ getBook r
+pub book-refused : (r : IsomorphicLayout) (n : ℕ) → refused n ≡ layoutOutcome r → refused n ≡ getBook r
 unfolding getBook
 book-refused r n e = of-refused r _ n e
 
-module _ (r : IsomorphicLayout) (l : Layout) (e : given l ≡ layoutOutcome (r .genchain) (r .octave) (r .tritave)) where
-  book-given : given (bookIn (r .genchain) (r .octave) l) ≡ getBook r
+module _ (r : IsomorphicLayout) (l : Layout) (e : given l ≡ layoutOutcome r) where
+  book-given : given (bookIn l) ≡ getBook r
   unfolding getBook
   book-given = of-given r _ l e
 
-  module _ (s : Speller) (w : SpellerOf (r .genchain) (r .octave) l s) where
-    spelled-book : bookText (nameOf s) (r .octave) ≡ bookIn (r .genchain) (r .octave) l
+  module _ (s : Speller) (w : SpellerOf l s) where
+    spelled-book : bookText (nameOf s) (l .octave) ≡ bookIn l
     unfolding bookIn
-    spelled-book = same-book (nameOf s) (nameIn (r .genchain) (r .octave) l) (w .names) (r .octave)
+    spelled-book = same-book (nameOf s) (nameIn l) (w .names) (l .octave)
 
-    pub book-count : (n : ℕ) → n ≡ length (bookText (nameOf s) (r .octave)) → given n ≡ counted (getBook r)
+    pub book-count : (n : ℕ) → n ≡ length (bookText (nameOf s) (l .octave)) → given n ≡ counted (getBook r)
     book-count n q = ap given (q ∙ ap length spelled-book) ∙ ap counted book-given
 
-    pub book-in-room : (room : ℕ) → heldIn room (bookText (nameOf s) (r .octave)) ≡ inRoom room (getBook r)
+    pub book-in-room : (room : ℕ) → heldIn room (bookText (nameOf s) (l .octave)) ≡ inRoom room (getBook r)
     book-in-room room =
         ap (heldIn room) spelled-book ∙ ap (λ (o : Outcome (List ℕ)). andThen o (heldIn room)) book-given

@@ -5,19 +5,21 @@ use native.Mathlib.Omega.{arith}
 use mathlib.Core.Path.{_≡_, sym, ap, ap₂, _∙_}
 use mathlib.Core.List.{List, _++_, append-nil}
 use lib.ListN.{length, replicate, length-append}
-use Rattle.answer.specs.Writing.{joined}
-use Rattle.answer.proofs.Joined.{joined-none, joined-same, joined-add, length-joined-each}
-use Rattle.book.specs.Books.{le32, pairText}
-use Rattle.book.proofs.Numbers.{length-le32}
+use Rattle.text.specs.Writing.{joined}
+use Rattle.text.proofs.Joined.{joined-none, joined-same, joined-add, length-joined-each}
+use Rattle.book.specs.Books.{pairText}
+use Rattle.text.specs.LittleEndian.{le32}
+use Rattle.text.proofs.FourBytes.{length-le32}
 use Rattle.book.proofs.Written.{pair-is}
 use Rattle.genchain.specs.Chains.{lettersIn}
 use Rattle.notes.specs.Parts.{bodyText, starredText, planText, Planned}
 use Rattle.notes.specs.declared.plans.NamePlan.{NamePlan}
-use Rattle.layout_book.specs.Parts.{spelledAt, firstStep, nameOf, bareName, Sound, numbersText, starredPair}
-use Rattle.layout_book.specs.declared.parts.Speller.{Speller}
-use Rattle.layout_book.proofs.Spelled.{name-short}
-use Rattle.layout_book.proofs.Theorems.{short-texts}
-use Rattle.layout_book.proofs.BareNames.{bare-step, name-starred}
+use Rattle.layout_speller.specs.Parts.{spelledAt, firstStep, nameOf, bareName, Sound}
+use Rattle.layout_book.specs.Parts.{numbersText, starredPair}
+use Rattle.layout_speller.specs.declared.speller.Speller.{Speller}
+use Rattle.layout_speller.proofs.Spelled.{name-short}
+use Rattle.layout_speller.proofs.Rounds.{short-texts}
+use Rattle.layout_speller.proofs.BareNames.{bare-step, name-starred}
 
 pub record Due (s : Speller) (keys k offset : ℕ) : Type 0 where
   pub is : offset ≡ 4 + 8 * keys + length (joined (nameOf s) k)

@@ -1,13 +1,5 @@
-pub mod Turning
-pub mod Rounds
-pub mod Spelled
-pub mod BareNames
-pub mod LettersRead
 pub mod Reciprocal
-pub mod BareLengths
-pub mod PlacesAlong
-pub mod NamesLength
-pub mod Spellers
+pub mod SpelledPlaces
 pub mod Due
 pub mod SideBySide
 pub mod Turns

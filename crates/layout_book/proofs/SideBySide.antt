@@ -5,9 +5,9 @@ use mathlib.Core.List.{List, [], _∷_, _++_}
 use native.Mathlib.Omega.{arith}
 use lib.ListN.{length, set}
 use lib.Seq.{sets, set-comm}
-use Rattle.answer.specs.Writing.{Room, Wrote, joined}
-use Rattle.answer.proofs.Writing.{then, wrote-length}
-use Rattle.answer.proofs.Joined.{joined-start, joined-step, joined-room}
+use Rattle.text.specs.Writing.{Room, Wrote, joined}
+use Rattle.text.proofs.Writing.{then, wrote-length}
+use Rattle.text.proofs.Joined.{joined-start, joined-step, joined-room}
 use Rattle.layout_book.specs.Parts.{Beside}
 
 -- one store before a run of stores, or after it

@@ -5,12 +5,11 @@ use native.Mathlib.Omega.{arith}
 use mathlib.Core.Path.{_≡_, refl, sym, ap, _∙_, subst}
 use mathlib.Core.List.{List, _++_}
 use lib.ListN.{length, length-append}
-use Rattle.answer.specs.Writing.{Room, joined}
-use Rattle.answer.proofs.Joined.{joined-add, length-joined-le}
+use Rattle.text.specs.Writing.{Room, joined}
+use Rattle.text.proofs.Joined.{joined-add, length-joined-le}
 use Rattle.book.specs.Books.{pairText}
 use Rattle.book.proofs.Written.{length-pairs}
 use Rattle.genchain.specs.Chains.{lettersIn}
-use Rattle.layout.proofs.Finding.{start-below}
 use Rattle.math.proofs.Congruence.{add-cong}
 use Rattle.notes.specs.Parts.{starredText, Planned}
 use Rattle.notes.specs.declared.plans.NamePlan.{NamePlan}
@@ -18,9 +17,10 @@ use Rattle.pergen.specs.declared.Accidentals.{Accidentals}
 use Rattle.pergen.specs.declared.Cycle.{Cycle}
 use Rattle.pergen.specs.Spelling.{byCoordinates}
 use Rattle.pergen.proofs.CarriedWalk.{degree-start, degree-on}
-use Rattle.layout_book.specs.Parts.{cycleAt, spelledAt, firstStep, flatBeside, placeAt, nameOf, Sound, starredPair, CyclesFit, Beside}
-use Rattle.layout_book.specs.declared.parts.Speller.{Speller}
-use Rattle.layout_book.proofs.BareNames.{place-of}
+use Rattle.layout_speller.specs.Parts.{cycleAt, spelledAt, firstStep, flatBeside, placeAt, nameOf, Sound}
+use Rattle.layout_book.specs.Parts.{starredPair, CyclesFit, Beside}
+use Rattle.layout_speller.specs.declared.speller.Speller.{Speller}
+use Rattle.layout_speller.proofs.BareNames.{place-of}
 use Rattle.layout_book.proofs.Due.{Due, starred-names, starred-pairs, due-turn, length-starred-pairs}
 use Rattle.layout_book.proofs.SideBySide.{beside-then, beside-length}
 
@@ -28,7 +28,7 @@ use Rattle.layout_book.proofs.SideBySide.{beside-then, beside-length}
 
 abbrev pub turnPlace : Speller → ℕ → ℕ
 turnPlace s t =
-    (s .row .start + s .solved .«generator_inverse» * t % s .solved .«reduced_period») % s .solved .«reduced_period»
+    (s .start + s .solved .«generator_inverse» * t % s .solved .«reduced_period») % s .solved .«reduced_period»
 
 -- indices are inside
 module _ (N p f : ℕ) (c : Cycle) (some : 0 < N) {a : Accidentals} (e : a ≡ byCoordinates c N p f) where
@@ -45,15 +45,15 @@ module _ (s : Speller) (h : Sound s) where
   some-degrees = omega (arith, h .walkable .below)
 
   pub turn-below : (t : ℕ) {p : ℕ} → p ≡ turnPlace s t → p < s .solved .«reduced_period»
-  turn-below t e = rw e (mod-lt (s .row .start + s .solved .«generator_inverse» * t % s .solved .«reduced_period») some-degrees)
+  turn-below t e = rw e (mod-lt (s .start + s .solved .«generator_inverse» * t % s .solved .«reduced_period») some-degrees)
 
-  pub turn-first : s .row .start ≡ turnPlace s 0
+  pub turn-first : s .start ≡ turnPlace s 0
   turn-first =
       let R = s .solved .«reduced_period» in
-      let l : s .row .start < R = omega (arith, start-below (s .row) (h .table), h .enough) in
+      let l : s .start < R = omega (arith, h .start-below, h .enough) in
       sym
-      (ap (λ (x : ℕ). (s .row .start + x) % R) (sym (degree-start (s .solved .«generator_inverse») R))
-      ∙ ap (λ (x : ℕ). x % R) (add-zero (s .row .start))
+      (ap (λ (x : ℕ). (s .start + x) % R) (sym (degree-start (s .solved .«generator_inverse») R))
+      ∙ ap (λ (x : ℕ). x % R) (add-zero (s .start))
       ∙ mod-eq-of-lt l)
 
   pub turn-next : (t : ℕ) {p q : ℕ} → p ≡ turnPlace s t → q ≡ (p + s .solved .«generator_inverse») % s .solved .«reduced_period» → q ≡ turnPlace s (t + 1)
@@ -63,10 +63,10 @@ module _ (s : Speller) (h : Sound s) where
       let d = x * t % R in
       f
       ∙ ap (λ (y : ℕ). (y + x) % R) e
-      ∙ mod-add-mod (s .row .start + d) R x
-      ∙ ap (λ (y : ℕ). y % R) (let z : s .row .start + d + x ≡ d + x + s .row .start = omega arith in z)
-      ∙ add-cong R (s .row .start) (d + x) (x * (t + 1) % R) (degree-on x t R refl ∙ sym (mod-mod (x * (t + 1)) R))
-      ∙ ap (λ (y : ℕ). y % R) (add-comm (x * (t + 1) % R) (s .row .start))
+      ∙ mod-add-mod (s .start + d) R x
+      ∙ ap (λ (y : ℕ). y % R) (let z : s .start + d + x ≡ d + x + s .start = omega arith in z)
+      ∙ add-cong R (s .start) (d + x) (x * (t + 1) % R) (degree-on x t R refl ∙ sym (mod-mod (x * (t + 1)) R))
+      ∙ ap (λ (y : ℕ). y % R) (add-comm (x * (t + 1) % R) (s .start))
 
   -- the spellings there are those of the turn's degree
   pub turn-spelled : (t : ℕ) {p : ℕ} → p ≡ turnPlace s t → {c : Cycle} {a : Accidentals} → c ≡ cycleAt (s .solved .«num_cycles») 0

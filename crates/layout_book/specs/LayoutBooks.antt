@@ -9,11 +9,11 @@ use Rattle.layout.specs.Names.{nameIn}
 use Rattle.layout.specs.Answers.{ofLayout}
 
 -- "Writing a layout's book has count P": the names of the keys 0 to octave − 1.
-unfoldable pub bookIn : ℕ → ℕ → Layout → List ℕ
+unfoldable pub bookIn : Layout → List ℕ
 unfolding bookText nameIn
-bookIn code octave l = bookText (nameIn code octave l) octave
+bookIn l = bookText (nameIn l) (l .octave)
 
 -- Questions 1 to 4, then the book: what `write_book` writes, where there is room for it (10).
 unfoldable pub getBook : IsomorphicLayout → Outcome (List ℕ)
 unfolding layoutOutcome bookIn
-getBook r = ofLayout r (λ (l : Layout). given (bookIn (r .genchain) (r .octave) l))
+getBook r = ofLayout r (λ (l : Layout). given (bookIn l))

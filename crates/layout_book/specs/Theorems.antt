@@ -1,25 +1,25 @@
 -- What holds of the book of every accepted layout. Proofs: proofs/.
 use Prim.Native.Nat.{ℕ, _+_, _*_, _≤_, _<_}
 use lib.ListN.{length}
-use Rattle.answer.specs.Writing.{joined}
+use Rattle.text.specs.Writing.{joined}
 use Rattle.book.specs.Theorems.{ReadBack}
+use Rattle.layout.specs.declared.IsomorphicLayout.{IsomorphicLayout}
 use Rattle.layout.specs.Layouts.{Layout, Accepted}
 use Rattle.layout.specs.Names.{nameIn}
 use Rattle.layout_book.specs.LayoutBooks.{bookIn}
 
 -- "an offset and a length (4 bytes each ..)": the book is shorter than 2³², and every pair's end, offset plus length, lies in it.
-pub record Fits (code octave : ℕ) (l : Layout) : Type 0 where
-  pub whole : length (bookIn code octave l) < 4294967296
-  pub ends : (key : ℕ) → key < octave
-      → 4 + 8 * octave + length (joined (nameIn code octave l) key) + length (nameIn code octave l key) ≤ length (bookIn code octave l)
+pub record Fits (l : Layout) : Type 0 where
+  pub whole : length (bookIn l) < 4294967296
+  pub ends : (key : ℕ) → key < l .octave
+      → 4 + 8 * l .octave + length (joined (nameIn l) key) + length (nameIn l key) ≤ length (bookIn l)
 
 -- Theorem: for every accepted layout of a 16-bit octave, each offset and each length fits 32 bits.
 abbrev pub OffsetsFit : Type 0
 OffsetsFit =
-    (code octave tritave : ℕ) (l : Layout) → Accepted code octave tritave l → octave ≤ 65535 → Fits code octave l
+    (r : IsomorphicLayout) (l : Layout) → Accepted r l → l .octave ≤ 65535 → Fits l
 
 -- Theorem: what is written is accepted (questions 11 and 12) with P keys, and looking a key up gives exactly that key's name.
 abbrev pub WrittenBookIsRead : Type 0
 WrittenBookIsRead =
-    (code octave tritave : ℕ) (l : Layout) → Accepted code octave tritave l → octave ≤ 65535
-    → ReadBack (nameIn code octave l) octave (bookIn code octave l)
+    (r : IsomorphicLayout) (l : Layout) → Accepted r l → l .octave ≤ 65535 → ReadBack (nameIn l) (l .octave) (bookIn l)

@@ -3,15 +3,15 @@
 // Holds how long the book of an octave's key names is, and its writing into a lent slice; the crate `book` reads it.
 // specs/: LayoutBooks defines the book and what each call answers, Theorems says that every offset and length fits 32 bits
 // and that a written book is read back, name for name.
-// `parts` measures the names along the chain and plans each degree's name once. Every entry point answers every input.
+// `parts` plans each degree's name once; the crate `layout_speller` measures the names. Every entry point answers every input.
 // Nothing is assumed.
 pub mod parts;
 
 use answer::CountAnswer;
-use answer::Refusal;
 use genchain::rows;
 use layout::IsomorphicLayout;
 use layout::parts::FoundAnswer;
+use layout_speller::speller;
 ghost use mathlib.Core.Path.{_≡_};
 ghost use lib.ListN.{length};
 ghost use Rattle.answer.specs.Lent.{counted, Filled};
@@ -23,16 +23,12 @@ ghost use Rattle.layout_book.specs.LayoutBooks.{getBook};
 pub fn book_len(layout: IsomorphicLayout) -> CountAnswer
     ensures { λ r. ⌜ countOutcome r ≡ counted (getBook layout) ⌝ }
 {
-    let code = layout.genchain;
-    if 6 <= code {
-        return CountAnswer::Refused(Refusal::Chain);
-    }
-    let row = rows::row(code);
-    match layout::parts::find(layout, row.num_letters) {
+    let row = rows::row(layout.genchain);
+    match layout::parts::find(layout, row) {
         FoundAnswer::Refused(q) => CountAnswer::Refused(q),
         FoundAnswer::Given(found) => CountAnswer::Given(parts::book_length(
-            parts::speller_of(row, layout, found),
-            layout.octave,
+            speller::speller_of(row, found),
+            found.octave,
         )),
     }
 }
@@ -41,16 +37,12 @@ pub fn book_len(layout: IsomorphicLayout) -> CountAnswer
 pub fn write_book(layout: IsomorphicLayout, out: &mut [u8]) -> CountAnswer
     ensures { λ r. ⌜ Filled (inRoom (length (now (out .entry))) (getBook layout)) (countOutcome r) (now (out .entry)) (now (out .exit)) ⌝ }
 {
-    let code = layout.genchain;
-    if 6 <= code {
-        return CountAnswer::Refused(Refusal::Chain);
-    }
-    let row = rows::row(code);
-    match layout::parts::find(layout, row.num_letters) {
+    let row = rows::row(layout.genchain);
+    match layout::parts::find(layout, row) {
         FoundAnswer::Refused(q) => CountAnswer::Refused(q),
         FoundAnswer::Given(found) => parts::write_names(
-            parts::speller_of(row, layout, found),
-            layout.octave,
+            speller::speller_of(row, found),
+            found.octave,
             out,
         ),
     }

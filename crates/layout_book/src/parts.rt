@@ -1,51 +1,30 @@
-// A layout's names one after the other: parts, and no entry points. Callers have asked questions 1 to 4, and 10 before they write.
+// A layout's book: parts, and no entry points. Callers have asked questions 1 to 4, and 10 before they write.
 //
-// The chain's row is read once and the pergen solved once for all keys. The length is taken along the chain, in whole rounds where
-// it can be; the names are written turn by turn, each degree's planned once for all cycles.
+// The names are written turn by turn, each degree's planned once for all cycles.
 use answer::CountAnswer;
 use answer::Refusal;
-use book::writer::put_u32;
-use genchain::rows::ChainRow;
-use layout::IsomorphicLayout;
-use layout::parts::Found;
+use layout_speller::lengths;
+use layout_speller::speller::Speller;
+use layout_speller::speller::cycle_at;
 use notes::plans;
 use notes::plans::NamePlan;
 use notes::texts;
 use pergen::Accidentals;
-use pergen::AccidentalsFormat;
 use pergen::Cycle;
-use pergen::Generation;
-use pergen::euclid;
-use pergen::euclid::Solved;
 use pergen::stepping;
-use pergen::stepping::Step;
+use text::little_endian::put_u32;
 ghost use mathlib.Core.Path.{_≡_};
-ghost use Prim.Native.Nat.{ℕ, _+_, _*_, _-_, _/_, _%_, _<_, _≤_};
-ghost use mathlib.Core.List.{List, _++_};
+ghost use Prim.Native.Nat.{_+_, _*_, _/_, _<_, _≤_};
+ghost use mathlib.Core.List.{_++_};
 ghost use lib.ListN.{length};
 ghost use Rattle.answer.specs.Lent.{heldIn, Filled};
 ghost use Rattle.answer.specs.Refusals.{countOutcome};
-ghost use Rattle.answer.specs.Writing.{Room, Wrote, joined};
+ghost use Rattle.text.specs.Writing.{Room, Wrote, joined};
 ghost use Rattle.book.specs.Books.{pairText, bookText};
-ghost use Rattle.genchain.specs.Chains.{chainOf, rowOf, TableRow, lettersIn};
-ghost use Rattle.layout.specs.Layouts.{Accepted};
-ghost use Rattle.layout.specs.Parts.{layoutOf};
-ghost use Rattle.notes.specs.Names.{nameText};
-ghost use Rattle.notes.specs.Parts.{starredText, LettersOf, ShortLetters, Planned};
+ghost use Rattle.notes.specs.Parts.{starredText, ShortLetters};
 ghost use Rattle.pergen.specs.Spelling.{byCoordinates};
+ghost use Rattle.layout_speller.specs.Parts.{Sound, nameOf, flatBeside};
 ghost use Rattle.layout_book.specs.Parts.{
-  Sound,
-  SpellerOf,
-  OnWalk,
-  cycleAt,
-  spelledAt,
-  nameOf,
-  flatBeside,
-  bareAt,
-  letterIn,
-  Stretch,
-  stretchName,
-  NamesMeasured,
   Reciprocal,
   numbersText,
   starredPair,
@@ -53,187 +32,12 @@ ghost use Rattle.layout_book.specs.Parts.{
   Beside,
 };
 
-// What all names of a layout have in common.
-pub struct Speller {
-    pub row: ChainRow,
-    pub solved: Solved,
-    pub sharp_first: bool,
-}
-
-// The speller of an accepted layout.
-pub fn speller_of(row: ChainRow, layout: IsomorphicLayout, found: Found) -> Speller
-    requires { ⌜ (row ≡ rowOf (chainOf (layout .genchain))) × Accepted (layout .genchain) (layout .octave) (layout .tritave) (layoutOf found) ⌝ }
-    ensures { λ r. ⌜ SpellerOf (layout .genchain) (layout .octave) (layoutOf found) r ⌝ }
-{
-    let solved = euclid::solve(layout.octave, found.generator);
-    let pattern = found.pattern;
-    Speller {
-        row,
-        solved,
-        sharp_first: pattern.secondary_step <= pattern.primary_step,
-    }
-}
-
-// A carried cycle as a name has it: absent where there is only one.
-fn cycle_at(num_cycles: u16, cycle: u16) -> Cycle
-    ensures { λ r. ⌜ r ≡ cycleAt «num_cycles» cycle ⌝ }
-{
-    if 1 < num_cycles {
-        return Cycle::Number(cycle);
-    }
-    Cycle::Absent
-}
-
-// The plan of the name of the key where the walk stands.
-pub fn plan_at(speller: Speller, step: Step) -> NamePlan
-    requires { ⌜ Sound speller × OnWalk speller step ⌝ }
-    ensures { λ r. ⌜ Planned (lettersIn (speller .row)) (speller .«sharp_first») (spelledAt speller step) r ⌝ }
-{
-    let solved = speller.solved;
-    let row = speller.row;
-    let generation = Generation {
-        cycle: cycle_at(solved.num_cycles, step.cycle),
-        degree: step.degree,
-    };
-    let format = AccidentalsFormat {
-        num_symbols: row.num_letters,
-        genchain_origin: row.start,
-    };
-    let spelled = spelling::parts::accidentals(solved.reduced_period, format, generation);
-    plans::plan_name(row, spelled, speller.sharp_first)
-}
-
-// How many bytes the letters of a chain have together.
-fn letters_length(row: ChainRow) -> usize
-    requires { ⌜ TableRow row ⌝ }
-    ensures { λ r. ⌜ (r ≡ length (joined (letterIn row) (row .«num_letters»))) × (r ≤ 18) ⌝ }
-{
-    let letters = row.letters;
-    let mut total: usize = 0;
-    let mut index: u16 = 0;
-    while index < row.num_letters {
-        total += plans::letter_length(letters[index as usize]);
-        index += 1;
-    }
-    total
-}
-
-// The index of the letter after this one, or of the first.
-fn next_index(letters: u16, index: u16) -> u16
-    requires { ⌜ index < letters ⌝ }
-    ensures { λ r. ⌜ r ≡ (index + 1) % letters ⌝ }
-{
-    let next = index + 1;
-    if next < letters {
-        return next;
-    }
-    0
-}
-
-// 1 where the letters begin anew.
-fn carry(letters: u16, index: u16) -> u16
-    requires { ⌜ index < letters ⌝ }
-    ensures { λ r. ⌜ r ≡ (index + 1) / letters ⌝ }
-{
-    let next = index + 1;
-    if next < letters {
-        return 0;
-    }
-    1
-}
-
-// How many bytes a name has, by the letters at its two indices.
-fn spelled_length(
-    sharp_letter: u16,
-    flat_letter: u16,
-    spelled: Accidentals,
-    sharp_first: bool,
-) -> usize
-    requires { ⌜ («sharp_letter» < 2048) × («flat_letter» < 2048) ⌝ }
-    ensures { λ r. ⌜ ((letters : List ℕ) → LettersOf letters spelled «sharp_letter» «flat_letter» → r ≡ length (nameText letters «sharp_first» spelled)) ⌝ }
-{
-    let plan = plans::plan_letters(sharp_letter, flat_letter, spelled, sharp_first);
-    plans::plan_length(plan)
-}
-
-// How many bytes the names without stars have together, along the chain from a place with the first letter and `sharps` sharps
-// up to another. Indices and counts are carried from place to place.
-fn stretch_length(speller: Speller, sharps: u16, end: u16) -> usize
-    requires { ⌜ Sound speller × Stretch speller sharps end ⌝ }
-    ensures { λ r. ⌜ (r ≡ length (joined (stretchName speller sharps) (end - speller .row .«num_letters» * sharps))) × (r ≤ 39325 * 65535) ⌝ }
-{
-    let row = speller.row;
-    let code_points = row.letters;
-    let letters = row.num_letters;
-    let cycle = cycle_at(speller.solved.num_cycles, 0);
-    let mut place = letters * sharps;
-    let flat = speller.solved.reduced_period - place + (letters - 1);
-    let mut sharp_index: u16 = 0;
-    let mut sharp_count = sharps;
-    let mut flat_index = letters - 1 - flat % letters;
-    let mut flat_count = flat / letters;
-    let mut total: usize = 0;
-    while place < end {
-        let spelled = Accidentals {
-            cycle,
-            sharp_index,
-            sharp_count,
-            flat_index,
-            flat_count,
-        };
-        let sharp_letter = code_points[sharp_index as usize];
-        let flat_letter = code_points[flat_index as usize];
-        total += spelled_length(sharp_letter, flat_letter, spelled, speller.sharp_first);
-        sharp_count += carry(letters, sharp_index);
-        sharp_index = next_index(letters, sharp_index);
-        flat_count -= carry(letters, flat_index);
-        flat_index = next_index(letters, flat_index);
-        place += 1;
-    }
-    total
-}
-
-// How many rounds through the letters stand at each end of the chain with fewer signs of their own kind, the letters alone not counted.
-fn rounds_of(letters: u16, degrees: u16) -> u16
-    requires { ⌜ (0 < letters) × (letters ≤ degrees) ⌝ }
-    ensures { λ r. ⌜ letters * (2 * r + 1) ≤ degrees ⌝ }
-{
-    (degrees / letters - 1) / 2
-}
-
-// How many bytes the names of cycle 0 have together. Taken along the chain they are the letters alone, then rounds with one sharp,
-// two sharps and so on, and from the other end rounds with one flat, two flats and so on, each as long as the letters and their
-// signs; only the names in the middle, less than two rounds, are looked at one by one.
-fn bare_length(speller: Speller) -> usize
-    requires { ⌜ Sound speller ⌝ }
-    ensures { λ r. ⌜ r ≡ length (joined (bareAt speller) (speller .solved .«reduced_period»)) ⌝ }
-{
-    let letters = speller.row.num_letters;
-    let degrees = speller.solved.reduced_period;
-    let rounds = rounds_of(letters, degrees);
-    let middle = stretch_length(speller, rounds + 1, degrees - letters * rounds);
-    let alone = letters_length(speller.row);
-    let many = rounds as usize;
-    let signs = (letters as usize) * (many * (many + 1));
-    alone * (2 * many + 1) + signs + middle
-}
-
-// How many bytes the names of an octave's keys have together: in each cycle the bare names, and a star for each cycle before it.
-pub fn names_length(speller: Speller) -> usize
-    requires { ⌜ Sound speller ⌝ }
-    ensures { λ r. ⌜ NamesMeasured speller r ⌝ }
-{
-    let cycles = speller.solved.num_cycles as usize;
-    let degrees = speller.solved.reduced_period as usize;
-    cycles * bare_length(speller) + degrees * (cycles * (cycles - 1) / 2)
-}
-
 // How many bytes the book of an octave's keys has.
 pub fn book_length(speller: Speller, keys: u16) -> usize
     requires { ⌜ Sound speller × (keys ≡ speller .solved .«reduced_period» * speller .solved .«num_cycles») ⌝ }
     ensures { λ r. ⌜ r ≡ length (bookText (nameOf speller) keys) ⌝ }
 {
-    4 + 8 * (keys as usize) + names_length(speller)
+    4 + 8 * (keys as usize) + lengths::names_length(speller)
 }
 
 // An offset and a length; the place after them.
@@ -319,7 +123,7 @@ fn put_entries(out: &mut [u8], speller: Speller, keys: u16) -> usize
     let cycle = cycle_at(cycles, 0);
     let mut pair: usize = 4;
     let mut text = 4 + 8 * (keys as usize);
-    let mut place = row.start;
+    let mut place = speller.start;
     let mut turn: u16 = 0;
     while turn < degrees {
         let spelled = spelled_place(cycle, letters, reciprocal, degrees, place);

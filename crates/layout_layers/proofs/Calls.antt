@@ -18,10 +18,7 @@ use Rattle.layout_layers.specs.Answers.{getLayers, getLayerCount, getLay
 use Rattle.layout_layers.specs.Parts.{PlanOf, inverseOf, planNumber, totalOf, Fronted, planLayers}
 use Rattle.layout_layers.proofs.PlanLaws.{number-is, count-is, layers-are}
 
-abbrev asked : IsomorphicLayout → Outcome Layout
-asked r = layoutOutcome (r .genchain) (r .octave) (r .tritave)
-
-module _ (r : IsomorphicLayout) (n : ℕ) (e : refused n ≡ asked r) where
+module _ (r : IsomorphicLayout) (n : ℕ) (e : refused n ≡ layoutOutcome r) where
   pub layers-refused : refused n ≡ getLayers r
   unfolding getLayers
   layers-refused = of-refused r _ n e
@@ -37,20 +34,20 @@ module _ (r : IsomorphicLayout) (n : ℕ) (e : refused n ≡ asked r) where
   pub layers-not-written : (xs : List ℕ) → Filled (inRoom (length xs) (getLayers r)) (refused n) xs xs
   layers-not-written xs = filled-refused n xs (refused-in-room (length xs) n (getLayers r) layers-refused) refl
 
-module _ (r : IsomorphicLayout) (l : Layout) (e : given l ≡ asked r) (p : Plan) (k : PlanOf (r .genchain) (r .octave) l p) where
+module _ (r : IsomorphicLayout) (l : Layout) (e : given l ≡ layoutOutcome r) (p : Plan) (k : PlanOf l p) where
   pub layers-given : given (planLayers p) ≡ getLayers r
   unfolding getLayers
-  layers-given = ap given (layers-are (r .genchain) (r .octave) l p k (parts-of r l e .positive)) ∙ of-given r _ l e
+  layers-given = ap given (layers-are l p k (parts-of r l e .positive)) ∙ of-given r _ l e
 
   pub count-given : (T : ℕ) → T ≡ totalOf p → given T ≡ getLayerCount r
   unfolding getLayerCount
-  count-given T q = ap given (q ∙ count-is (r .genchain) (r .octave) l p k) ∙ of-given r _ l e
+  count-given T q = ap given (q ∙ count-is l p k) ∙ of-given r _ l e
 
   pub layer-given : (key j : ℕ) → j ≡ planNumber p key → given j ≡ getLayer r key
   unfolding getLayer
-  layer-given key j q = ap given (q ∙ number-is (r .genchain) (r .octave) l p k key) ∙ of-given r _ l e
+  layer-given key j q = ap given (q ∙ number-is l p k key) ∙ of-given r _ l e
 
-  pub inverse-given : (s : Solved) → s ≡ solvedOf (r .octave) (l .generator) → s .«generator_inverse» ≡ inverseOf (p .chain)
+  pub inverse-given : (s : Solved) → s ≡ solvedOf (l .octave) (l .generator) → s .«generator_inverse» ≡ inverseOf (p .chain)
   unfolding solvedOf
   inverse-given s q = ap (λ (x : Solved). x .«generator_inverse») q ∙ sym (k .inverse-is)
 

@@ -7,13 +7,13 @@ use native.Mathlib.Nat.{add-comm, mul-add, add-mul, mul-assoc, mul-comm, mul-lef
 use native.Mathlib.Decide.{decLt}
 use native.Mathlib.Omega.{arith}
 use lib.ListN.{length, getD, replicate, length-replicate}
-use Rattle.answer.specs.Writing.{joined}
-use Rattle.answer.proofs.Joined.{joined-none}
-use Rattle.layers.specs.declared.Runs.{Runs}
-use Rattle.layers.specs.Layers.{dropEmpty}
-use Rattle.layers.specs.Parts.{runAt, runSizes}
-use Rattle.layers.specs.Theorems.{sum}
-use Rattle.layers.proofs.Sizes.{drop-all}
+use Rattle.text.specs.Writing.{joined}
+use Rattle.text.proofs.Joined.{joined-none}
+use Rattle.mos_layers.specs.declared.Runs.{Runs}
+use Rattle.mos_layers.specs.Layers.{dropEmpty}
+use Rattle.mos_layers.specs.Parts.{runAt, runSizes}
+use Rattle.mos_layers.specs.Theorems.{sum}
+use Rattle.mos_layers.proofs.Sizes.{drop-all}
 use Rattle.math.proofs.Congruence.{add-cong, add-cancel, mul-cong}
 use Rattle.pergen.proofs.CarriedWalk.{turn-stays, turn-wraps}
 use Rattle.layout_layers.specs.declared.chain.Chain.{Chain}

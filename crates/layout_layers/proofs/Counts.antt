@@ -7,7 +7,6 @@ use native.Mathlib.Nat.{mul-zero, mul-one, mul-suc, suc-mul, mul-assoc, mul-le-m
 use native.Mathlib.Decide.{decLt}
 use native.Mathlib.Omega.{arith}
 use lib.ListN.{length}
-use Rattle.genchain.specs.Chains.{chainOf}
 use Rattle.mos.specs.declared.Mos.{Mos}
 use Rattle.mos.specs.Patterns.{pick}
 use Rattle.pergen.specs.Pergen.{cycles, reduced}
@@ -15,9 +14,10 @@ use Rattle.pergen.specs.Spelling.{starsOf}
 use Rattle.pergen.proofs.Inverse.{period-is, cycles-positive}
 use Rattle.pergen.proofs.Keys.{cycle-below}
 use Rattle.pergen.proofs.DegreePlaces.{stars-are, few-signs}
-use Rattle.layers.specs.Layers.{layerSizes}
-use Rattle.layers.proofs.Theorems.{enough-layers}
-use Rattle.layout.specs.Layouts.{Layout, lettersOf, Accepted, accidentalsIn}
+use Rattle.mos_layers.specs.Layers.{layerSizes}
+use Rattle.mos_layers.proofs.Theorems.{enough-layers}
+use Rattle.layout.specs.declared.IsomorphicLayout.{IsomorphicLayout}
+use Rattle.layout.specs.Layouts.{Layout, Accepted, accidentalsIn}
 use Rattle.layout.proofs.Finding.{Parts, accepted}
 use Rattle.layout.proofs.PatternShape.{PatternShape, pattern-shape}
 use Rattle.layout_layers.specs.KeyLayers.{equalized, layerCount, countIn}
@@ -29,7 +29,10 @@ sum-by-product : (a b : ℕ) → 0 < a → 0 < b → a + b ≤ a * b + 1
 sum-by-product zero b h k = absurd (let z : ⊥ = omega arith in z)
 sum-by-product (suc a) b h k = omega (arith, suc-mul a b, mul-le-mul-left a k, mul-one a)
 
-module _ (code P tritave : ℕ) (l : Layout) (ok : Accepted code P tritave l) where
+module _ (r : IsomorphicLayout) (l : Layout) (ok : Accepted r l) where
+  abbrev P : ℕ
+  P = l .octave
+
   abbrev G : ℕ
   G = l .generator
 
@@ -37,23 +40,23 @@ module _ (code P tritave : ℕ) (l : Layout) (ok : Accepted code P tritave l) wh
   m = l .pattern
 
   abbrev N : ℕ
-  N = lettersOf code
+  N = l .letters
 
   -- the layers of one cycle
   abbrev layers : ℕ
   layers = pick (equalized m) 2 (length (layerSizes m))
 
-  parts : Parts code P tritave l
-  parts = accepted code P tritave l ok
+  parts : Parts l
+  parts = accepted r l ok
 
-  shape : PatternShape code P l
-  shape = pattern-shape code P tritave l parts
+  shape : PatternShape l
+  shape = pattern-shape l parts
 
   layers-cover : reduced P G ≤ N * layers
   layers-cover = by (equalized m) refl
     where
       by : (b : Bool) → equalized m ≡ b → reduced P G ≤ N * pick b 2 (length (layerSizes m))
-      by true t = omega (arith, equal-steps code P tritave l ok t)
+      by true t = omega (arith, equal-steps r l ok t)
       by false t =
           omega (arith, enough-layers m, shape .reduced-is, ap (λ (k : ℕ). k * length (layerSizes m)) (shape .letters))
 
@@ -66,7 +69,7 @@ module _ (code P tritave : ℕ) (l : Layout) (ok : Accepted code P tritave l) wh
           let none : N * layers ≡ N * 0 = ap (λ (k : ℕ). N * k) (let e : layers ≡ 0 = omega arith in e) in
           absurd (let z : ⊥ = omega (arith, none, mul-zero N, layers-cover, shape .at-least-five, shape .enough-keys) in z)
 
-  keys-most : P ≤ N * countIn P l
+  keys-most : P ≤ N * countIn l
   unfolding layerCount
   keys-most =
       omega (arith, period-is P G (parts .positive), mul-le-mul-right (cycles P G) layers-cover, mul-assoc N layers (cycles P G))
@@ -79,20 +82,20 @@ module _ (code P tritave : ℕ) (l : Layout) (ok : Accepted code P tritave l) wh
       by (yes more) = absurd (let z : ⊥ = omega (arith, layers-cover, mul-le-mul-left N more, mul-suc N layers) in z)
       by (no few) = omega arith
 
-  signs-most : (key : ℕ) → (accidentalsIn code P l key) .«sharp_count» + (accidentalsIn code P l key) .«flat_count» + starsOf ((accidentalsIn code P l key) .cycle)
-      ≤ countIn P l
+  signs-most : (key : ℕ) → (accidentalsIn l key) .«sharp_count» + (accidentalsIn l key) .«flat_count» + starsOf ((accidentalsIn l key) .cycle)
+      ≤ countIn l
   unfolding accidentalsIn layerCount
   signs-most key =
       omega (
         arith,
-        signs-few _ (few-signs P G N (chainOf code .start) key (parts .positive) (shape .start-below) (shape .enough-keys)),
-        stars-are P G N (chainOf code .start) key (parts .positive) (shape .start-below),
+        signs-few _ (few-signs P G N (l .start) key (parts .positive) (shape .start-below) (shape .enough-keys)),
+        stars-are P G N (l .start) key (parts .positive) (shape .start-below),
         cycle-below P G (parts .positive) key,
         sum-by-product layers (cycles P G) some-layers (cycles-positive P G (parts .positive)),
       )
 
 pub keys-by-count : KeysByCount
-keys-by-count code P tritave l ok = keys-most code P tritave l ok
+keys-by-count r l ok = keys-most r l ok
 
 pub signs-by-count : SignsByCount
-signs-by-count code P tritave l ok key = signs-most code P tritave l ok key
+signs-by-count r l ok key = signs-most r l ok key

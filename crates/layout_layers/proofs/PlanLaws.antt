@@ -8,27 +8,26 @@ use native.Mathlib.Omega.{arith}
 use lib.ListN.{length, getD}
 use lib.Dec.{eqb}
 use borrow.Author.Tests.{eq-eqb, ne-eqb, lt-ltb, le-ltb}
-use Rattle.answer.specs.Writing.{joined}
-use Rattle.answer.proofs.Joined.{joined-same}
-use Rattle.genchain.specs.Chains.{chainOf, rowOf}
-use Rattle.genchain.specs.declared.rows.ChainRow.{ChainRow}
+use Rattle.text.specs.Writing.{joined}
+use Rattle.text.proofs.Joined.{joined-same}
 use Rattle.mos.specs.Patterns.{pick, primaries, secondaries, primary, secondary, isPattern, cyclesOf}
 use Rattle.mos.proofs.Sizes.{fits-pattern}
 use Rattle.math.specs.Gcd.{gcdOrOne}
-use Rattle.pergen.specs.Pergen.{cycles, reduced, degree, cycle}
+use Rattle.pergen.specs.Pergen.{reduced, degree, cycle}
 use Rattle.pergen.proofs.Inverse.{period-is, cycles-positive}
 use Rattle.pergen.proofs.CarriedWalk.{turn-stays, turn-wraps}
-use Rattle.layers.specs.declared.Runs.{Runs}
-use Rattle.layers.specs.Layers.{dropEmpty, numbered, layerSizes, layersOf}
-use Rattle.layers.specs.Parts.{runSizes}
-use Rattle.layers.specs.Theorems.{sum}
-use Rattle.layers.proofs.Sizes.{few, sum-drop}
-use Rattle.layers.proofs.Plans.{all-sum}
-use Rattle.layers.proofs.Theorems as Sums
-use Rattle.layers.proofs.Theorems.{code-cycles}
-use Rattle.layers.proofs.Answers.{RunsOf}
-use Rattle.layout.specs.Layouts.{Layout, lettersOf, Accepted}
-use Rattle.layout.proofs.Finding.{Parts, accepted}
+use Rattle.mos_layers.specs.declared.Runs.{Runs}
+use Rattle.mos_layers.specs.Layers.{dropEmpty, numbered, layerSizes, layersOf}
+use Rattle.mos_layers.specs.Parts.{runSizes}
+use Rattle.mos_layers.specs.Theorems.{sum}
+use Rattle.mos_layers.proofs.Sizes.{few, sum-drop}
+use Rattle.mos_layers.proofs.Plans.{all-sum}
+use Rattle.mos_layers.proofs.Theorems as Sums
+use Rattle.mos_layers.proofs.Theorems.{code-cycles}
+use Rattle.mos_layers.proofs.Answers.{RunsOf}
+use Rattle.layout.specs.Layouts.{Layout, cyclesIn, reducedIn}
+use Rattle.layout.specs.Parts.{Laid}
+use Rattle.layout.proofs.Finding.{Parts, laid}
 use Rattle.layout.proofs.PatternShape.{PatternShape, pattern-shape}
 use Rattle.layout_layers.specs.declared.parts.Plan.{Plan}
 use Rattle.layout_layers.specs.declared.Layer.the-variants.{Natural, Sharp, Enharmonic, Flat}
@@ -179,21 +178,13 @@ module _ (p : Plan) (sound : Sound p) where
 
 -- ---- the plan of a layout
 
-pub row-start-is : (code : ℕ) (row : ChainRow) → row ≡ rowOf (chainOf code) → row .start ≡ chainOf code .start
-unfolding rowOf
-row-start-is code row e = ap (λ (x : ChainRow). x .start) e
-
-pub row-letters-are : (code : ℕ) (row : ChainRow) → row ≡ rowOf (chainOf code) → row .«num_letters» ≡ lettersOf code
-unfolding rowOf
-row-letters-are code row e = ap (λ (x : ChainRow). x .«num_letters») e
-
-abbrev planWith : Layout → (n R a h : ℕ) → Runs → ChainRow → Plan
-planWith l n R a h runs row =
+abbrev planWith : Layout → (n R a h : ℕ) → Runs → Plan
+planWith l n R a h runs =
     record {
-      chain = record { «num_cycles» = n; «reduced_period» = R; advance = a; start = row .start };
+      chain = record { «num_cycles» = n; «reduced_period» = R; advance = a; start = l .start };
       runs = runs;
       offset = h;
-      letters = row .«num_letters»;
+      letters = l .letters;
       secondaries = secondaries (l .pattern);
       equalized = eqb (primary (l .pattern)) (secondary (l .pattern));
     }
@@ -202,42 +193,47 @@ pub pick-most : (b : Bool) (u v m : ℕ) → u ≤ m → v ≤ m → pick b u v 
 pick-most true u v m h k = h
 pick-most false u v m h k = k
 
-module _ (code P tritave : ℕ) (l : Layout) (ok : Accepted code P tritave l) where
-  pub plan-parts : Parts code P tritave l
-  plan-parts = accepted code P tritave l ok
+module _ (l : Layout) (ok : Laid l) where
+  abbrev P : ℕ
+  P = l .octave
 
-  pub plan-shape : PatternShape code P l
-  plan-shape = pattern-shape code P tritave l plan-parts
+  abbrev G : ℕ
+  G = l .generator
+
+  pub plan-parts : Parts l
+  plan-parts = laid l ok
+
+  pub plan-shape : PatternShape l
+  plan-shape = pattern-shape l plan-parts
 
   module _ (fits : P ≤ 65535) where
     pub plan-pattern : isPattern (l .pattern) ≡ true
     plan-pattern = fits-pattern (l .pattern) (omega (arith, plan-shape .size))
 
-    module _ (row : ChainRow) (chosen : row ≡ rowOf (chainOf code)) (n : ℕ) (divisor : n ≡ gcdOrOne (primary (l .pattern)) (secondary (l .pattern))) where
+    module _ (n : ℕ) (divisor : n ≡ gcdOrOne (primary (l .pattern)) (secondary (l .pattern))) where
       pub runs-room : (isPattern (l .pattern) ≡ true) × (n ≡ cyclesOf (l .pattern))
       runs-room = (plan-pattern, code-cycles (l .pattern) n divisor)
 
-      number-of-cycles : n ≡ cycles P (l .generator)
+      number-of-cycles : n ≡ cyclesIn l
       number-of-cycles = code-cycles (l .pattern) n divisor ∙ plan-shape .cycles-are
 
       pub some-divisor : 0 < n
-      some-divisor = subst (λ (k : ℕ). 0 < k) (sym number-of-cycles) (cycles-positive P (l .generator) (plan-parts .positive))
+      some-divisor = subst (λ (k : ℕ). 0 < k) (sym number-of-cycles) (cycles-positive P G (plan-parts .positive))
 
-      pub offset-room : (0 < n) × (row .start ≤ 8)
-      offset-room =
-          (some-divisor, omega (arith, row-start-is code row chosen, plan-shape .start-below, plan-shape .at-most-nine))
+      pub offset-room : (0 < n) × (l .start ≤ 8)
+      offset-room = (some-divisor, omega (arith, plan-shape .start-below, plan-shape .at-most-nine))
 
-      module _ (R : ℕ) (divided : R ≡ P / n) (step : ℕ) (rest : step ≡ l .generator % P) (a : ℕ) (divided-step : a ≡ step / n) where
-        period-of-cycle : R ≡ reduced P (l .generator)
+      module _ (R : ℕ) (divided : R ≡ P / n) (step : ℕ) (rest : step ≡ G % P) (a : ℕ) (divided-step : a ≡ step / n) where
+        period-of-cycle : R ≡ reducedIn l
         unfolding reduced
         period-of-cycle = divided ∙ ap (λ (k : ℕ). P / k) number-of-cycles
 
-        advance-of-cycle : a ≡ l .generator % P / cycles P (l .generator)
+        advance-of-cycle : a ≡ G % P / cyclesIn l
         advance-of-cycle = divided-step ∙ ap₂ (λ (x y : ℕ). x / y) rest number-of-cycles
 
-        module _ (runs : Runs) (runs-are : RunsOf (l .pattern) runs) (h : ℕ) (offset : (h ≡ l .generator * row .start / n) × (h ≤ 524280)) where
+        module _ (runs : Runs) (runs-are : RunsOf (l .pattern) runs) (h : ℕ) (offset : (h ≡ G * l .start / n) × (h ≤ 524280)) where
           abbrev plan : Plan
-          plan = planWith l n R a h runs row
+          plan = planWith l n R a h runs
 
           runs-sum : sum (runSizes runs) ≡ R
           runs-sum =
@@ -255,60 +251,60 @@ module _ (code P tritave : ℕ) (l : Layout) (ok : Accepted code P tritave l) wh
 
           keys-few : R * n ≤ 65535
           keys-few =
-              omega (arith, ap₂ (λ (x y : ℕ). x * y) period-of-cycle number-of-cycles, period-is P (l .generator) (plan-parts .positive))
+              omega (arith, ap₂ (λ (x y : ℕ). x * y) period-of-cycle number-of-cycles, period-is P G (plan-parts .positive))
 
           sound-plan : Sound plan
           sound-plan =
               record {
-                unbroken = chain-unbroken P (l .generator) (plan-parts .positive) (plan .chain) number-of-cycles period-of-cycle advance-of-cycle
-                    (omega (arith, row-start-is code row chosen, plan-shape .start-below, plan-shape .enough-keys));
+                unbroken = chain-unbroken P G (plan-parts .positive) (plan .chain) number-of-cycles period-of-cycle advance-of-cycle
+                    (omega (arith, plan-shape .start-below, plan-shape .enough-keys));
                 runs-fill = runs-sum;
-                some-letters = omega (arith, row-letters-are code row chosen, plan-shape .at-least-five);
+                some-letters = omega (arith, plan-shape .at-least-five);
                 few-secondaries = omega (arith, plan-shape .letters, plan-shape .at-most-nine);
                 near-offset = offset .1;
                 layers-fit = omega (arith, mul-le-mul-right n layers-few, keys-few);
                 keys-fit = keys-few;
               }
 
-          pub plan-made : PlanOf code P l plan
+          pub plan-made : PlanOf l plan
           plan-made =
               record {
                 sound = sound-plan;
                 cycles-are = number-of-cycles;
                 period-is = period-of-cycle;
-                inverse-is = chain-inverse P (l .generator) (plan-parts .positive) (plan .chain) number-of-cycles period-of-cycle advance-of-cycle;
-                start-is = row-start-is code row chosen;
-                letters-are = row-letters-are code row chosen;
+                inverse-is = chain-inverse P G (plan-parts .positive) (plan .chain) number-of-cycles period-of-cycle advance-of-cycle;
+                start-is = refl;
+                letters-are = refl;
                 secondaries-are = refl;
-                offset-is = offset .0 ∙ ap₂ (λ (x y : ℕ). l .generator * x / y) (row-start-is code row chosen) number-of-cycles;
+                offset-is = offset .0 ∙ ap (λ (k : ℕ). G * l .start / k) number-of-cycles;
                 equalized-is = refl;
                 runs-are = runs-are;
               }
 
 -- ---- what follows from it
 
-module _ (code P : ℕ) (l : Layout) (p : Plan) (k : PlanOf code P l p) where
-  pub number-is : (i : ℕ) → planNumber p i ≡ numberIn code P l i
+module _ (l : Layout) (p : Plan) (k : PlanOf l p) where
+  pub number-is : (i : ℕ) → planNumber p i ≡ numberIn l i
   unfolding turnLayer placeOf runLayer layerNumber layerOf alternateLayer listedLayer degree cycle layersOf layerSizes
   number-is i =
       simp (k .cycles-are, k .period-is, k .inverse-is, k .start-is, k .letters-are, k .secondaries-are, k .offset-is, k .equalized-is, k .runs-are)
 
-  pub count-is : totalOf p ≡ countIn P l
+  pub count-is : totalOf p ≡ countIn l
   unfolding layerCount layerSizes
   count-is = simp (k .cycles-are, k .equalized-is, k .runs-are)
 
-  pub keys-are : 0 < P → keysOf (p .chain) ≡ P
-  keys-are some = ap₂ (λ (x y : ℕ). x * y) (k .period-is) (k .cycles-are) ∙ sym (period-is P (l .generator) some)
+  pub keys-are : 0 < l .octave → keysOf (p .chain) ≡ l .octave
+  keys-are some = ap₂ (λ (x y : ℕ). x * y) (k .period-is) (k .cycles-are) ∙ sym (period-is (l .octave) (l .generator) some)
 
-  turns-fill : 0 < P → turnsOf p * p .chain .«num_cycles» ≡ entryCount P (l .pattern)
+  turns-fill : 0 < l .octave → turnsOf p * p .chain .«num_cycles» ≡ entryCount (l .octave) (l .pattern)
   turns-fill some = ap (λ (b : Bool). pick b (2 * p .chain .«reduced_period») (p .chain .«reduced_period») * p .chain .«num_cycles») (k .equalized-is) ∙ go (equalized (l .pattern))
     where
-      go : (b : Bool) → pick b (2 * p .chain .«reduced_period») (p .chain .«reduced_period») * p .chain .«num_cycles» ≡ pick b (2 * P) P
+      go : (b : Bool) → pick b (2 * p .chain .«reduced_period») (p .chain .«reduced_period») * p .chain .«num_cycles» ≡ pick b (2 * l .octave) (l .octave)
       go true = mul-assoc 2 (p .chain .«reduced_period») (p .chain .«num_cycles») ∙ ap (λ (x : ℕ). 2 * x) (keys-are some)
       go false = keys-are some
 
-  pub layers-are : 0 < P → planLayers p ≡ layersIn code P l
+  pub layers-are : 0 < l .octave → planLayers p ≡ layersIn l
   unfolding keyLayers
   layers-are some =
-      joined-same (λ i. planNumber p i ∷ []) (λ i. numberIn code P l i ∷ []) (turnsOf p * p .chain .«num_cycles») (λ i h. ap (λ (x : ℕ). x ∷ []) (number-is i))
-      ∙ ap (joined (λ i. numberIn code P l i ∷ [])) (turns-fill some)
+      joined-same (λ i. planNumber p i ∷ []) (λ i. numberIn l i ∷ []) (turnsOf p * p .chain .«num_cycles») (λ i h. ap (λ (x : ℕ). x ∷ []) (number-is i))
+      ∙ ap (joined (λ i. numberIn l i ∷ [])) (turns-fill some)

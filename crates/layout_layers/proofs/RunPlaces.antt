@@ -9,13 +9,13 @@ use lib.ListN.{length, getD, replicate, length-replicate, getD-replicate, List·
 use lib.Seq.{getD-append-add}
 use lib.Dec.{ltb}
 use borrow.Author.Tests.{ltb-true, ltb-false}
-use Rattle.answer.specs.Writing.{joined}
-use Rattle.answer.proofs.Joined.{joined-more, joined-add, length-joined-le}
-use Rattle.layers.specs.Layers.{dropEmpty, numbered}
-use Rattle.layers.specs.Theorems.{sum}
-use Rattle.layers.proofs.Sizes.{sum-append, sum-replicate, sum-drop, sum-joined-more, sum-joined-le, drop-append, drop-all, drop-joined, few, count-more, numbered-append, length-numbered}
-use Rattle.layers.specs.declared.Runs.{Runs}
-use Rattle.layers.specs.Parts.{runAt, runSizes}
+use Rattle.text.specs.Writing.{joined}
+use Rattle.text.proofs.Joined.{joined-more, joined-add, length-joined-le}
+use Rattle.mos_layers.specs.Layers.{dropEmpty, numbered}
+use Rattle.mos_layers.specs.Theorems.{sum}
+use Rattle.mos_layers.proofs.Sizes.{sum-append, sum-replicate, sum-drop, sum-joined-more, sum-joined-le, drop-append, drop-all, drop-joined, few, count-more, numbered-append, length-numbered}
+use Rattle.mos_layers.specs.declared.Runs.{Runs}
+use Rattle.mos_layers.specs.Parts.{runAt, runSizes}
 use Rattle.layout_layers.specs.Parts.{runLayer}
 
 -- ---- in a list of numbered layers

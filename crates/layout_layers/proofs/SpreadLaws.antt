@@ -12,8 +12,8 @@ use lib.Dec.{eqb}
 use lib.ListN.{length, getD, set, drop, length-set, length-append, length-drop, List·getD-append}
 use lib.Seq.{getD-set-same, getD-set-other, getD-append-add, getD-append-seam, getD-drop, ext-getD}
 use borrow.Author.Tests.{eqb-true, eqb-false}
-use Rattle.answer.specs.Writing.{joined}
-use Rattle.answer.proofs.Joined.{length-joined-each}
+use Rattle.text.specs.Writing.{joined}
+use Rattle.text.proofs.Joined.{length-joined-each}
 use Rattle.layout_layers.specs.Parts.{Spread, InTurn, InTurns, listed, Fronted}
 
 -- ---- any stores

@@ -7,24 +7,24 @@ use mathlib.Core.List.{List, [], _∷_, _++_, reverse}
 use native.Mathlib.Nat.{mod-lt, mod-eq-of-lt, add-mod-mod, add-mod-right, add-zero, zero-div, zero-mod, zero-add, mul-zero, zero-mul, one-mul, div-add-mod', div-lt-iff-lt-mul, mul-le-mul-right, le-div-iff-mul-le, le-of-dvd, dvd-refl, dvd-antisymm, add-mul, mul-assoc, mul-comm, mul-div-cancel, add-mul-div-right, add-mul-mod-self-right, add-mul-mod-self-left}
 use native.Mathlib.Omega.{arith}
 use lib.ListN.{length, getD, replicate, length-replicate, getD-replicate, List·getD-append}
-use Rattle.answer.proofs.Joined.{length-joined-each}
+use Rattle.text.proofs.Joined.{length-joined-each}
 use lib.Dec.{eqb}
 use borrow.Author.Tests.{eqb-true}
 use Rattle.math.specs.Gcd.{gcdOrOne}
 use Rattle.math.proofs.Gcd.{gcd-is, gcd-positive, gcd-or-one, gcd-or-one-positive, gcd-or-one-left, gcd-or-one-right}
-use Rattle.genchain.specs.Chains.{chainOf}
 use Rattle.mos.specs.declared.Mos.{Mos}
 use Rattle.mos.specs.Patterns.{pick, primaries, secondaries, primary, secondary, countOf, sizeOf, cyclesOf, reducedSizeOf}
 use Rattle.pergen.specs.Pergen.{cycles, reduced, degree, cycle, inverse}
 use Rattle.pergen.proofs.Inverse.{period-is, cycles-positive, reduced-positive}
 use Rattle.pergen.proofs.Keys.{cycle-below, degree-and-cycle-tell-keys-apart}
 use Rattle.pergen.proofs.CarriedWalk.{keyWith, key-with-below, key-with-cycle, key-with-degree}
-use Rattle.layers.specs.Layers.{holding, sharps, allSizes, dropEmpty, numbered, layerSizes, layersOf}
-use Rattle.layers.specs.Theorems.{sum}
-use Rattle.layers.proofs.Sizes.{few, sum-drop}
-use Rattle.layers.proofs.Plans.{holding-both}
-use Rattle.layers.proofs.Theorems.{layer-sizes-sum}
-use Rattle.layout.specs.Layouts.{Layout, lettersOf, Accepted}
+use Rattle.mos_layers.specs.Layers.{holding, sharps, allSizes, dropEmpty, numbered, layerSizes, layersOf}
+use Rattle.mos_layers.specs.Theorems.{sum}
+use Rattle.mos_layers.proofs.Sizes.{few, sum-drop}
+use Rattle.mos_layers.proofs.Plans.{holding-both}
+use Rattle.mos_layers.proofs.Theorems.{layer-sizes-sum}
+use Rattle.layout.specs.declared.IsomorphicLayout.{IsomorphicLayout}
+use Rattle.layout.specs.Layouts.{Layout, Accepted}
 use Rattle.layout.proofs.Finding.{Parts, accepted}
 use Rattle.layout.proofs.PatternShape.{PatternShape, pattern-shape}
 use Rattle.layout_layers.specs.KeyLayers.{equalized, entryCount, listedLayer, alternating, alternateLayer, layerOf, layerNumber, keyLayers, layerCount, numberIn, layersIn, countIn}
@@ -34,8 +34,8 @@ use Rattle.layout_layers.proofs.PlanLaws.{alternating-below, alternatin
 
 pub entries-are-counted : EntriesAreCounted
 unfolding keyLayers
-entries-are-counted code octave l =
-    length-joined-each (λ i. numberIn code octave l i ∷ []) 1 (λ i. refl) (entryCount octave (l .pattern)) ∙ one-mul _
+entries-are-counted l =
+    length-joined-each (λ i. numberIn l i ∷ []) 1 (λ i. refl) (entryCount (l .octave) (l .pattern)) ∙ one-mul _
 
 sizes-few : (m : Mos) → length (layerSizes m) ≤ reducedSizeOf m
 unfolding layerSizes
@@ -55,20 +55,23 @@ alternating-again N s h q some =
     (ap (λ (k : ℕ). k / N) on ∙ add-mul-div-right ((q + h) * s) (2 * s) some)
     ∙ ap (λ (k : ℕ). pick (eqb (h * s / N % 2) k) 0 1) (add-mul-mod-self-left ((q + h) * s / N) 2 s)
 
-module _ (code P tritave : ℕ) (l : Layout) (ok : Accepted code P tritave l) where
+module _ (r : IsomorphicLayout) (l : Layout) (ok : Accepted r l) where
+  abbrev P : ℕ
+  P = l .octave
+
   abbrev G : ℕ
   G = l .generator
 
   abbrev m : Mos
   m = l .pattern
 
-  parts : Parts code P tritave l
-  parts = accepted code P tritave l ok
+  parts : Parts l
+  parts = accepted r l ok
 
-  shape : PatternShape code P l
-  shape = pattern-shape code P tritave l parts
+  shape : PatternShape l
+  shape = pattern-shape l parts
 
-  fits : countIn P l ≤ P
+  fits : countIn l ≤ P
   unfolding layerCount
   fits =
       let most : pick (equalized m) 2 (length (layerSizes m)) ≤ reduced P G
@@ -76,23 +79,23 @@ module _ (code P tritave : ℕ) (l : Layout) (ok : Accepted code P tritave l) wh
       omega (arith, mul-le-mul-right (cycles P G) most, period-is P G (parts .positive))
 
   -- a place of the list
-  place-in : (i : ℕ) → (chainOf code .start + degree P G i) % reduced P G < sum (layerSizes m)
+  place-in : (i : ℕ) → (l .start + degree P G i) % reduced P G < sum (layerSizes m)
   place-in i =
-      subst (λ (k : ℕ). (chainOf code .start + degree P G i) % reduced P G < k) (sym (layer-sizes-sum m ∙ shape .reduced-is)) (mod-lt _ (reduced-positive P G (parts .positive)))
+      subst (λ (k : ℕ). (l .start + degree P G i) % reduced P G < k) (sym (layer-sizes-sum m ∙ shape .reduced-is)) (mod-lt _ (reduced-positive P G (parts .positive)))
 
-  layer-in : (i : ℕ) → layerOf P G (lettersOf code) (chainOf code .start) m i < pick (equalized m) 2 (length (layerSizes m))
+  layer-in : (i : ℕ) → layerOf P G (l .letters) (l .start) m i < pick (equalized m) 2 (length (layerSizes m))
   unfolding layerOf alternateLayer listedLayer layersOf
   layer-in i =
-      pick-below (equalized m) _ _ 2 (length (layerSizes m)) (alternating-below (lettersOf code) (secondaries m) (G * chainOf code .start / cycles P G) (i / cycles P G))
-      (subst (λ (k : ℕ). getD (numbered 0 (layerSizes m)) ((chainOf code .start + degree P G i) % reduced P G) 0 < k) (zero-add (length (layerSizes m)))
-      (numbered-below 0 (layerSizes m) ((chainOf code .start + degree P G i) % reduced P G) (place-in i)))
+      pick-below (equalized m) _ _ 2 (length (layerSizes m)) (alternating-below (l .letters) (secondaries m) (G * l .start / cycles P G) (i / cycles P G))
+      (subst (λ (k : ℕ). getD (numbered 0 (layerSizes m)) ((l .start + degree P G i) % reduced P G) 0 < k) (zero-add (length (layerSizes m)))
+      (numbered-below 0 (layerSizes m) ((l .start + degree P G i) % reduced P G) (place-in i)))
 
-  below : (i : ℕ) → numberIn code P l i < countIn P l
+  below : (i : ℕ) → numberIn l i < countIn l
   unfolding layerNumber layerCount
   below i =
       omega (
         arith,
-        block-fits (layerOf P G (lettersOf code) (chainOf code .start) m i) (pick (equalized m) 2 (length (layerSizes m))) (cycles P G) (layer-in i),
+        block-fits (layerOf P G (l .letters) (l .start) m i) (pick (equalized m) 2 (length (layerSizes m))) (cycles P G) (layer-in i),
         cycle-below P G (parts .positive) i,
       )
 
@@ -101,7 +104,7 @@ module _ (code P tritave : ℕ) (l : Layout) (ok : Accepted code P tritave l) wh
   divided : (x : ℕ) → 0 < x → (g : ℕ) → 0 < g → g ≤ x → 0 < x / g
   divided x h g k b = le-div-iff-mul-le k .1 (subst (λ (y : ℕ). y ≤ x) (sym (one-mul g)) b)
 
-  natural-size : holding (primaries m) (secondaries m) (primary m / cyclesOf m) (secondary m / cyclesOf m) ≡ lettersOf code
+  natural-size : holding (primaries m) (secondaries m) (primary m / cyclesOf m) (secondary m / cyclesOf m) ≡ l .letters
   unfolding cyclesOf
   natural-size =
       let g = cyclesOf m in
@@ -117,7 +120,7 @@ module _ (code P tritave : ℕ) (l : Layout) (ok : Accepted code P tritave l) wh
       ∙ getD-replicate (suc size) place 0 0 h
 
   -- the letters' places on the chain are in the natural layer
-  pub letters-natural : (place : ℕ) → place < lettersOf code → getD (layersOf m) place 0 ≡ 0
+  pub letters-natural : (place : ℕ) → place < l .letters → getD (layersOf m) place 0 ≡ 0
   unfolding layersOf layerSizes allSizes
   letters-natural place h =
       let a = primaries m in
@@ -135,46 +138,46 @@ module _ (code P tritave : ℕ) (l : Layout) (ok : Accepted code P tritave l) wh
       ∙ ap (λ (k : ℕ). k % reduced P G) (mul-zero (inverse P G))
       ∙ zero-mod (reduced P G)
 
-  start-place : (chainOf code .start + degree P G 0) % reduced P G ≡ chainOf code .start
+  start-place : (l .start + degree P G 0) % reduced P G ≡ l .start
   start-place =
-      ap (λ (k : ℕ). (chainOf code .start + k) % reduced P G) degree-zero
-      ∙ ap (λ (k : ℕ). k % reduced P G) (add-zero (chainOf code .start))
+      ap (λ (k : ℕ). (l .start + k) % reduced P G) degree-zero
+      ∙ ap (λ (k : ℕ). k % reduced P G) (add-zero (l .start))
       ∙ mod-eq-of-lt (omega (arith, shape .start-below, shape .enough-keys))
 
-  listed-zero : listedLayer P G (chainOf code .start) m 0 ≡ 0
+  listed-zero : listedLayer P G (l .start) m 0 ≡ 0
   unfolding listedLayer
-  listed-zero = ap (λ (k : ℕ). getD (layersOf m) k 0) start-place ∙ letters-natural (chainOf code .start) (shape .start-below)
+  listed-zero = ap (λ (k : ℕ). getD (layersOf m) k 0) start-place ∙ letters-natural (l .start) (shape .start-below)
 
-  alternate-zero : (i : ℕ) → i / cycles P G ≡ 0 → alternateLayer P G (lettersOf code) (chainOf code .start) (secondaries m) i ≡ 0
+  alternate-zero : (i : ℕ) → i / cycles P G ≡ 0 → alternateLayer P G (l .letters) (l .start) (secondaries m) i ≡ 0
   unfolding alternateLayer
   alternate-zero i e =
-      let h = G * chainOf code .start / cycles P G in
+      let h = G * l .start / cycles P G in
       sym
-      (alternating-same (lettersOf code) (secondaries m) h (i / cycles P G)
-      (ap (λ (k : ℕ). k * secondaries m / lettersOf code % 2) (let q : h ≡ i / cycles P G + h = omega arith in q)))
+      (alternating-same (l .letters) (secondaries m) h (i / cycles P G)
+      (ap (λ (k : ℕ). k * secondaries m / l .letters % 2) (let q : h ≡ i / cycles P G + h = omega arith in q)))
 
   pick-zero : (b : Bool) (u v : ℕ) → u ≡ 0 → v ≡ 0 → pick b u v ≡ 0
   pick-zero true u v e f = e
   pick-zero false u v e f = f
 
-  zero-natural : numberIn code P l 0 ≡ 0
+  zero-natural : numberIn l 0 ≡ 0
   unfolding layerNumber layerOf cycle
   zero-natural =
       let a = pick-zero (equalized m) _ _ (alternate-zero 0 (zero-div (cycles P G))) listed-zero in
       omega (arith, ap (λ (k : ℕ). k * cycles P G) a, zero-mul (cycles P G), zero-mod (cycles P G))
 
   -- in an equalized scale the keys below n are in the first layer
-  pub first-keys : equalized m ≡ true → (i : ℕ) → i / cycles P G ≡ 0 → numberIn code P l i ≡ cycle P G i
+  pub first-keys : equalized m ≡ true → (i : ℕ) → i / cycles P G ≡ 0 → numberIn l i ≡ cycle P G i
   unfolding layerNumber layerOf
   first-keys t i e =
-      let a : layerOf P G (lettersOf code) (chainOf code .start) m i ≡ 0
-      = ap (λ (b : Bool). pick b (alternateLayer P G (lettersOf code) (chainOf code .start) (secondaries m) i) (listedLayer P G (chainOf code .start) m i)) t ∙ alternate-zero i e in
+      let a : layerOf P G (l .letters) (l .start) m i ≡ 0
+      = ap (λ (b : Bool). pick b (alternateLayer P G (l .letters) (l .start) (secondaries m) i) (listedLayer P G (l .start) m i)) t ∙ alternate-zero i e in
       ap (λ (k : ℕ). k * cycles P G + cycle P G i) a ∙ ap (λ (k : ℕ). k + cycle P G i) (zero-mul (cycles P G)) ∙ zero-add (cycle P G i)
 
   -- ---- the entries repeat
 
   -- equal steps are as large as the number of cycles, so there are as many keys in a cycle as letters
-  pub equal-steps : equalized m ≡ true → reduced P G ≡ lettersOf code
+  pub equal-steps : equalized m ≡ true → reduced P G ≡ l .letters
   unfolding reducedSizeOf cyclesOf sizeOf
   equal-steps t =
       let p = primary m in
@@ -197,32 +200,32 @@ module _ (code P tritave : ℕ) (l : Layout) (ok : Accepted code P tritave l) wh
       ∙ add-mul-div-right i (2 * reduced P G) (cycles-positive P G (parts .positive))
 
   alternate-again : equalized m ≡ true → (i : ℕ)
-      → alternateLayer P G (lettersOf code) (chainOf code .start) (secondaries m) (i + 2 * P) ≡ alternateLayer P G (lettersOf code) (chainOf code .start) (secondaries m) i
+      → alternateLayer P G (l .letters) (l .start) (secondaries m) (i + 2 * P) ≡ alternateLayer P G (l .letters) (l .start) (secondaries m) i
   unfolding alternateLayer
   alternate-again t i =
-      ap (alternating (lettersOf code) (secondaries m) (G * chainOf code .start / cycles P G)) (turns-on i ∙ ap (λ (k : ℕ). i / cycles P G + 2 * k) (equal-steps t))
-      ∙ alternating-again (lettersOf code) (secondaries m) (G * chainOf code .start / cycles P G) (i / cycles P G) (omega (arith, shape .at-least-five))
+      ap (alternating (l .letters) (secondaries m) (G * l .start / cycles P G)) (turns-on i ∙ ap (λ (k : ℕ). i / cycles P G + 2 * k) (equal-steps t))
+      ∙ alternating-again (l .letters) (secondaries m) (G * l .start / cycles P G) (i / cycles P G) (omega (arith, shape .at-least-five))
 
-  again-by : (b : Bool) → equalized m ≡ b → (i : ℕ) → numberIn code P l (i + pick b (2 * P) P) ≡ numberIn code P l i
+  again-by : (b : Bool) → equalized m ≡ b → (i : ℕ) → numberIn l (i + pick b (2 * P) P) ≡ numberIn l i
   unfolding layerNumber layerOf listedLayer
   again-by true t i =
       let keys = degree-and-cycle-tell-keys-apart P G (parts .positive) (i + 2 * P) i .0 (same-key i 2) in
       ap₂ (λ (x y : ℕ). x * cycles P G + y)
-      (ap (λ (b : Bool). pick b (alternateLayer P G (lettersOf code) (chainOf code .start) (secondaries m) (i + 2 * P)) (listedLayer P G (chainOf code .start) m (i + 2 * P))) t
+      (ap (λ (b : Bool). pick b (alternateLayer P G (l .letters) (l .start) (secondaries m) (i + 2 * P)) (listedLayer P G (l .start) m (i + 2 * P))) t
       ∙ alternate-again t i
-      ∙ ap (λ (b : Bool). pick b (alternateLayer P G (lettersOf code) (chainOf code .start) (secondaries m) i) (listedLayer P G (chainOf code .start) m i)) (sym t))
+      ∙ ap (λ (b : Bool). pick b (alternateLayer P G (l .letters) (l .start) (secondaries m) i) (listedLayer P G (l .start) m i)) (sym t))
       (keys .1)
   again-by false t i =
       let keys = degree-and-cycle-tell-keys-apart P G (parts .positive) (i + P) i .0 (add-mod-right i P) in
       ap₂ (λ (x y : ℕ). x * cycles P G + y)
-      (ap (λ (b : Bool). pick b (alternateLayer P G (lettersOf code) (chainOf code .start) (secondaries m) (i + P)) (listedLayer P G (chainOf code .start) m (i + P))) t
-      ∙ ap (λ (d : ℕ). getD (layersOf m) ((chainOf code .start + d) % reduced P G) 0) (keys .0)
-      ∙ ap (λ (b : Bool). pick b (alternateLayer P G (lettersOf code) (chainOf code .start) (secondaries m) i) (listedLayer P G (chainOf code .start) m i)) (sym t))
+      (ap (λ (b : Bool). pick b (alternateLayer P G (l .letters) (l .start) (secondaries m) (i + P)) (listedLayer P G (l .start) m (i + P))) t
+      ∙ ap (λ (d : ℕ). getD (layersOf m) ((l .start + d) % reduced P G) 0) (keys .0)
+      ∙ ap (λ (b : Bool). pick b (alternateLayer P G (l .letters) (l .start) (secondaries m) i) (listedLayer P G (l .start) m i)) (sym t))
       (keys .1)
 
   -- ---- each number
 
-  module _ (other : equalized m ≡ false) (j : ℕ) (h : j < countIn P l) where
+  module _ (other : equalized m ≡ false) (j : ℕ) (h : j < countIn l) where
     abbrev n : ℕ
     n = cycles P G
 
@@ -230,7 +233,7 @@ module _ (code P tritave : ℕ) (l : Layout) (ok : Accepted code P tritave l) wh
     R = reduced P G
 
     abbrev start : ℕ
-    start = chainOf code .start
+    start = l .start
 
     within : j / n < length (layerSizes m)
     unfolding layerCount
@@ -264,18 +267,18 @@ module _ (code P tritave : ℕ) (l : Layout) (ok : Accepted code P tritave l) wh
         ∙ add-mod-right place R
         ∙ mod-eq-of-lt b
 
-    key-number : numberIn code P l (keyWith P G (parts .positive) d (j % n) d-below c-below) ≡ j
+    key-number : numberIn l (keyWith P G (parts .positive) d (j % n) d-below c-below) ≡ j
     unfolding layerNumber layerOf listedLayer
     key-number =
         let i = keyWith P G (parts .positive) d (j % n) d-below c-below in
-        let a : layerOf P G (lettersOf code) start m i ≡ j / n
-        = ap (λ (b : Bool). pick b (alternateLayer P G (lettersOf code) start (secondaries m) i) (listedLayer P G start m i)) other
+        let a : layerOf P G (l .letters) start m i ≡ j / n
+        = ap (λ (b : Bool). pick b (alternateLayer P G (l .letters) start (secondaries m) i) (listedLayer P G start m i)) other
         ∙ ap (λ (k : ℕ). getD (layersOf m) ((start + k) % R) 0) (key-with-degree P G (parts .positive) d (j % n) d-below c-below)
         ∙ ap (λ (k : ℕ). getD (layersOf m) k 0) leads
         ∙ first-place .2 in
         ap₂ (λ (x y : ℕ). x * n + y) a (key-with-cycle P G (parts .positive) d (j % n) d-below c-below) ∙ div-add-mod' j n
 
-    met : (key : ℕ) × (key < P) × (numberIn code P l key ≡ j)
+    met : (key : ℕ) × (key < P) × (numberIn l key ≡ j)
     met = (
       keyWith P G (parts .positive) d (j % n) d-below c-below,
       key-with-below P G (parts .positive) d (j % n) d-below c-below,
@@ -283,16 +286,16 @@ module _ (code P tritave : ℕ) (l : Layout) (ok : Accepted code P tritave l) wh
     )
 
 pub counts-fit : CountsFit
-counts-fit code P tritave l ok = fits code P tritave l ok
+counts-fit r l ok = fits r l ok
 
 pub numbers-are-below : NumbersAreBelow
-numbers-are-below code P tritave l ok key = below code P tritave l ok key
+numbers-are-below r l ok key = below r l ok key
 
 pub key-zero-is-natural : KeyZeroIsNatural
-key-zero-is-natural code P tritave l ok = zero-natural code P tritave l ok
+key-zero-is-natural r l ok = zero-natural r l ok
 
 pub each-number-is-met : EachNumberIsMet
-each-number-is-met code P tritave l ok other j h = met code P tritave l ok other j h
+each-number-is-met r l ok other j h = met r l ok other j h
 
 pub numbers-repeat : NumbersRepeat
-numbers-repeat code P tritave l ok key = again-by code P tritave l ok (equalized (l .pattern)) refl key
+numbers-repeat r l ok key = again-by r l ok (equalized (l .pattern)) refl key

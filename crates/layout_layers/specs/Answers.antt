@@ -9,13 +9,13 @@ use Rattle.layout_layers.specs.KeyLayers.{keyLayers, layerCount, layerNu
 
 unfoldable pub getLayers : IsomorphicLayout → Outcome (List ℕ)
 unfolding layoutOutcome keyLayers
-getLayers r = ofLayout r (λ (l : Layout). given (layersIn (r .genchain) (r .octave) l))
+getLayers r = ofLayout r (λ (l : Layout). given (layersIn l))
 
 unfoldable pub getLayerCount : IsomorphicLayout → Outcome ℕ
 unfolding layoutOutcome layerCount
-getLayerCount r = ofLayout r (λ (l : Layout). given (countIn (r .octave) l))
+getLayerCount r = ofLayout r (λ (l : Layout). given (countIn l))
 
 -- One key's number, for every key.
 unfoldable pub getLayer : IsomorphicLayout → ℕ → Outcome ℕ
 unfolding layoutOutcome layerNumber
-getLayer r key = ofLayout r (λ (l : Layout). given (numberIn (r .genchain) (r .octave) l key))
+getLayer r key = ofLayout r (λ (l : Layout). given (numberIn l key))

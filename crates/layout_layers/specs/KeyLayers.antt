@@ -5,13 +5,12 @@ use mathlib.Core.Bool.{Bool}
 use mathlib.Core.List.{List, [], _∷_}
 use lib.ListN.{length, getD}
 use lib.Dec.{eqb, ltb}
-use Rattle.answer.specs.Writing.{joined}
-use Rattle.genchain.specs.Chains.{chainOf}
+use Rattle.text.specs.Writing.{joined}
 use Rattle.mos.specs.declared.Mos.{Mos}
 use Rattle.mos.specs.Patterns.{pick, primary, secondary, secondaries}
 use Rattle.pergen.specs.Pergen.{cycles, reduced, degree, cycle}
-use Rattle.layers.specs.Layers.{layerSizes, layersOf}
-use Rattle.layout.specs.Layouts.{Layout, lettersOf}
+use Rattle.mos_layers.specs.Layers.{layerSizes, layersOf}
+use Rattle.layout.specs.Layouts.{Layout}
 use Rattle.layout_layers.specs.declared.Layer.{Layer}
 use Rattle.layout_layers.specs.declared.Layer.the-variants.{Natural, Sharp, Enharmonic, Flat}
 
@@ -66,11 +65,11 @@ kindOf T j =
 
 -- ---- in a layout "P is the octave, G the chain's generator, N its number of letters and the origin the start"
 
-abbrev pub numberIn : ℕ → ℕ → Layout → ℕ → ℕ
-numberIn code octave l i = layerNumber octave (l .generator) (lettersOf code) (chainOf code .start) (l .pattern) i
+abbrev pub numberIn : Layout → ℕ → ℕ
+numberIn l i = layerNumber (l .octave) (l .generator) (l .letters) (l .start) (l .pattern) i
 
-abbrev pub layersIn : ℕ → ℕ → Layout → List ℕ
-layersIn code octave l = keyLayers octave (l .generator) (lettersOf code) (chainOf code .start) (l .pattern)
+abbrev pub layersIn : Layout → List ℕ
+layersIn l = keyLayers (l .octave) (l .generator) (l .letters) (l .start) (l .pattern)
 
-abbrev pub countIn : ℕ → Layout → ℕ
-countIn octave l = layerCount octave (l .generator) (l .pattern)
+abbrev pub countIn : Layout → ℕ
+countIn l = layerCount (l .octave) (l .generator) (l .pattern)

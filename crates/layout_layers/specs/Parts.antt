@@ -3,15 +3,14 @@ use Prim.Native.Nat.{ℕ, _+_, _*_, _-_, _/_, _%_, _≤_, _<_}
 use mathlib.Core.Path.{_≡_}
 use mathlib.Core.List.{List, [], _∷_, _++_}
 use lib.ListN.{length, getD, drop}
-use Rattle.answer.specs.Writing.{joined}
-use Rattle.genchain.specs.Chains.{chainOf}
+use Rattle.text.specs.Writing.{joined}
 use Rattle.mos.specs.Patterns.{pick, primaries, secondaries, primary, secondary, cyclesOf}
-use Rattle.pergen.specs.Pergen.{cycles, reduced, inverse}
-use Rattle.layers.specs.declared.Runs.{Runs}
-use Rattle.layers.specs.Layers.{allSizes, dropEmpty, numbered}
-use Rattle.layers.specs.Parts.{runSizes}
-use Rattle.layers.specs.Theorems.{sum}
-use Rattle.layout.specs.Layouts.{Layout, lettersOf}
+use Rattle.pergen.specs.Pergen.{inverse}
+use Rattle.mos_layers.specs.declared.Runs.{Runs}
+use Rattle.mos_layers.specs.Layers.{allSizes, dropEmpty, numbered}
+use Rattle.mos_layers.specs.Parts.{runSizes}
+use Rattle.mos_layers.specs.Theorems.{sum}
+use Rattle.layout.specs.Layouts.{Layout, cyclesIn, reducedIn}
 use Rattle.layout_layers.specs.declared.chain.Chain.{Chain}
 use Rattle.layout_layers.specs.declared.chain.Spot.{Spot}
 use Rattle.layout_layers.specs.declared.parts.Plan.{Plan}
@@ -111,15 +110,15 @@ pub record Sound (p : Plan) : Type 0 where
   pub keys-fit : keysOf (p .chain) ≤ 65535
 
 -- The plan of a layout's layers.
-pub record PlanOf (code P : ℕ) (l : Layout) (p : Plan) : Type 0 where
+pub record PlanOf (l : Layout) (p : Plan) : Type 0 where
   pub sound : Sound p
-  pub cycles-are : p .chain .«num_cycles» ≡ cycles P (l .generator)
-  pub period-is : p .chain .«reduced_period» ≡ reduced P (l .generator)
-  pub inverse-is : inverseOf (p .chain) ≡ inverse P (l .generator)
-  pub start-is : p .chain .start ≡ chainOf code .start
-  pub letters-are : p .letters ≡ lettersOf code
+  pub cycles-are : p .chain .«num_cycles» ≡ cyclesIn l
+  pub period-is : p .chain .«reduced_period» ≡ reducedIn l
+  pub inverse-is : inverseOf (p .chain) ≡ inverse (l .octave) (l .generator)
+  pub start-is : p .chain .start ≡ l .start
+  pub letters-are : p .letters ≡ l .letters
   pub secondaries-are : p .secondaries ≡ secondaries (l .pattern)
-  pub offset-is : p .offset ≡ l .generator * chainOf code .start / cycles P (l .generator)
+  pub offset-is : p .offset ≡ l .generator * l .start / cyclesIn l
   pub equalized-is : p .equalized ≡ equalized (l .pattern)
   pub runs-are : runSizes (p .runs)
       ≡ allSizes (primaries (l .pattern)) (secondaries (l .pattern)) (primary (l .pattern) / cyclesOf (l .pattern)) (secondary (l .pattern) / cyclesOf (l .pattern))

@@ -35,7 +35,7 @@ pub fn get_layers(layout: IsomorphicLayout, out: &mut [u16]) -> CountAnswer
 {
     match layout::parts::search(layout) {
         FoundAnswer::Refused(q) => CountAnswer::Refused(q),
-        FoundAnswer::Given(found) => parts::write_layers(parts::plan_of(layout, found), out),
+        FoundAnswer::Given(found) => parts::write_layers(parts::plan_of(found), out),
     }
 }
 
@@ -45,10 +45,7 @@ pub fn layers_len(layout: IsomorphicLayout) -> CountAnswer
 {
     match layout::parts::search(layout) {
         FoundAnswer::Refused(q) => CountAnswer::Refused(q),
-        FoundAnswer::Given(found) => CountAnswer::Given(parts::entries(parts::plan_of(
-            layout,
-            found,
-        ))),
+        FoundAnswer::Given(found) => CountAnswer::Given(parts::entries(parts::plan_of(found))),
     }
 }
 
@@ -58,10 +55,7 @@ pub fn layer_count(layout: IsomorphicLayout) -> NumberAnswer
 {
     match layout::parts::search(layout) {
         FoundAnswer::Refused(q) => NumberAnswer::Refused(q),
-        FoundAnswer::Given(found) => NumberAnswer::Given(parts::total_of(parts::plan_of(
-            layout,
-            found,
-        ))),
+        FoundAnswer::Given(found) => NumberAnswer::Given(parts::total_of(parts::plan_of(found))),
     }
 }
 
@@ -72,8 +66,8 @@ pub fn get_layer(layout: IsomorphicLayout, key: u16) -> NumberAnswer
     match layout::parts::search(layout) {
         FoundAnswer::Refused(q) => NumberAnswer::Refused(q),
         FoundAnswer::Given(found) => {
-            let solved = euclid::solve(layout.octave, found.generator);
-            let plan = parts::plan_of(layout, found);
+            let solved = euclid::solve(found.octave, found.generator);
+            let plan = parts::plan_of(found);
             NumberAnswer::Given(parts::number_of(plan, solved.generator_inverse, key))
         }
     }

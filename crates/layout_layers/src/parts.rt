@@ -7,22 +7,19 @@ use crate::chain::Chain;
 use crate::chain::Spot;
 use answer::CountAnswer;
 use answer::Refusal;
-use genchain::rows;
-use layers::Runs;
-use layers::parts::divided;
-use layout::IsomorphicLayout;
 use layout::parts::Found;
+use mos_layers::Runs;
+use mos_layers::parts::divided;
 ghost use mathlib.Core.Path.{_≡_};
 ghost use mathlib.Core.Bool.{true, false};
 ghost use Prim.Native.Nat.{_+_, _*_, _/_, _%_, _<_, _≤_};
 ghost use lib.ListN.{length, replicate};
 ghost use Rattle.answer.specs.Lent.{heldIn, Filled};
 ghost use Rattle.answer.specs.Refusals.{countOutcome};
-ghost use Rattle.layers.specs.Parts.{runSizes};
-ghost use Rattle.layers.specs.Theorems.{sum};
-ghost use Rattle.layers.specs.Layers.{dropEmpty};
-ghost use Rattle.layout.specs.Layouts.{Accepted};
-ghost use Rattle.layout.specs.Parts.{layoutOf};
+ghost use Rattle.mos_layers.specs.Parts.{runSizes};
+ghost use Rattle.mos_layers.specs.Theorems.{sum};
+ghost use Rattle.mos_layers.specs.Layers.{dropEmpty};
+ghost use Rattle.layout.specs.Parts.{layoutOf, Laid};
 ghost use Rattle.layout_layers.specs.KeyLayers.{alternating};
 ghost use Rattle.layout_layers.specs.Parts.{
   inverseOf,
@@ -71,28 +68,27 @@ fn offset_of(generator: u16, start: u16, cycles: u16) -> u32
 }
 
 // The plan of an accepted layout. The divisor of its pattern's steps is the number of cycles.
-pub fn plan_of(layout: IsomorphicLayout, found: Found) -> Plan
-    requires { ⌜ Accepted (layout .genchain) (layout .octave) (layout .tritave) (layoutOf found) ⌝ }
-    ensures { λ r. ⌜ PlanOf (layout .genchain) (layout .octave) (layoutOf found) r ⌝ }
+pub fn plan_of(found: Found) -> Plan
+    requires { ⌜ Laid (layoutOf found) ⌝ }
+    ensures { λ r. ⌜ PlanOf (layoutOf found) r ⌝ }
 {
-    let row = rows::row(layout.genchain);
     let pattern = found.pattern;
     let num_cycles = math::gcd_u16(pattern.primary_step, pattern.secondary_step);
-    let runs = layers::parts::runs_over(pattern, num_cycles);
-    let reduced_period = divided(layout.octave, num_cycles);
-    let step = layout::parts::within_octave(layout.octave, found.generator);
+    let runs = mos_layers::parts::runs_over(pattern, num_cycles);
+    let reduced_period = divided(found.octave, num_cycles);
+    let step = layout::parts::within_octave(found.octave, found.generator);
     let advance = divided(step, num_cycles);
-    let offset = offset_of(found.generator, row.start, num_cycles);
+    let offset = offset_of(found.generator, found.start, num_cycles);
     Plan {
         chain: Chain {
             num_cycles,
             reduced_period,
             advance,
-            start: row.start,
+            start: found.start,
         },
         runs,
         offset,
-        letters: row.num_letters,
+        letters: found.num_letters,
         secondaries: pattern.num_secondary_steps,
         equalized: pattern.primary_step == pattern.secondary_step,
     }
@@ -196,7 +192,7 @@ pub fn total_of(plan: Plan) -> u16
         return 2 * chain.num_cycles;
     }
     let runs = plan.runs;
-    (layers::parts::count_sizes(runs) * (chain.num_cycles as u32)) as u16
+    (mos_layers::parts::count_sizes(runs) * (chain.num_cycles as u32)) as u16
 }
 
 // How many scale degrees the entries have.

@@ -11,14 +11,15 @@ use lib.Seq.{take-all, take-nil, getD-take, drop-append-le, getD-append-seam}
 use lib.Dec.{leb, eqb}
 use borrow.Author.Tests.{leb-true, leb-false, eqb-true}
 use Rattle.answer.proofs.Asked.{and-left, and-right}
-use Rattle.line.specs.Decimal.{isDigit, leading, value}
-use Rattle.line.specs.Lines.{digitsAt, valueAt, endAt, isNumber, numberAt, pickReading, space, lineFeed, lineOutcome}
+use Rattle.text.specs.Decimal.{isDigit, leading, value, digitsAt, valueAt, endAt, pickReading}
+use Rattle.line.specs.Lines.{isField, fieldAt, space, lineFeed, lineOutcome}
 use Rattle.line.specs.Theorems.{LaterBytesIgnored}
-use Rattle.line.specs.declared.Reading.{Reading}
-use Rattle.line.specs.declared.Reading.the-variants.{Number}
-use Rattle.line.proofs.Digits.{leading-digit, leading-other, leading-none}
-use Rattle.line.proofs.Numbers.{length-is, digits-above, no-number}
-use Rattle.line.proofs.WholeLine.{number-is, same-outcome}
+use Rattle.text.specs.declared.decimal.Reading.{Reading}
+use Rattle.text.specs.declared.decimal.Reading.the-variants.{Number}
+use Rattle.text.proofs.Digits.{leading-digit, leading-other, leading-none}
+use Rattle.text.proofs.Numbers.{length-is, digits-above}
+use Rattle.line.proofs.Fields.{no-number}
+use Rattle.line.proofs.WholeLine.{field-is, same-outcome}
 
 -- ---- a reading depends on the digits and on the byte behind them
 
@@ -26,12 +27,12 @@ abbrev readingOf : List ℕ → ℕ → ℕ → ℕ → Reading
 readingOf text at byte behind =
     pickReading (leb 1 (length text) && leb (length text) 5 && leb (value text) 65535 && eqb byte behind) (Number (value text) (at + length text + 1))
 
-reading-is : (line : List ℕ) (at behind : ℕ) → numberAt line at behind ≡ readingOf (digitsAt line at) at (getD line (at + length (digitsAt line at)) 0) behind
-unfolding numberAt
+reading-is : (line : List ℕ) (at behind : ℕ) → fieldAt line at behind ≡ readingOf (digitsAt line at) at (getD line (at + length (digitsAt line at)) 0) behind
+unfolding fieldAt
 reading-is line at behind = refl
 
 same-reading : (line other : List ℕ) (at behind : ℕ) (text : List ℕ) → digitsAt line at ≡ text → digitsAt other at ≡ text
-    → getD line (at + length text) 0 ≡ getD other (at + length text) 0 → numberAt line at behind ≡ numberAt other at behind
+    → getD line (at + length text) 0 ≡ getD other (at + length text) 0 → fieldAt line at behind ≡ fieldAt other at behind
 same-reading line other at behind text d e byte =
     reading-is line at behind
     ∙ ap (λ (t : List ℕ). readingOf t at (getD line (at + length t) 0) behind) d
@@ -40,16 +41,16 @@ same-reading line other at behind text d e byte =
     ∙ sym (reading-is other at behind)
 
 -- a number that was read: at most 5 digits, and the byte behind
-module _ (line : List ℕ) (at behind number next : ℕ) (read : Number number next ≡ numberAt line at behind) where
+module _ (line : List ℕ) (at behind number next : ℕ) (read : Number number next ≡ fieldAt line at behind) where
   abbrev long : ℕ
   long = length (digitsAt line at)
 
   four : (leb 1 long && leb long 5 && leb (valueAt line at) 65535 && eqb (getD line (endAt line at) 0) behind) ≡ true
-  unfolding isNumber
-  four = number-is line at behind number next read .yes
+  unfolding isField
+  four = field-is line at behind number next read .yes
 
   next-is : next ≡ at + long + 1
-  next-is = number-is line at behind number next read .is-next ∙ ap (λ (n : ℕ). n + 1) (length-is line at)
+  next-is = field-is line at behind number next read .is-next ∙ ap (λ (n : ℕ). n + 1) (length-is line at)
 
   few-digits : long ≤ 5
   few-digits = leb-true long 5 (and-right (leb 1 long) (leb long 5) (and-left (leb 1 long && leb long 5) (leb (valueAt line at) 65535) (and-left (leb 1 long && leb long 5 && leb (valueAt line at) 65535) (eqb (getD line (endAt line at) 0) behind) four)))
@@ -104,11 +105,11 @@ module _ (line after : List ℕ) where
     short =
         rw (drop-append-le at line (lineFeed ∷ []) inside) (omega (arith, leading-short (drop at line) [], length-drop at line))
 
-    same-number : numberAt whole at behind ≡ numberAt cut at behind
+    same-number : fieldAt whole at behind ≡ fieldAt cut at behind
     same-number = same-reading whole cut at behind (digitsAt cut at) same-digits refl (same-byte (at + length (digitsAt cut at)) short)
 
   -- a space stands before the line feed
-  goes-on : (at number next : ℕ) → at ≤ length line → Number number next ≡ numberAt whole at space → next ≤ length line
+  goes-on : (at number next : ℕ) → at ≤ length line → Number number next ≡ fieldAt whole at space → next ≤ length line
   goes-on at number next inside read =
       let cut-read = read ∙ same-number at space inside in
       let end = at + length (digitsAt cut at) in
@@ -152,21 +153,21 @@ module _ (line : List ℕ) (at n : ℕ) where
   abbrev text : List ℕ
   text = digitsAt line at
 
-  few-or-many : (test : Bool) → leb (length text) 5 ≡ test → (behind : ℕ) → 5 < n → numberAt front at behind ≡ numberAt line at behind
+  few-or-many : (test : Bool) → leb (length text) 5 ≡ test → (behind : ℕ) → 5 < n → fieldAt front at behind ≡ fieldAt line at behind
   few-or-many true t behind h =
       let few = leb-true (length text) 5 t in
       same-reading front line at behind text (front-digits ∙ take-all n text (omega arith)) refl
       (getD-take (at + n) line (at + length text) 0 (omega arith))
   few-or-many false t behind h =
       let many = leb-false (length text) 5 t in
-      sym (no-number front at behind (digits-above front at behind (rw front-digits (omega (arith, length-take n text)))))
-      ∙ no-number line at behind (digits-above line at behind many)
+      sym (no-number front at behind (digits-above front at (rw front-digits (omega (arith, length-take n text)))))
+      ∙ no-number line at behind (digits-above line at many)
 
 -- six bytes from a number on decide it
-front-number : (line : List ℕ) (at behind n : ℕ) → at + 5 < n → numberAt (take n line) at behind ≡ numberAt line at behind
+front-number : (line : List ℕ) (at behind n : ℕ) → at + 5 < n → fieldAt (take n line) at behind ≡ fieldAt line at behind
 front-number line at behind n h =
     let whole : at + (n - at) ≡ n = omega arith in
-    subst (λ (m : ℕ). numberAt (take m line) at behind ≡ numberAt line at behind) whole
+    subst (λ (m : ℕ). fieldAt (take m line) at behind ≡ fieldAt line at behind) whole
     (few-or-many line at (n - at) (leb (length (digitsAt line at)) 5) refl behind (omega arith))
 
 eighteen-bytes : (line : List ℕ) → lineOutcome (take 18 line) ≡ lineOutcome line
@@ -176,10 +177,10 @@ eighteen-bytes line =
     (λ a at e. front-number line at space 18 (omega (arith, second-at a at e)))
     (λ a b at next e f. front-number line next lineFeed 18 (omega (arith, second-at a at e, third-at b at next f)))
   where
-    second-at : (a at : ℕ) → Number a at ≡ numberAt (take 18 line) 0 space → at ≤ 6
+    second-at : (a at : ℕ) → Number a at ≡ fieldAt (take 18 line) 0 space → at ≤ 6
     second-at a at e = omega (arith, next-is (take 18 line) 0 space a at e, few-digits (take 18 line) 0 space a at e)
 
-    third-at : (b at next : ℕ) → Number b next ≡ numberAt (take 18 line) at space → next ≤ at + 6
+    third-at : (b at next : ℕ) → Number b next ≡ fieldAt (take 18 line) at space → next ≤ at + 6
     third-at b at next f = omega (arith, next-is (take 18 line) at space b next f, few-digits (take 18 line) at space b next f)
 
 pub later-bytes-ignored : LaterBytesIgnored

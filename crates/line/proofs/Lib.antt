@@ -1,5 +1,4 @@
-pub mod Digits
-pub mod Numbers
+pub mod Fields
 pub mod WholeLine
 pub mod ReadBack
 pub mod Enough

@@ -3,7 +3,6 @@ use Prim.Native.Nat.{ℕ}
 use mathlib.Core.List.{List, [], _∷_, map}
 use mathlib.Core.Path.{_≡_}
 use Rattle.answer.specs.Outcome.{Outcome, given, refused}
-use Rattle.line.specs.Decimal.{digits}
 use Rattle.line.specs.Lines.{lineText, lineOutcome}
 use Rattle.line.specs.declared.Line.{Line}
 
@@ -58,5 +57,3 @@ pub record ExamplesHold : Type 0 where
   pub any-code : lineOutcome (lineText 65535 4096 65535) ≡ three 65535 4096 65535
   pub zeros : lineOutcome (lineText 0 0 0) ≡ three 0 0 0
   pub written : lineText 1 12 19 ≡ 49 ∷ 32 ∷ 49 ∷ 50 ∷ 32 ∷ 49 ∷ 57 ∷ 10 ∷ []
-  pub numbers : map digits (0 ∷ 9 ∷ 10 ∷ 4096 ∷ 65535 ∷ [])
-      ≡ (48 ∷ []) ∷ (57 ∷ []) ∷ (49 ∷ 48 ∷ []) ∷ (52 ∷ 48 ∷ 57 ∷ 54 ∷ []) ∷ (54 ∷ 53 ∷ 53 ∷ 51 ∷ 53 ∷ []) ∷ []

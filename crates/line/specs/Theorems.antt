@@ -1,16 +1,10 @@
 -- What holds of every line: statements; their proofs stand in proofs/.
-use Prim.Native.Nat.{ℕ, _≤_, _<_}
+use Prim.Native.Nat.{ℕ, _≤_}
 use mathlib.Core.List.{List, [], _∷_, _++_}
 use mathlib.Core.Path.{_≡_}
-use lib.ListN.{length, take}
+use lib.ListN.{take}
 use Rattle.answer.specs.Outcome.{given}
-use Rattle.line.specs.Decimal.{value, digits, DigitsLength}
 use Rattle.line.specs.Lines.{lineFeed, lineText, lineOutcome}
-
--- Theorem: a number is read back from its digits, and one below 65,536 has 1 to 5 of them.
-pub record DigitsReadBack : Type 0 where
-  pub back : (n : ℕ) → value (digits n) ≡ n
-  pub lengths : (n : ℕ) → n < 65536 → DigitsLength n (length (digits n))
 
 -- Theorem: a line that asks for three numbers is read back as these, whatever bytes come after it.
 abbrev pub LinesReadBack : Type 0

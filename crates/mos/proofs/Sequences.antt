@@ -10,7 +10,7 @@ use lib.ListN.{length, getD, getElem?}
 use Rattle.mos.specs.declared.Mos.{Mos}
 use Rattle.mos.specs.Patterns.{mos, countOf, stepsOf, childOf, parentOf}
 use Rattle.mos.specs.Walks.{onward, walk, children, parents, lastAfter, genesisOf, fields, listed}
-use Rattle.mos.specs.Parts.{isSome, Meets}
+use Rattle.mos.specs.Parts.{isSome, readBack, Meets}
 use Rattle.mos.proofs.Descent.{child-at, child-falls, parent-falls}
 
 -- ---- any walk, with the number that falls
@@ -150,10 +150,6 @@ length-listed [] = refl
 length-listed (m ∷ ms) = omega (arith, length-listed ms)
 
 -- ---- what an inner walk leaves in its array
-
--- the pattern that is read from it
-abbrev pub readBack : List ℕ → Mos
-readBack l = mos (getD l 0 0) (getD l 1 0) (getD l 2 0) (getD l 3 0)
 
 pub meets-here : {o : Option Mos} (m : Mos) (before : List ℕ) → some m ≡ o → Meets o true before (fields m)
 meets-here m before e = subst (λ (x : Option Mos). Meets x true before (fields m)) e (record { answer = refl; numbers = refl })

@@ -4,7 +4,9 @@ use mathlib.Core.Path.{_≡_}
 use mathlib.Core.Bool.{Bool, true, false}
 use mathlib.Core.Option.{Option, none, some}
 use mathlib.Core.List.{List}
+use lib.ListN.{getD}
 use Rattle.mos.specs.declared.Mos.{Mos}
+use Rattle.mos.specs.Patterns.{mos}
 use Rattle.mos.specs.Walks.{fields}
 
 -- Is there one?
@@ -16,6 +18,10 @@ isSome (some m) = true
 abbrev pub leftBy : Option Mos → List ℕ → List ℕ
 leftBy none before = before
 leftBy (some m) before = fields m
+
+-- The pattern whose numbers an array of four holds.
+abbrev pub readBack : List ℕ → Mos
+readBack l = mos (getD l 0 0) (getD l 1 0) (getD l 2 0) (getD l 3 0)
 
 -- What a walk that is to meet a pattern says, and what it leaves in the array.
 pub record Meets (pattern : Option Mos) (says : Bool) (before after : List ℕ) : Type 0 where

@@ -1,10 +1,10 @@
 // Step patterns: the moment-of-symmetry scales of a period and a generator, after `Mos` of src/pergen.rs of the original.
 //
 // Holds the pattern with its child and parent, sizes, sharpness, cycles, `coprime` and keys (document 01, "Step patterns"). The
-// modules hold the parts that the entry points are made of. `walks` goes on to further children and parents, `listings` lists
-// them, `layers` has a pattern's layers.
+// modules hold the parts that the entry points are made of. `mos_walks` goes on to further children and parents, `mos_listings` lists
+// them, `mos_layers` has a pattern's layers.
 // Every entry point answers any four numbers; what is no pattern is refused (7).
-// specs/: Patterns, Walks and Coprime define, Answers says what each call answers, here and in `walks` and `listings`, Theorems,
+// specs/: Patterns, Walks and Coprime define, Answers says what each call answers, here and in `mos_walks` and `mos_listings`, Theorems,
 // Scale and IntervalClasses state what holds of every pattern and every walk. Nothing is assumed.
 pub mod coprime;
 pub mod parts;

@@ -7,7 +7,7 @@ ghost use mathlib.Core.Bool.{true};
 ghost use mathlib.Core.Option.{some};
 ghost use Prim.Native.Nat.{_*_, _<_};
 ghost use Rattle.mos.specs.Patterns.{sizeOf, isPattern, countOf, dualOf, childOf, parentOf};
-ghost use Rattle.mos.specs.Parts.{isSome};
+ghost use Rattle.mos.specs.Parts.{isSome, readBack};
 
 fn product(x: u16, y: u16) -> u64
     ensures { λ r. ⌜ (r ≡ x * y) × (r < 4294967296) ⌝ }
@@ -45,6 +45,18 @@ pub fn dual_of(m: Mos) -> Mos
         num_secondary_steps: m.secondary_step,
         primary_step: m.num_primary_steps,
         secondary_step: m.num_secondary_steps,
+    }
+}
+
+// The pattern that a walk left in an array: counts, then steps.
+pub fn pattern_of(found: [u16; 4]) -> Mos
+    ensures { λ r. ⌜ r ≡ readBack found ⌝ }
+{
+    Mos {
+        num_primary_steps: found[0],
+        num_secondary_steps: found[1],
+        primary_step: found[2],
+        secondary_step: found[3],
     }
 }
 

@@ -1,9 +1,9 @@
 // Writing a planned name: parts, and no entry points. Callers have asked question 10.
 use crate::plans::Mark;
 use crate::plans::NamePlan;
-use answer::writer;
+use text::writer;
 ghost use Prim.Native.Nat.{_<_};
-ghost use Rattle.answer.specs.Writing.{Room, Wrote};
+ghost use Rattle.text.specs.Writing.{Room, Wrote};
 ghost use Rattle.notes.specs.Names.{letterText};
 ghost use Rattle.notes.specs.Parts.{
   markText,

@@ -1,7 +1,7 @@
 // Pergens and spellings, after the first part of src/pergen.rs of the original.
 //
 // Holds the pergen (a period and a generator), degree and cycle of a key, and what spellings are (document 01, "Pergen and
-// spelling"). The crate `spelling` goes from a key to its spellings in a free format, `sounding` from a spelling to its key.
+// spelling"). The crate `pergen_spelling` goes from a key to its spellings in a free format, `pergen_sounding` from a spelling to its key.
 // specs/: Pergen and Spelling define them, Answers says what each call answers, Theorems what is proved of them.
 // A record holds only what a caller chose; each call asks its questions of it again, so a made-up record is refused.
 // Every entry point answers every input, exactly. `euclid` and `stepping` hold parts, of which some ask for more. Nothing is assumed.

@@ -66,13 +66,13 @@ fn answer_layout(kind: usize, layout: IsomorphicLayout, out: &mut [u8]) {
 }
 
 fn put_chain(code: u16, out: &mut [u8]) {
-    let answer = chain_names::name(code, out);
+    let answer = genchain_names::name(code, out);
     print::written(out, answer);
     print::end_line();
 }
 
 fn put_layout(layout: IsomorphicLayout, out: &mut [u8]) {
-    let answer = scale_names::get_scale_name(layout, out);
+    let answer = layout_scale_names::get_scale_name(layout, out);
     print::written(out, answer);
     print::space();
     pergens::put_pergen(layout.pergen());
@@ -99,7 +99,7 @@ fn put_names(layout: IsomorphicLayout, out: &mut [u8]) {
 }
 
 fn put_lamps(layout: IsomorphicLayout, out: &mut [u8]) {
-    let answer = lamps::lamp_strip(layout, out);
+    let answer = layout_lamps::lamp_strip(layout, out);
     print::bytes(out, answer);
 }
 

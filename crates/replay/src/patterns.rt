@@ -62,7 +62,7 @@ fn answer_pattern(kind: usize, m: Mos) {
         return;
     }
     if kind == names::GENESIS {
-        put_made(walks::genesis(m));
+        put_made(mos_walks::genesis(m));
         return;
     }
     if kind == names::DUAL {
@@ -145,15 +145,15 @@ fn put_list(kind: usize, m: Mos, out: &mut [u16]) {
 
 fn write_list(kind: usize, m: Mos, out: &mut [u16]) -> CountAnswer {
     if kind == names::CHILDREN {
-        return listings::children(m, out);
+        return mos_listings::children(m, out);
     }
     if kind == names::PARENTS {
-        return listings::parents(m, out);
+        return mos_listings::parents(m, out);
     }
     if kind == names::LAYER_SIZES {
-        return layers::layer_sizes(m, out);
+        return mos_layers::layer_sizes(m, out);
     }
-    layers::get_layers(m, out)
+    mos_layers::get_layers(m, out)
 }
 
 // Whether the line asks for a key; if so, it is answered.

@@ -35,7 +35,7 @@ pub(crate) fn answer(kind: usize, n: Values) {
         num_symbols: n.third,
         genchain_origin: n.fourth,
     };
-    put_spelled(spelling::get_accidentals(pergen, format, n.fifth));
+    put_spelled(pergen_spelling::get_accidentals(pergen, format, n.fifth));
 }
 
 // Period, generator, cycles, reduced period and inverse, or a refusal, within a line.

@@ -24,7 +24,7 @@ fn answer_table(line: &[u8], room: u16) {
 }
 
 fn put_table(line: &[u8], out: &mut [u8]) {
-    match table::respond(line, out) {
+    match layout_table::respond(line, out) {
         CountAnswer::Refused(q) => print::refused(q),
         CountAnswer::Given(count) => print::written(out, CountAnswer::Given(count)),
     }

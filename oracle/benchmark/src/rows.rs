@@ -5,17 +5,21 @@
 //! row says so, the original has its layout made beforehand; ours makes it in
 //! every call, since a call takes the three numbers.
 
+use std::borrow::Borrow;
 use std::cell::RefCell;
 use std::fmt::Write;
 use std::hint;
 use std::rc::Rc;
 
+use judge::layouts;
 use judge::layouts::CHAINS;
+use judge::patterns;
+use reading::books;
+use reading::layouts::HOME;
 use tune::layout;
 use tune::layout::IsomorphicLayout;
 use tune::layout::Layer;
 use tune::pergen::Mos;
-use tune::pitch::Ratio;
 use tune::temperament::Val;
 use vetchnoon::Pattern;
 
@@ -48,16 +52,21 @@ const SIZES: [Numbers; 4] = [SMALL, MIDDLE, LARGE, LARGEST];
 
 /// Work that the original does too.
 pub fn of_the_original() -> Vec<Row> {
-    let sizes = SIZES;
     let with_strip = [SMALL, MIDDLE, LARGEST_STRIP];
     let mut rows = making();
-    rows.extend(sizes.map(one_name));
-    rows.extend(sizes.map(one_name_of_ready));
-    rows.extend(sizes.map(accidentals));
-    rows.extend(sizes.map(accidentals_of_ready));
-    rows.extend(sizes.map(book));
-    rows.extend(sizes.map(layout_layers));
-    rows.extend(sizes.map(pattern_layers));
+    rows.extend(SIZES.map(|n| names("one name", n, made_anew(n))));
+    rows.extend(SIZES.map(|n| {
+        let what = "one name; the original's layout is made beforehand";
+        names(what, n, made_beforehand(n))
+    }));
+    rows.extend(SIZES.map(|n| accidentals("accidentals of a key", n, made_anew(n))));
+    rows.extend(SIZES.map(|n| {
+        let what = "accidentals of a key; the original's layout is made beforehand";
+        accidentals(what, n, made_beforehand(n))
+    }));
+    rows.extend(SIZES.map(book));
+    rows.extend(SIZES.map(layout_layers));
+    rows.extend(SIZES.map(pattern_layers));
     rows.extend(with_strip.map(strip));
     rows.extend(with_strip.map(key_table));
     rows.extend(walks());
@@ -69,31 +78,17 @@ pub fn of_a_fill() -> Vec<Row> {
     SIZES.map(book_and_fill).into()
 }
 
-impl Numbers {
-    fn words(self) -> String {
-        format!("{} {} {}", self.0, self.1, self.2)
-    }
-
-    /// What the original makes a layout from, prepared beforehand.
-    fn val(self) -> Val {
-        Val::create(Ratio::octave(), vec![self.1, self.2]).expect("two values are not too many")
-    }
-
-    fn original(self) -> IsomorphicLayout {
-        create(self.0, &self.val()).expect("the layout is accepted")
-    }
-
-    fn row(
-        self,
+impl Row {
+    fn new(
         what: &'static str,
-        unit: &'static str,
-        units: usize,
+        input: impl Into<String>,
+        (units, unit): (usize, &'static str),
         ours: impl FnMut() -> usize + 'static,
         theirs: impl FnMut() -> usize + 'static,
-    ) -> Row {
-        Row {
+    ) -> Self {
+        Self {
             what,
-            input: self.words(),
+            input: input.into(),
             unit,
             units,
             ours: Box::new(ours),
@@ -102,8 +97,41 @@ impl Numbers {
     }
 }
 
+impl Numbers {
+    fn words(self) -> String {
+        format!("{} {} {}", self.0, self.1, self.2)
+    }
+
+    /// What the original makes a layout from, prepared beforehand.
+    fn val(self) -> Val {
+        layouts::val(self.1, self.2)
+    }
+
+    /// Work on each key of the octave.
+    fn row_of_keys(
+        self,
+        what: &'static str,
+        ours: impl FnMut() -> usize + 'static,
+        theirs: impl FnMut() -> usize + 'static,
+    ) -> Row {
+        Row::new(what, self.words(), (self.1.into(), "key"), ours, theirs)
+    }
+}
+
 fn create(chain: u16, val: &Val) -> Option<IsomorphicLayout> {
     layout::create_layout_for_oracle(CHAINS[usize::from(chain)], val)
+}
+
+/// The original's layout, made anew each time that it is asked for.
+fn made_anew(n: Numbers) -> impl Fn() -> IsomorphicLayout {
+    let val = n.val();
+    move || create(n.0, &val).expect("the layout is accepted")
+}
+
+/// The original's layout, made beforehand and kept for as long as the program runs.
+fn made_beforehand(n: Numbers) -> impl Fn() -> &'static IsomorphicLayout {
+    let layout: &IsomorphicLayout = Box::leak(Box::new(made_anew(n)()));
+    move || layout
 }
 
 fn making() -> Vec<Row> {
@@ -120,31 +148,30 @@ fn making() -> Vec<Row> {
         .cloned()
         .collect();
     vec![
-        layouts("make layouts, refused ones too", sweep),
-        layouts("make layouts, accepted ones", accepted),
+        make("make layouts, refused ones too", sweep),
+        make("make layouts, accepted ones", accepted),
     ]
 }
 
-fn layouts(what: &'static str, sweep: Vec<(Numbers, Val)>) -> Row {
+fn make(what: &'static str, sweep: Vec<(Numbers, Val)>) -> Row {
     let ours = sweep.clone();
-    Row {
+    Row::new(
         what,
-        input: "octaves 5 to 72".to_owned(),
-        unit: "layout",
-        units: sweep.len(),
-        ours: Box::new(move || {
+        "octaves 5 to 72",
+        (sweep.len(), "layout"),
+        move || {
             let mut numbers = [0; 8];
             ours.iter()
                 .filter(|(n, _)| vetchnoon::layout(n.0, n.1, n.2, &mut numbers).is_ok())
                 .count()
-        }),
-        theirs: Box::new(move || {
+        },
+        move || {
             sweep
                 .iter()
                 .filter(|(n, val)| create(n.0, val).is_some())
                 .count()
-        }),
-    }
+        },
+    )
 }
 
 /// Keys over the whole octave, at most 64 of them.
@@ -154,107 +181,70 @@ fn some_keys(octave: u16) -> Vec<u16> {
         .collect()
 }
 
-fn our_name_bytes(n: Numbers, keys: &[u16], name: &mut [u8]) -> usize {
-    keys.iter()
-        .map(|key| vetchnoon::note_name(n.0, n.1, n.2, *key, name).unwrap())
-        .sum()
-}
-
-fn one_name(n: Numbers) -> Row {
+fn names<L: Borrow<IsomorphicLayout>>(
+    what: &'static str,
+    n: Numbers,
+    layout: impl Fn() -> L + 'static,
+) -> Row {
     let keys = some_keys(n.1);
     let same_keys = keys.clone();
-    let val = n.val();
     let mut name = vec![0; 20_000];
-    n.row(
-        "one name",
-        "name",
-        keys.len(),
-        move || our_name_bytes(n, &keys, &mut name),
+    Row::new(
+        what,
+        n.words(),
+        (keys.len(), "name"),
+        move || {
+            keys.iter()
+                .map(|key| vetchnoon::note_name(n.0, n.1, n.2, *key, &mut name).unwrap())
+                .sum()
+        },
         move || {
             same_keys
                 .iter()
-                .map(|key| create(n.0, &val).unwrap().get_note_name(*key).len())
+                .map(|key| layout().borrow().get_note_name(*key).len())
                 .sum()
         },
     )
 }
 
-fn one_name_of_ready(n: Numbers) -> Row {
-    let keys = some_keys(n.1);
-    let same_keys = keys.clone();
-    let layout = n.original();
-    let mut name = vec![0; 20_000];
-    n.row(
-        "one name; the original's layout is made beforehand",
-        "name",
-        keys.len(),
-        move || our_name_bytes(n, &keys, &mut name),
-        move || {
-            same_keys
-                .iter()
-                .map(|key| layout.get_note_name(*key).len())
-                .sum()
-        },
-    )
-}
-
-fn our_accidentals(n: Numbers) -> usize {
+fn accidentals<L: Borrow<IsomorphicLayout>>(
+    what: &'static str,
+    n: Numbers,
+    layout: impl Fn() -> L + 'static,
+) -> Row {
     let mut spelled = [0; 4];
-    (0..n.1)
-        .map(|key| {
-            vetchnoon::layout_accidentals(n.0, n.1, n.2, key, &mut spelled).unwrap();
-            usize::from(spelled[1]) + usize::from(spelled[3])
-        })
-        .sum()
-}
-
-fn their_accidentals(layout: &IsomorphicLayout, key: u16) -> usize {
-    let spelled = layout.get_accidentals(key);
-    usize::from(spelled.sharp_count) + usize::from(spelled.flat_count)
-}
-
-fn accidentals(n: Numbers) -> Row {
-    let val = n.val();
-    n.row(
-        "accidentals of a key",
-        "key",
-        n.1.into(),
-        move || our_accidentals(n),
+    n.row_of_keys(
+        what,
         move || {
             (0..n.1)
-                .map(|key| their_accidentals(&create(n.0, &val).unwrap(), key))
+                .map(|key| {
+                    vetchnoon::layout_accidentals(n.0, n.1, n.2, key, &mut spelled).unwrap();
+                    usize::from(spelled[1]) + usize::from(spelled[3])
+                })
+                .sum()
+        },
+        move || {
+            (0..n.1)
+                .map(|key| {
+                    let spelled = layout().borrow().get_accidentals(key);
+                    usize::from(spelled.sharp_count) + usize::from(spelled.flat_count)
+                })
                 .sum()
         },
     )
 }
 
-fn accidentals_of_ready(n: Numbers) -> Row {
-    let layout = n.original();
-    n.row(
-        "accidentals of a key; the original's layout is made beforehand",
-        "key",
-        n.1.into(),
-        move || our_accidentals(n),
-        move || (0..n.1).map(|key| their_accidentals(&layout, key)).sum(),
-    )
-}
-
-fn our_book(n: Numbers) -> impl FnMut() -> usize {
+/// The book's text alone is compared: the original's names have no offsets before.
+fn book(n: Numbers) -> Row {
+    let layout = made_anew(n);
     let length = vetchnoon::book_len(n.0, n.1, n.2).unwrap();
     let mut book = vec![0; length];
-    let head = 4 + 8 * usize::from(n.1);
-    move || vetchnoon::book(n.0, n.1, n.2, &mut book).unwrap() - head
-}
-
-fn book(n: Numbers) -> Row {
-    let val = n.val();
-    n.row(
+    let text_starts = books::text_starts(n.1.into()) as usize;
+    n.row_of_keys(
         "all names of an octave, as a book",
-        "key",
-        n.1.into(),
-        our_book(n),
+        move || vetchnoon::book(n.0, n.1, n.2, &mut book).unwrap() - text_starts,
         move || {
-            let layout = create(n.0, &val).unwrap();
+            let layout = layout();
             let names: Vec<String> = (0..n.1).map(|key| layout.get_note_name(key)).collect();
             names.iter().map(String::len).sum()
         },
@@ -267,10 +257,8 @@ fn book_and_fill(n: Numbers) -> Row {
     let memory = Rc::new(RefCell::new(vec![1_u8; length]));
     let filled = Rc::clone(&memory);
     let mut value = 0;
-    n.row(
+    n.row_of_keys(
         "all names of an octave, as a book",
-        "key",
-        n.1.into(),
         move || vetchnoon::book(n.0, n.1, n.2, &mut memory.borrow_mut()).unwrap(),
         move || {
             value ^= 1;
@@ -282,53 +270,46 @@ fn book_and_fill(n: Numbers) -> Row {
 }
 
 fn layout_layers(n: Numbers) -> Row {
-    let val = n.val();
+    let layout = made_anew(n);
     let mut layers = vec![0; 2 * usize::from(n.1)];
-    n.row(
+    n.row_of_keys(
         "layers of all keys",
-        "key",
-        n.1.into(),
         move || vetchnoon::layout_layers(n.0, n.1, n.2, &mut layers).unwrap(),
-        move || create(n.0, &val).unwrap().get_layers().len(),
+        move || layout().get_layers().len(),
     )
 }
 
 fn pattern_layers(n: Numbers) -> Row {
-    let mos = n.original().mos();
+    let mos = made_anew(n)().mos();
     let mut layers = vec![0; usize::from(n.1)];
-    n.row(
+    Row::new(
         "layers of the pattern",
-        "note",
-        mos.reduced_size().into(),
-        move || vetchnoon::mos_layers(pattern(mos), &mut layers).unwrap(),
+        n.words(),
+        (mos.reduced_size().into(), "note"),
+        move || vetchnoon::mos_layers(patterns::numbers(mos), &mut layers).unwrap(),
         move || mos.get_layers().len(),
     )
 }
 
+/// Document 01's code for a layer of the original.
 fn lamp(key: usize, layer: Layer) -> u8 {
-    match layer {
-        _ if key == 0 => 0,
-        Layer::Natural => 1,
-        Layer::Sharp(level) => 2 + level as u8,
-        Layer::Flat(level) => 102 + level as u8,
-        Layer::Enharmonic(_) => 255,
+    match key {
+        0 => HOME,
+        _ => reading::layouts::lamp(layouts::kind_of(layer)),
     }
 }
 
 fn strip(n: Numbers) -> Row {
-    let val = n.val();
+    let layout = made_anew(n);
     let mut codes = vec![0; n.1.into()];
-    n.row(
+    n.row_of_keys(
         "lamp strip",
-        "key",
-        n.1.into(),
         move || {
             let length = vetchnoon::lamp_strip(n.0, n.1, n.2, &mut codes).unwrap();
             length + usize::from(codes[length - 1])
         },
         move || {
-            let layout = create(n.0, &val).unwrap();
-            let layers = layout.get_layers().into_iter().take(n.1.into());
+            let layers = layout().get_layers().into_iter().take(n.1.into());
             let codes: Vec<u8> = layers
                 .enumerate()
                 .map(|(key, layer)| lamp(key, layer))
@@ -342,10 +323,8 @@ fn key_table(n: Numbers) -> Row {
     let line = format!("{}\n", n.words());
     let same_line = line.clone();
     let mut table = vec![0; 131_072];
-    n.row(
+    n.row_of_keys(
         "key table from its line",
-        "key",
-        n.1.into(),
         move || vetchnoon::key_table(line.as_bytes(), &mut table).unwrap(),
         move || their_table(&same_line).len(),
     )
@@ -412,35 +391,25 @@ fn walk(
 ) -> Row {
     let mut out = vec![0; 4 * 65_536];
     let mut same_out = out.clone();
-    let patterns: Vec<Pattern> = from.iter().copied().map(pattern).collect();
+    let patterns: Vec<Pattern> = from.iter().copied().map(patterns::numbers).collect();
     let numbers: usize = from.iter().map(|mos| theirs(*mos, &mut out)).sum();
-    Row {
+    Row::new(
         what,
-        input: input.to_owned(),
-        unit: "pattern",
-        units: numbers / 4,
-        ours: Box::new(move || {
+        input,
+        (numbers / 4, "pattern"),
+        move || {
             patterns
                 .iter()
                 .map(|pattern| ours(*pattern, &mut out).unwrap())
                 .sum()
-        }),
-        theirs: Box::new(move || from.iter().map(|mos| theirs(*mos, &mut same_out)).sum()),
-    }
+        },
+        move || from.iter().map(|mos| theirs(*mos, &mut same_out)).sum(),
+    )
 }
 
 fn put_all(walk: impl Iterator<Item = Mos>, out: &mut [u16]) -> usize {
     walk.zip(out.chunks_exact_mut(4))
-        .map(|(mos, place)| place.copy_from_slice(&pattern(mos)))
+        .map(|(mos, place)| place.copy_from_slice(&patterns::numbers(mos)))
         .count()
         * 4
-}
-
-fn pattern(mos: Mos) -> Pattern {
-    [
-        mos.num_primary_steps(),
-        mos.num_secondary_steps(),
-        mos.primary_step(),
-        mos.secondary_step(),
-    ]
 }

@@ -1,73 +1,47 @@
-//! The classes of docs/DIFFERENCES.md: inputs on which the original panics or
-//! answers otherwise, on purpose. A class is told from the input alone, by exact
-//! arithmetic, never from what the two sides answered.
+//! To which class of docs/DIFFERENCES.md an input belongs, by exact arithmetic and
+//! from the input alone, never from what the two sides answered. An input of two
+//! classes belongs to the one that the original comes to first.
 
 use reading::LARGEST;
 use reading::Whole;
 use reading::layouts::Layout;
 use reading::patterns::Pattern;
+use reading::pergens::Format;
 use reading::pergens::Pergen;
+use reading::pergens::Spellings;
 
-#[derive(Clone, Copy, Debug, PartialEq, Eq, PartialOrd, Ord)]
-pub enum Class {
-    DenominatorZero,
-    PeriodZero,
-    NoSymbols,
-    OriginNotBelowSymbols,
-    ProductWithInverse,
-    GenesisOfPeriodZero,
-    CountsBeyond16Bits,
-    CoprimeProduct,
-    CoprimeSum,
-    KeyBeyond32Bits,
-    OctaveZero,
-    OctaveZeroWithoutGenerator,
-    NameOfKey,
-    LayersOfLayout,
-}
-
-impl Class {
-    pub const ALL: [Self; 14] = [
-        Self::DenominatorZero,
-        Self::PeriodZero,
-        Self::NoSymbols,
-        Self::OriginNotBelowSymbols,
-        Self::ProductWithInverse,
-        Self::GenesisOfPeriodZero,
-        Self::CountsBeyond16Bits,
-        Self::CoprimeProduct,
-        Self::CoprimeSum,
-        Self::KeyBeyond32Bits,
-        Self::OctaveZero,
-        Self::OctaveZeroWithoutGenerator,
-        Self::NameOfKey,
-        Self::LayersOfLayout,
-    ];
-
-    /// Its name in docs/DIFFERENCES.md.
-    pub fn name(self) -> &'static str {
-        match self {
-            Self::DenominatorZero => "denominator 0",
-            Self::PeriodZero => "period 0",
-            Self::NoSymbols => "symbol count 0",
-            Self::OriginNotBelowSymbols => "origin not below the symbol count",
-            Self::ProductWithInverse => "product of inverse and key number beyond 2,147,483,647",
-            Self::GenesisOfPeriodZero => "genesis of period 0",
-            Self::CountsBeyond16Bits => "`Mos::get_layers`, sum of the counts beyond 65,535",
-            Self::CoprimeProduct => "`Mos::coprime`, a product beyond 65,535",
-            Self::CoprimeSum => "`Mos::coprime`, the sum beyond 65,535",
-            Self::KeyBeyond32Bits => "`Mos::get_key`, the sum beyond 32 signed bits",
-            Self::OctaveZero => "layout, octave 0",
-            Self::OctaveZeroWithoutGenerator => "layout, octave 0, generator not whole or negative",
-            Self::NameOfKey => "layout, name of a key",
-            Self::LayersOfLayout => "layout, layers",
-        }
-    }
-}
+pub use judge::classes::Class;
 
 /// A key of a free pergen.
 pub fn of_generation(pergen: &Pergen, key: Whole) -> Option<Class> {
     product_overflows(pergen, key).then_some(Class::ProductWithInverse)
+}
+
+/// A key of a free pergen in a free format.
+pub fn of_accidentals(pergen: &Pergen, format: Format, key: Whole) -> Option<Class> {
+    if product_overflows(pergen, key) {
+        Some(Class::ProductWithInverse)
+    } else if format.symbols == 0 {
+        Some(Class::NoSymbols)
+    } else if format.origin >= format.symbols {
+        Some(Class::OriginNotBelowSymbols)
+    } else {
+        None
+    }
+}
+
+/// The answer that the class "origin not below the symbol count" names: document
+/// 01's, had question 6 not been asked, but that the original takes R from no index
+/// of degree 0.
+pub fn spellings_from_any_origin(pergen: &Pergen, format: Format, key: Whole) -> Spellings {
+    let spelt = pergen.spellings(format, key);
+    if pergen.reduced < format.symbols && pergen.degree(key) == 0 {
+        return Spellings {
+            sharp_index: format.origin,
+            ..spelt
+        };
+    }
+    spelt
 }
 
 /// A key of a layout.
@@ -120,5 +94,34 @@ pub fn of_octave_zero(has_generator: bool) -> Class {
         Class::OctaveZero
     } else {
         Class::OctaveZeroWithoutGenerator
+    }
+}
+
+#[cfg(test)]
+mod tests {
+    use super::*;
+
+    #[test]
+    fn a_key_of_two_classes_belongs_to_the_one_that_comes_first() {
+        let class = |period, symbols, origin| {
+            let pergen = Pergen::new(period, period - 1).unwrap();
+            of_accidentals(&pergen, Format { symbols, origin }, LARGEST)
+        };
+        assert_eq!(class(32_770, 7, 7), Some(Class::ProductWithInverse));
+        assert_eq!(class(32_769, 7, 7), Some(Class::OriginNotBelowSymbols));
+        assert_eq!(class(32_769, 0, 0), Some(Class::NoSymbols));
+        assert_eq!(class(32_769, 7, 6), None);
+    }
+
+    #[test]
+    fn an_origin_that_is_no_symbols_names_an_answer() {
+        let indices = |period, generator, symbols, origin, key| {
+            let pergen = Pergen::new(period, generator).unwrap();
+            let spelt = spellings_from_any_origin(&pergen, Format { symbols, origin }, key);
+            [spelt.sharp_index, spelt.flat_index]
+        };
+        assert_eq!(indices(1, 0, 1, 1, 0), [0, 0]);
+        assert_eq!(indices(1, 0, 2, 2, 0), [2, 2]);
+        assert_eq!(indices(5, 3, 7, 7, 1), [4, 4]);
     }
 }

@@ -6,10 +6,10 @@
 
 use std::fmt::Debug;
 
+use judge::shown::shown;
 use reading::Outcome;
 use vetchnoon::Refused;
 
-use crate::shown::shown;
 use crate::tally::outcome;
 
 /// An element of a lent slice.

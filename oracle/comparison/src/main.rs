@@ -8,7 +8,6 @@ mod plan;
 mod question;
 mod randoms;
 mod report;
-mod shown;
 mod subjects;
 mod tally;
 
@@ -39,7 +38,7 @@ fn main() -> ExitCode {
     }
     let tally = plan::run(plan::tasks(mode, seed));
     print!("{}", report::text(&tally, mode, seed));
-    ExitCode::from(u8::from(!tally.all_unexplained().is_empty()))
+    ExitCode::from(u8::from(!tally.is_clean()))
 }
 
 fn parse(arguments: &[String]) -> Option<(Mode, u64)> {

@@ -1,6 +1,7 @@
 //! Which inputs are compared: small ones all, then limits and numbers at random.
 
 mod books;
+mod chains;
 mod known;
 mod layouts;
 mod patterns;
@@ -12,6 +13,8 @@ use std::sync::Mutex;
 use std::sync::atomic::AtomicUsize;
 use std::sync::atomic::Ordering;
 use std::thread;
+
+use judge::asking;
 
 use crate::tally::Tally;
 
@@ -50,10 +53,12 @@ pub fn tasks(mode: Mode, seed: u64) -> Vec<Task> {
     pergens::plan(&mut tasks, mode, seed);
     books::plan(&mut tasks, mode, seed);
     tables::plan(&mut tasks, mode, seed);
+    chains::plan(&mut tasks, mode, seed);
     tasks
 }
 
-/// Runs all tasks, on as many threads as the machine has cores, and adds up.
+/// Runs all tasks, on as many threads as the machine has cores, and adds up. A task
+/// that panics, by itself or in the reading, leaves what it counted before.
 pub fn run(tasks: Vec<Task>) -> Tally {
     let threads = thread::available_parallelism().map_or(1, NonZero::get);
     let next = AtomicUsize::new(0);
@@ -63,11 +68,45 @@ pub fn run(tasks: Vec<Task>) -> Tally {
             scope.spawn(|| {
                 let mut tally = Tally::default();
                 while let Some(task) = tasks.get(next.fetch_add(1, Ordering::Relaxed)) {
-                    task(&mut tally);
+                    if let Err(panicked) = asking::ask(|| task(&mut tally)) {
+                        tally.failed(panicked);
+                    }
                 }
                 sum.lock().expect("no thread fails while adding").add(tally);
             });
         }
     });
     sum.into_inner().expect("all threads have ended")
+}
+
+#[cfg(test)]
+mod tests {
+    use super::*;
+    use crate::subjects::numbers;
+
+    #[test]
+    fn a_task_that_panics_is_counted_and_the_others_go_on() {
+        let ends_early: Task = Box::new(|tally| {
+            numbers::gcd(tally, 12, 18);
+            panic!("no such number");
+        });
+        let tally = run(vec![
+            ends_early,
+            Box::new(|tally| numbers::gcd(tally, 2, 3)),
+        ]);
+        assert!(!tally.is_clean());
+        let failures: Vec<_> = tally.failures().iter().collect();
+        let [(failure, 1)] = failures[..] else {
+            panic!("one failure, once: {failures:?}");
+        };
+        assert!(failure.starts_with("panicked: no such number (comparison/src/plan.rs line "));
+        assert_eq!(
+            tally
+                .calls()
+                .values()
+                .map(|counts| counts.given)
+                .sum::<u64>(),
+            2
+        );
+    }
 }

@@ -11,7 +11,9 @@ pub fn text(tally: &Tally, mode: Mode, seed: u64) -> String {
     let mut text = format!("{} run, seed {seed}\n\n", mode.name());
     push_counts(&mut text, tally);
     push_classes(&mut text, tally);
-    push_unexplained(&mut text, tally);
+    let unexplained = push_unexplained(&mut text, tally);
+    let failed = push_failures(&mut text, tally);
+    push_verdict(&mut text, unexplained, failed);
     text
 }
 
@@ -66,7 +68,7 @@ fn push_classes(text: &mut String, tally: &Tally) {
     }
 }
 
-fn push_unexplained(text: &mut String, tally: &Tally) {
+fn push_unexplained(text: &mut String, tally: &Tally) -> u64 {
     let mut sum = 0;
     for unexplained in tally.all_unexplained().values() {
         sum += unexplained.count;
@@ -82,7 +84,36 @@ fn push_unexplained(text: &mut String, tally: &Tally) {
             line(text, format_args!("  and {more} more of this call"));
         }
     }
-    line(text, format_args!("\n{} unexplained", in_thousands(sum)));
+    sum
+}
+
+/// Where a part of the comparison panicked, the rest of it was not compared.
+fn push_failures(text: &mut String, tally: &Tally) -> u64 {
+    for (failure, count) in tally.failures() {
+        line(text, format_args!("\nfailed, {}: {failure}", parts(*count)));
+    }
+    tally.failures().values().sum()
+}
+
+fn push_verdict(text: &mut String, unexplained: u64, failed: u64) {
+    let unexplained = in_thousands(unexplained);
+    match failed {
+        0 => line(text, format_args!("\n{unexplained} unexplained")),
+        _ => line(
+            text,
+            format_args!(
+                "\n{unexplained} unexplained, {} of the comparison failed",
+                parts(failed)
+            ),
+        ),
+    }
+}
+
+fn parts(count: u64) -> String {
+    match count {
+        1 => "1 part".to_owned(),
+        _ => format!("{} parts", in_thousands(count)),
+    }
 }
 
 fn line(text: &mut String, arguments: std::fmt::Arguments) {
@@ -103,6 +134,8 @@ fn in_thousands(number: u64) -> String {
 
 #[cfg(test)]
 mod tests {
+    use judge::asking::Panicked;
+
     use super::*;
 
     #[test]
@@ -116,5 +149,21 @@ mod tests {
     fn an_empty_tally_ends_with_0_unexplained() {
         let text = text(&Tally::default(), Mode::Short, 1);
         assert!(text.ends_with("\n0 unexplained\n"));
+    }
+
+    #[test]
+    fn a_failure_is_told_in_the_last_line() {
+        let mut tally = Tally::default();
+        tally.failed(Panicked {
+            message: "no such number".to_owned(),
+            place: "reading/src/lib.rs line 1".to_owned(),
+        });
+        let text = text(&tally, Mode::Short, 1);
+        assert!(
+            text.contains(
+                "\nfailed, 1 part: panicked: no such number (reading/src/lib.rs line 1)\n"
+            )
+        );
+        assert!(text.ends_with("\n0 unexplained, 1 part of the comparison failed\n"));
     }
 }

@@ -2,6 +2,7 @@
 //! question about it; which inputs are taken, [`crate::plan`] says.
 
 pub mod books;
+pub mod chains;
 pub mod keys;
 pub mod layouts;
 pub mod numbers;

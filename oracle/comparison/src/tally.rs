@@ -4,6 +4,9 @@ use std::collections::BTreeMap;
 use std::fmt::Debug;
 
 use judge::asking::Answer;
+use judge::asking::Panicked;
+use judge::classes::Shape;
+use judge::shown::shown;
 use reading::Outcome;
 use vetchnoon::Refused;
 
@@ -13,7 +16,6 @@ use crate::lending::Element;
 use crate::question::Call;
 use crate::question::Kept;
 use crate::question::Question;
-use crate::shown::shown;
 
 /// What the original has to say of a question.
 #[derive(Clone, Debug, PartialEq, Eq)]
@@ -21,9 +23,12 @@ pub enum Original<T> {
     /// It has nothing of the kind, or was not asked.
     Silent,
     Answered(T),
+    /// It answers what document 01 does not, and a class names this answer.
+    Named(T),
     /// `None`, which does not tell a refusal's number.
     Declined,
-    /// It panics, or answers what no answer of the library can mean.
+    Panicked(Panicked),
+    /// It answers what no answer of the library can mean.
     Failed(String),
 }
 
@@ -31,7 +36,7 @@ impl<T> Original<T> {
     pub fn of(answer: Answer<T>) -> Self {
         match answer {
             Ok(value) => Self::Answered(value),
-            Err(panicked) => Self::Failed(panicked.to_string()),
+            Err(panicked) => Self::Panicked(panicked),
         }
     }
 
@@ -39,7 +44,20 @@ impl<T> Original<T> {
         match answer {
             Ok(Some(value)) => Self::Answered(value),
             Ok(None) => Self::Declined,
-            Err(panicked) => Self::Failed(panicked.to_string()),
+            Err(panicked) => Self::Panicked(panicked),
+        }
+    }
+
+    /// The shape that a class may name.
+    fn shape(&self) -> Option<Shape> {
+        match self {
+            Self::Named(_) => Some(Shape::NamedAnswer),
+            Self::Declined => Some(Shape::NoAnswer),
+            Self::Panicked(panicked) if panicked.is_overflow() => Some(Shape::Overflow),
+            Self::Panicked(panicked) if panicked.is_division_by_zero() => {
+                Some(Shape::DivisionByZero)
+            }
+            Self::Panicked(_) | Self::Failed(_) | Self::Answered(_) | Self::Silent => None,
         }
     }
 
@@ -47,9 +65,20 @@ impl<T> Original<T> {
     pub fn then<U>(&self, next: impl FnOnce(&T) -> Original<U>) -> Original<U> {
         match self {
             Self::Silent => Original::Silent,
-            Self::Answered(value) => next(value),
+            Self::Answered(value) | Self::Named(value) => next(value),
             Self::Declined => Original::Declined,
+            Self::Panicked(panicked) => Original::Panicked(panicked.clone()),
             Self::Failed(reason) => Original::Failed(reason.clone()),
+        }
+    }
+}
+
+impl<T: PartialEq> Original<T> {
+    /// Marks the answer that a class names. Any other answer stays what it was.
+    pub fn if_named(self, named: T) -> Self {
+        match self {
+            Self::Answered(answer) if answer == named => Self::Named(answer),
+            other => other,
         }
     }
 }
@@ -72,6 +101,8 @@ pub struct Tally {
     calls: BTreeMap<Call, Counts>,
     classes: BTreeMap<Class, Noted>,
     unexplained: BTreeMap<Call, Unexplained>,
+    /// Panics of the comparison itself, and how often.
+    failures: BTreeMap<String, u64>,
 }
 
 /// How many questions to one call were compared.
@@ -100,7 +131,8 @@ pub struct Unexplained {
 
 impl Tally {
     /// Compares the answers to one question. The library must say what document 01
-    /// says; the original must say the same, unless the input belongs to `class`.
+    /// says. The original must say the same, unless the input belongs to `class` and
+    /// what the original says has the shape that the class names.
     pub fn compare<T: PartialEq + Debug>(
         &mut self,
         question: Question,
@@ -115,8 +147,10 @@ impl Tally {
             return;
         }
         match class {
-            Some(class) => self.note(class, question),
-            None => self.unexplained(question, || difference(answers)),
+            Some(class) if answers.original.shape() == Some(class.shape()) => {
+                self.note(class, question);
+            }
+            _ => self.unexplained(question, || difference(answers)),
         }
     }
 
@@ -212,6 +246,11 @@ impl Tally {
         }
     }
 
+    /// Counts a panic of the comparison itself: of its own code or of the reading.
+    pub fn failed(&mut self, panicked: Panicked) {
+        *self.failures.entry(panicked.to_string()).or_default() += 1;
+    }
+
     /// Adds what another thread counted. The order of adding does not matter.
     pub fn add(&mut self, other: Self) {
         for (call, counts) in other.calls {
@@ -235,6 +274,9 @@ impl Tally {
                 sum.count = count;
             });
         }
+        for (failure, count) in other.failures {
+            *self.failures.entry(failure).or_default() += count;
+        }
     }
 
     pub fn calls(&self) -> &BTreeMap<Call, Counts> {
@@ -247,6 +289,15 @@ impl Tally {
 
     pub fn all_unexplained(&self) -> &BTreeMap<Call, Unexplained> {
         &self.unexplained
+    }
+
+    pub fn failures(&self) -> &BTreeMap<String, u64> {
+        &self.failures
+    }
+
+    /// Whether everything was compared and explained.
+    pub fn is_clean(&self) -> bool {
+        self.unexplained.is_empty() && self.failures.is_empty()
     }
 }
 
@@ -326,22 +377,70 @@ mod tests {
         assert!(tally.all_unexplained().is_empty());
     }
 
+    fn panicked(message: &str) -> Original<u16> {
+        Original::Panicked(Panicked {
+            message: message.to_owned(),
+            place: String::new(),
+        })
+    }
+
     #[test]
-    fn a_class_explains_the_original_and_keeps_its_smallest_input() {
-        let panicked = || Original::Failed("overflow".to_owned());
-        let tally = compared(
-            answers(Ok(1), Ok(1), panicked()),
-            Some(Class::ProductWithInverse),
-        );
-        let noted = tally.class(Class::ProductWithInverse).unwrap();
+    fn a_class_keeps_its_smallest_input() {
+        let overflow = || panicked("attempt to multiply with overflow");
+        let class = Class::ProductWithInverse;
+        let tally = compared(answers(Ok(1), Ok(1), overflow()), Some(class));
+        let noted = tally.class(class).unwrap();
         assert_eq!(
             (noted.count, noted.smallest.to_string()),
             (3, "vn_gcd 3".to_owned())
         );
-        assert!(tally.all_unexplained().is_empty());
+        assert!(tally.is_clean());
 
-        let tally = compared(answers(Ok(1), Ok(1), panicked()), None);
+        let tally = compared(answers(Ok(1), Ok(1), overflow()), None);
         assert_eq!(tally.all_unexplained()[&Call::Gcd].count, 3);
+    }
+
+    /// Everything that the original may say instead of 1, and its shape.
+    fn disagreements() -> Vec<(Original<u16>, Option<Shape>)> {
+        vec![
+            (Original::Answered(2), None),
+            (Original::Answered(2).if_named(3), None),
+            (Original::Answered(3).if_named(3), Some(Shape::NamedAnswer)),
+            (Original::Declined, Some(Shape::NoAnswer)),
+            (
+                panicked("attempt to add with overflow"),
+                Some(Shape::Overflow),
+            ),
+            (
+                panicked("attempt to subtract with overflow"),
+                Some(Shape::Overflow),
+            ),
+            (
+                panicked("attempt to divide by zero"),
+                Some(Shape::DivisionByZero),
+            ),
+            (
+                panicked("attempt to calculate the remainder with a divisor of zero"),
+                Some(Shape::DivisionByZero),
+            ),
+            (panicked("index out of bounds"), None),
+            (Original::Failed("no number means it".to_owned()), None),
+        ]
+    }
+
+    #[test]
+    fn a_class_explains_the_shape_that_it_names_alone() {
+        for class in Class::ALL {
+            let named = |(_, shape): &(_, Option<Shape>)| *shape == Some(class.shape());
+            assert!(disagreements().iter().any(named), "{}", class.name());
+            for (original, shape) in disagreements() {
+                let excused = shape == Some(class.shape());
+                let context = format!("{}: {original:?}", class.name());
+                let tally = compared(answers(Ok(1), Ok(1), original), Some(class));
+                assert_eq!(tally.class(class).is_some(), excused, "{context}");
+                assert_eq!(tally.all_unexplained().is_empty(), excused, "{context}");
+            }
+        }
     }
 
     #[test]

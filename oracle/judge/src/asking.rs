@@ -14,11 +14,26 @@ use std::sync::Once;
 /// What the original answers, or how it panics instead.
 pub type Answer<T> = Result<T, Panicked>;
 
-/// A panic of the original: its message and the place in the original's source.
+/// A panic: its message and the place in the source.
 #[derive(Clone, Debug, PartialEq, Eq)]
 pub struct Panicked {
     pub message: String,
     pub place: String,
+}
+
+impl Panicked {
+    /// Whether a sum, a difference or a product passed its type.
+    pub fn is_overflow(&self) -> bool {
+        self.message.ends_with(" with overflow")
+    }
+
+    pub fn is_division_by_zero(&self) -> bool {
+        [
+            "attempt to divide by zero",
+            "attempt to calculate the remainder with a divisor of zero",
+        ]
+        .contains(&self.message.as_str())
+    }
 }
 
 impl fmt::Display for Panicked {
@@ -52,8 +67,8 @@ pub fn overflow_is_checked() -> bool {
     ask(|| hint::black_box(u8::MAX) + hint::black_box(1)).is_err()
 }
 
-/// Has a panic under a question noted instead of printed. Any other panic, as
-/// one of the comparison itself, is reported as before.
+/// Has a panic under a question noted instead of printed. Any other panic is
+/// reported as before.
 fn note_panics_quietly() {
     static HOOK: Once = Once::new();
     HOOK.call_once(|| {
@@ -68,13 +83,15 @@ fn note_panics_quietly() {
     });
 }
 
-/// The file's name and the line. The folders before it are those of this machine.
+/// The file and the line. The original's file has its name alone, since the folders
+/// before it are those of this machine.
 fn place_of(location: &Location) -> String {
-    let file = Path::new(location.file())
-        .file_name()
-        .unwrap_or_default()
-        .to_string_lossy();
-    format!("{file} line {}", location.line())
+    let path = Path::new(location.file());
+    let file = match path.file_name() {
+        Some(name) if path.is_absolute() => Path::new(name),
+        _ => path,
+    };
+    format!("{} line {}", file.display(), location.line())
 }
 
 fn message_of(payload: &(dyn Any + Send)) -> String {

@@ -1,5 +1,9 @@
 //! Questions to layout.rs.
 
+use reading::Outcome;
+use reading::books;
+use reading::layers::Kind;
+use reading::layouts::strip_of;
 use tune::layout;
 use tune::layout::Genchain;
 use tune::layout::IsomorphicLayout;
@@ -33,7 +37,7 @@ pub fn create(chain: Genchain, octave: u16, tritave: u16) -> Answer<Option<Isomo
 
 /// A val of two step counts. `create_layout` reads these alone, and not the
 /// step size, so any step size will do.
-fn val(octave: u16, tritave: u16) -> Val {
+pub fn val(octave: u16, tritave: u16) -> Val {
     Val::create(Ratio::octave(), vec![octave, tritave]).expect("two values are not too many")
 }
 
@@ -52,4 +56,35 @@ pub fn note_name(layout: &IsomorphicLayout, key: u16) -> Answer<String> {
 /// One layer for each key of the octave, or of two octaves at sharpness 0.
 pub fn layers(layout: &IsomorphicLayout) -> Answer<Vec<Layer>> {
     ask(|| layout.get_layers())
+}
+
+/// A layer of the original, in document 01's words.
+pub fn kind_of(layer: Layer) -> Kind {
+    match layer {
+        Layer::Natural => Kind::Natural,
+        Layer::Sharp(level) => Kind::Sharp(level.into()),
+        Layer::Enharmonic(level) => Kind::Enharmonic(level.into()),
+        Layer::Flat(level) => Kind::Flat(level.into()),
+    }
+}
+
+/// The strip that the original's layers make with document 01's lamp codes, or the
+/// refusal where they have no codes.
+pub fn strip(layout: &IsomorphicLayout) -> Answer<Outcome<Vec<u8>>> {
+    let octave = usize::from(layout.pergen().period());
+    let layers = layers(layout)?;
+    let kinds: Vec<Kind> = layers[..octave].iter().copied().map(kind_of).collect();
+    Ok(strip_of(&kinds))
+}
+
+/// The names of the octave's keys.
+pub fn note_names(layout: &IsomorphicLayout) -> Answer<Vec<String>> {
+    (0..layout.pergen().period())
+        .map(|key| note_name(layout, key))
+        .collect()
+}
+
+/// The original's names, laid down as document 01 says.
+pub fn book(layout: &IsomorphicLayout) -> Answer<Vec<u8>> {
+    Ok(books::of_names(&note_names(layout)?))
 }

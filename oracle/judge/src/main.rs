@@ -121,15 +121,8 @@ fn parse(words: &[&str]) -> Option<Question> {
 }
 
 fn parse_pattern(words: &[&str]) -> Option<Pattern> {
-    let [primary_count, secondary_count, primary_step, secondary_step] = words else {
-        return None;
-    };
-    Some(Pattern {
-        num_primary_steps: primary_count.parse().ok()?,
-        num_secondary_steps: secondary_count.parse().ok()?,
-        primary_step: primary_step.parse().ok()?,
-        secondary_step: secondary_step.parse().ok()?,
-    })
+    let numbers: Option<Vec<u16>> = words.iter().map(|word| word.parse().ok()).collect();
+    numbers?.try_into().ok()
 }
 
 fn answer(question: &Question, out: &mut impl Write) -> io::Result<()> {

@@ -5,14 +5,9 @@ use tune::pergen::Mos;
 use crate::asking::Answer;
 use crate::asking::ask;
 
-/// The four numbers of a pattern.
-#[derive(Clone, Copy, Debug, PartialEq, Eq)]
-pub struct Pattern {
-    pub num_primary_steps: u16,
-    pub num_secondary_steps: u16,
-    pub primary_step: u16,
-    pub secondary_step: u16,
-}
+/// The four numbers of a pattern: primary count, secondary count, primary step,
+/// secondary step.
+pub type Pattern = [u16; 4];
 
 /// The numbers that follow from a pattern.
 #[derive(Clone, Copy, Debug, PartialEq, Eq)]
@@ -24,27 +19,18 @@ pub struct Derived {
     pub reduced_size: u16,
 }
 
-impl From<Mos> for Pattern {
-    fn from(mos: Mos) -> Self {
-        Self {
-            num_primary_steps: mos.num_primary_steps(),
-            num_secondary_steps: mos.num_secondary_steps(),
-            primary_step: mos.primary_step(),
-            secondary_step: mos.secondary_step(),
-        }
-    }
+pub fn numbers(mos: Mos) -> Pattern {
+    [
+        mos.num_primary_steps(),
+        mos.num_secondary_steps(),
+        mos.primary_step(),
+        mos.secondary_step(),
+    ]
 }
 
 /// A given pattern, or `None` where the original finds its size too large.
-pub fn create(pattern: Pattern) -> Answer<Option<Mos>> {
-    ask(|| {
-        Mos::new(
-            pattern.num_primary_steps,
-            pattern.num_secondary_steps,
-            pattern.primary_step,
-            pattern.secondary_step,
-        )
-    })
+pub fn create([a, b, p, s]: Pattern) -> Answer<Option<Mos>> {
+    ask(|| Mos::new(a, b, p, s))
 }
 
 pub fn create_genesis(period: u16, generator: u16) -> Answer<Mos> {

@@ -13,7 +13,8 @@ use judge::numbers;
 use judge::patterns;
 use judge::patterns::Pattern;
 use judge::spelling;
-use judge::spelling::Accidentals;
+use judge::words;
+use judge::words::words;
 use tune::layout::Genchain;
 use tune::layout::IsomorphicLayout;
 use tune::layout::Layer;
@@ -59,7 +60,7 @@ pub fn accidentals(
     match spelling::generation(&pergen, key) {
         Ok(generation) => {
             writeln!(out, "degree {}", generation.degree)?;
-            writeln!(out, "cycle {}", or_dash(generation.cycle))?;
+            writeln!(out, "cycle {}", words(generation.cycle))?;
         }
         Err(panicked) => writeln!(out, "generation {panicked}")?,
     }
@@ -97,15 +98,23 @@ fn mos_lines(out: &mut impl Write, mos: Mos) -> io::Result<()> {
         Err(panicked) => writeln!(out, "numbers {panicked}")?,
     }
 
-    line(out, "child", patterns::child(mos).map(pattern_or_none))?;
-    line(out, "parent", patterns::parent(mos).map(pattern_or_none))?;
-    line(out, "genesis", patterns::genesis(mos).map(pattern_words))?;
-    line(out, "dual", patterns::dual(mos).map(pattern_words))?;
-    line(out, "mirror", patterns::mirror(mos).map(pattern_words))?;
+    line(
+        out,
+        "child",
+        patterns::child(mos).map(words::pattern_or_none),
+    )?;
+    line(
+        out,
+        "parent",
+        patterns::parent(mos).map(words::pattern_or_none),
+    )?;
+    line(out, "genesis", patterns::genesis(mos).map(words::pattern))?;
+    line(out, "dual", patterns::dual(mos).map(words::pattern))?;
+    line(out, "mirror", patterns::mirror(mos).map(words::pattern))?;
     line(
         out,
         "coprime",
-        patterns::coprime(mos).map(|mos| format!("{} size {}", pattern_words(mos), mos.size())),
+        patterns::coprime(mos).map(|mos| format!("{} size {}", words::pattern(mos), mos.size())),
     )?;
 
     let layers = patterns::layers(mos);
@@ -129,7 +138,7 @@ pub fn walk(out: &mut impl Write, period: u16, generator: u16) -> io::Result<()>
     match patterns::create_genesis(period, generator).and_then(patterns::children) {
         Ok(walk) => walk
             .into_iter()
-            .try_for_each(|mos| writeln!(out, "pattern {}", pattern_words(mos))),
+            .try_for_each(|mos| writeln!(out, "pattern {}", words::pattern(mos))),
         Err(panicked) => writeln!(out, "{panicked}"),
     }
 }
@@ -147,7 +156,7 @@ fn layout_lines(out: &mut impl Write, layout: &IsomorphicLayout) -> io::Result<(
     writeln!(out, "period {}", layout.pergen().period())?;
     writeln!(out, "generator {}", layout.pergen().generator())?;
     pergen_lines(out, layout.pergen())?;
-    writeln!(out, "pattern {}", pattern_words(layout.mos()))?;
+    writeln!(out, "pattern {}", words::pattern(layout.mos()))?;
     line(out, "scale", layouts::scale_name(layout))?;
     let sizes = patterns::layers(layout.mos()).map(|layers| patterns::layer_sizes(&layers));
     line(out, "layer sizes", sizes.map(words))?;
@@ -186,7 +195,7 @@ fn key_line(
         Ok((name, spelt)) => writeln!(
             out,
             "key {key} {name} {} {}",
-            spelling_words(spelt),
+            words::spelling(spelt),
             layer.map(layer_words).unwrap_or_else(|| "-".to_owned())
         ),
         Err(panicked) => writeln!(out, "key {key} {panicked}"),
@@ -199,12 +208,18 @@ pub fn classes(out: &mut impl Write) -> io::Result<()> {
         false => "not checked: numbers wrap",
     };
     writeln!(out, "overflow {checked}")?;
-    classes::all().into_iter().try_for_each(|class| {
-        writeln!(out)?;
-        writeln!(out, "{}", class.name)?;
-        writeln!(out, "  {}", class.question)?;
-        writeln!(out, "  {}", class.outcome)
-    })
+    for (class, inputs) in classes::SMALLEST {
+        writeln!(out, "\n{}", class.name())?;
+        for input in inputs {
+            writeln!(out, "  {input}")?;
+            match input.answer() {
+                Ok(Some(value)) => writeln!(out, "    answered: {value}")?,
+                Ok(None) => writeln!(out, "    none")?,
+                Err(panicked) => writeln!(out, "    {panicked}")?,
+            }
+        }
+    }
+    Ok(())
 }
 
 fn pergen_lines(out: &mut impl Write, pergen: &PerGen) -> io::Result<()> {
@@ -225,17 +240,6 @@ fn line<T: Display>(out: &mut impl Write, word: &str, answer: Answer<T>) -> io::
     }
 }
 
-fn spelling_words(spelt: Accidentals) -> String {
-    format!(
-        "{} {} {} {} {}",
-        spelt.sharp_index,
-        spelt.sharp_count,
-        spelt.flat_index,
-        spelt.flat_count,
-        or_dash(spelt.cycle)
-    )
-}
-
 fn layer_words(layer: Layer) -> String {
     match layer {
         Layer::Natural => "natural".to_owned(),
@@ -243,34 +247,4 @@ fn layer_words(layer: Layer) -> String {
         Layer::Flat(level) => format!("flat {level}"),
         Layer::Enharmonic(level) => format!("enharmonic {level}"),
     }
-}
-
-fn pattern_words(mos: Mos) -> String {
-    let pattern = Pattern::from(mos);
-    format!(
-        "{} {} {} {}",
-        pattern.num_primary_steps,
-        pattern.num_secondary_steps,
-        pattern.primary_step,
-        pattern.secondary_step
-    )
-}
-
-fn pattern_or_none(mos: Option<Mos>) -> String {
-    mos.map(pattern_words).unwrap_or_else(|| "none".to_owned())
-}
-
-fn words<T: Display>(values: impl IntoIterator<Item = T>) -> String {
-    let words: Vec<String> = values.into_iter().map(|value| value.to_string()).collect();
-    if words.is_empty() {
-        "-".to_owned()
-    } else {
-        words.join(" ")
-    }
-}
-
-fn or_dash(value: Option<u16>) -> String {
-    value
-        .map(|value| value.to_string())
-        .unwrap_or_else(|| "-".to_owned())
 }

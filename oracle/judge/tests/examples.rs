@@ -19,14 +19,8 @@ fn layout(code: u16, octave: u16, tritave: u16) -> IsomorphicLayout {
     find_layout(code, octave, tritave).expect("a layout")
 }
 
-fn counts(layout: &IsomorphicLayout) -> (u16, u16) {
-    let pattern = Pattern::from(layout.mos());
-    (pattern.num_primary_steps, pattern.num_secondary_steps)
-}
-
-fn steps(layout: &IsomorphicLayout) -> (u16, u16) {
-    let pattern = Pattern::from(layout.mos());
-    (pattern.primary_step, pattern.secondary_step)
+fn pattern(layout: &IsomorphicLayout) -> Pattern {
+    patterns::numbers(layout.mos())
 }
 
 fn layer_sizes(layout: &IsomorphicLayout) -> Vec<usize> {
@@ -46,8 +40,7 @@ fn note_names(layout: &IsomorphicLayout, keys: impl IntoIterator<Item = u16>) ->
 #[test]
 fn twelve_steps_are_diatonic() {
     let layout = layout(1, 12, 19);
-    assert_eq!(counts(&layout), (5, 2));
-    assert_eq!(steps(&layout), (2, 1));
+    assert_eq!(pattern(&layout), [5, 2, 2, 1]);
     assert_eq!(scale_name(&layout), "diatonic");
     assert_eq!(
         note_names(&layout, 0..12),
@@ -60,7 +53,7 @@ fn twelve_steps_are_diatonic() {
 #[test]
 fn thirty_one_steps_have_five_layers() {
     let layout = layout(1, 31, 49);
-    assert_eq!(steps(&layout), (5, 3));
+    assert_eq!(pattern(&layout), [5, 2, 5, 3]);
     assert_eq!(layer_sizes(&layout), [7, 7, 5, 5, 7]);
 }
 
@@ -85,9 +78,7 @@ fn cycles_are_stars_and_parentheses_stay_at_cycle_0() {
 
 #[test]
 fn hanson_in_nineteen_steps() {
-    let layout = layout(5, 19, 30);
-    assert_eq!(counts(&layout), (4, 3));
-    assert_eq!(steps(&layout), (4, 1));
+    assert_eq!(pattern(&layout(5, 19, 30)), [4, 3, 4, 1]);
 }
 
 #[test]

@@ -4,15 +4,20 @@
 use judge::asking;
 use judge::asking::Answer;
 use judge::asking::Panicked;
-use judge::classes;
 use judge::classes::Class;
+use judge::classes::Input;
+use judge::classes::SMALLEST;
+use judge::classes::Shape;
 use judge::layouts;
+use judge::layouts::CHAINS;
 use judge::numbers;
 use judge::patterns;
 use judge::patterns::Pattern;
 use judge::spelling;
 use judge::spelling::Generation;
 use tune::layout::Genchain;
+use tune::layout::IsomorphicLayout;
+use tune::pergen::AccidentalsFormat;
 use tune::pergen::Mos;
 
 fn panics<T>(message: &str, place: &str) -> Answer<T> {
@@ -26,29 +31,22 @@ fn generation(period: u16, generator: u16, key: u16) -> Answer<Generation> {
     spelling::create(period, generator).and_then(|pergen| spelling::generation(&pergen, key))
 }
 
-fn mos(numbers: [u16; 4]) -> Mos {
-    let [
-        num_primary_steps,
-        num_secondary_steps,
-        primary_step,
-        secondary_step,
-    ] = numbers;
-    patterns::create(Pattern {
-        num_primary_steps,
-        num_secondary_steps,
-        primary_step,
-        secondary_step,
-    })
-    .expect("no panic")
-    .expect("a size of at most 65,535")
+fn mos(numbers: Pattern) -> Mos {
+    patterns::create(numbers)
+        .expect("no panic")
+        .expect("a size of at most 65,535")
 }
 
-fn smallest_inputs(classes: &[Class], outcome: &str) -> Vec<String> {
-    classes
-        .iter()
-        .filter(|class| class.outcome.starts_with(outcome))
-        .map(|class| class.question.clone())
-        .collect()
+/// The shape of an answer. Whether a named answer is the one that its class names,
+/// the comparison knows.
+fn shape_of<T>(answer: Answer<Option<T>>) -> Option<Shape> {
+    match answer {
+        Ok(Some(_)) => Some(Shape::NamedAnswer),
+        Ok(None) => Some(Shape::NoAnswer),
+        Err(panicked) if panicked.is_overflow() => Some(Shape::Overflow),
+        Err(panicked) if panicked.is_division_by_zero() => Some(Shape::DivisionByZero),
+        Err(_) => None,
+    }
 }
 
 #[test]
@@ -91,68 +89,90 @@ fn quotient_and_remainder_answer_at_the_limits() {
 }
 
 #[test]
-fn the_classes_of_panics() {
-    let of = |classes: Vec<Class>| smallest_inputs(&classes, "panicked: ");
-    assert_eq!(
-        of(classes::of_numbers()),
-        ["i32_div_u(0, 0)", "i32_rem_u(0, 0)"]
-    );
-    assert_eq!(
-        of(classes::of_spelling()),
-        [
-            "PerGen::new(0, 0)",
-            "PerGen::new(0, 1)",
-            "PerGen::new(32770, 32769).get_generation(65535)",
-            "PerGen::new(46342, 46341).get_generation(46341)",
-            "PerGen::new(1, 0).get_accidentals(AccidentalsFormat { num_symbols: 0, genchain_origin: 0 }, 0)",
-        ]
-    );
-    assert_eq!(
-        of(classes::of_patterns()),
-        [
-            "Mos::new_genesis(0, 0)",
-            "Mos::new(1, 65535, 0, 0), get_layers()",
-            "Mos::new(0, 2, 32769, 0), coprime()",
-            "Mos::new(1, 1, 32769, 0), coprime()",
-            "Mos::new(0, 0, 2, 65535), get_key(-32768, -32768)",
-        ]
-    );
-    assert_eq!(
-        of(classes::of_layouts()),
-        [
-            "layout 0 0 0",
-            "layout 0 32771 49156, get_note_name(65535)",
-            "layout 1 32771 49156, get_note_name(65535)",
-            "layout 2 32771 49156, get_note_name(65535)",
-            "layout 4 32777 49165, get_note_name(65535)",
-            "layout 5 32770 6, get_note_name(65535)",
-            "layout 0 46345 57931, get_layers()",
-            "layout 1 46345 54069, get_layers()",
-            "layout 2 46345 54069, get_layers()",
-            "layout 4 46351 56651, get_layers()",
-            "layout 5 46342 6, get_layers()",
-        ]
-    );
+fn the_smallest_inputs_have_the_shape_of_their_class() {
+    for (class, inputs) in SMALLEST {
+        assert!(!inputs.is_empty());
+        for input in inputs {
+            assert_eq!(shape_of(input.answer()), Some(class.shape()), "{input}");
+        }
+    }
+    assert_eq!(SMALLEST.map(|(class, _)| class), Class::ALL);
 }
 
 #[test]
-fn answers_that_document_01_refuses() {
-    assert_eq!(
-        smallest_inputs(&classes::of_spelling(), "answered: "),
-        [
-            "PerGen::new(1, 0).get_accidentals(AccidentalsFormat { num_symbols: 1, genchain_origin: 1 }, 0)",
-            "PerGen::new(1, 0).get_accidentals(AccidentalsFormat { num_symbols: 2, genchain_origin: 2 }, 0)",
-        ]
-    );
-    assert_eq!(
-        smallest_inputs(&classes::of_layouts(), "answered: None"),
-        ["layout 3 0 1"]
-    );
+fn an_origin_that_is_no_symbols_may_give_an_index_that_is_none() {
+    let spelt = |num_symbols, genchain_origin| {
+        let format = AccidentalsFormat {
+            num_symbols,
+            genchain_origin,
+        };
+        let spelt = spelling::create(1, 0)
+            .and_then(|pergen| spelling::accidentals(&pergen, &format, 0))
+            .expect("no panic");
+        [spelt.sharp_index, spelt.flat_index]
+    };
+    assert_eq!(spelt(1, 1), [0, 0]);
+    assert_eq!(spelt(2, 2), [2, 2]);
+}
+
+/// The last key has the largest product with the inverse.
+#[test]
+fn a_search_finds_the_layouts_with_a_key_that_has_no_name() {
+    let last_overflows =
+        |layout: &IsomorphicLayout| layouts::accidentals(layout, u16::MAX).is_err();
+    let found: Vec<Input> = (0..)
+        .zip(CHAINS)
+        .filter_map(|(code, chain)| {
+            let (octave, tritave, layout) = first_layout(chain, 32_770, last_overflows)?;
+            let key = (0..=u16::MAX).find(|key| layouts::note_name(&layout, *key).is_err())?;
+            Some(Input::NoteName(code, octave, tritave, key))
+        })
+        .collect();
+    assert_eq!(found, smallest(Class::NameOfKey));
+}
+
+/// Within the octave the last key has the largest.
+#[test]
+fn a_search_finds_the_layouts_without_layers() {
+    let last_overflows = |layout: &IsomorphicLayout| {
+        layouts::accidentals(layout, layout.pergen().period() - 1).is_err()
+    };
+    let found: Vec<Input> = (0..)
+        .zip(CHAINS)
+        .filter_map(|(code, chain)| {
+            let (octave, tritave, _) = first_layout(chain, 46_342, last_overflows)?;
+            Some(Input::LayoutLayers(code, octave, tritave))
+        })
+        .collect();
+    assert_eq!(found, smallest(Class::LayersOfLayout));
+}
+
+/// The first layout that `belongs`, by octave and then tritave. A chain that
+/// doubles the octave has none with an octave beyond 32,767, and is not searched.
+fn first_layout(
+    chain: Genchain,
+    from_octave: u16,
+    belongs: impl Fn(&IsomorphicLayout) -> bool,
+) -> Option<(u16, u16, IsomorphicLayout)> {
+    if chain == Genchain::Porcupine8 {
+        return None;
+    }
+    (from_octave..=u16::MAX)
+        .flat_map(|octave| (0..=u16::MAX).map(move |tritave| (octave, tritave)))
+        .find_map(|(octave, tritave)| {
+            let layout = layouts::create(chain, octave, tritave).ok()??;
+            belongs(&layout).then_some((octave, tritave, layout))
+        })
+}
+
+fn smallest(class: Class) -> &'static [Input] {
+    let of_class = SMALLEST.into_iter().find(|(found, _)| *found == class);
+    of_class.expect("every class has smallest inputs").1
 }
 
 #[test]
 fn every_octave_0_panics_or_gives_none() {
-    for chain in layouts::CHAINS {
+    for chain in CHAINS {
         assert!(layouts::create(chain, 0, 0).is_err());
         for tritave in 1..=100 {
             assert!(!matches!(layouts::create(chain, 0, tritave), Ok(Some(_))));

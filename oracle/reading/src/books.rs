@@ -38,7 +38,7 @@ fn put(book: &mut Vec<u8>, number: usize) {
 }
 
 /// "The first offset is 4 + 8 × count."
-fn text_starts(count: Whole) -> Whole {
+pub fn text_starts(count: Whole) -> Whole {
     4 + 8 * count
 }
 

@@ -8,6 +8,7 @@ use super::ask;
 /// A row of document 01's table, with the names of its scales.
 #[derive(Debug)]
 pub struct Chain {
+    pub name: &'static str,
     pub letters: &'static [&'static str],
     /// The place, from 0, of the letter of key 0.
     pub start: Whole,
@@ -31,36 +32,42 @@ enum Generator {
 
 static CHAINS: [Chain; 6] = [
     Chain {
+        name: "Mavila[9]",
         letters: &["β", "F", "C", "G", "D", "A", "E", "B", "φ"],
         start: 4,
         generator: Generator::Fifth,
         scales: ["armotonic", "balzano"],
     },
     Chain {
+        name: "Meantone[7]",
         letters: &["F", "C", "G", "D", "A", "E", "B"],
         start: 3,
         generator: Generator::Fifth,
         scales: ["diatonic", "antidiatonic"],
     },
     Chain {
+        name: "Meantone[5]",
         letters: &["C", "G", "D", "A", "E"],
         start: 2,
         generator: Generator::Fifth,
         scales: ["antipentic", "pentic"],
     },
     Chain {
+        name: "Porcupine[8]",
         letters: &["A", "B", "C", "D", "E", "F", "G", "H"],
         start: 3,
         generator: Generator::ThirdOfFourth,
         scales: ["pine", "antipine"],
     },
     Chain {
+        name: "Tetracot[7]",
         letters: &["A", "B", "C", "D", "E", "F", "G"],
         start: 3,
         generator: Generator::QuarterOfFifth,
         scales: ["archeotonic", "onyx"],
     },
     Chain {
+        name: "Hanson[7]",
         letters: &["C", "A", "F", "D", "B", "G", "E"],
         start: 3,
         generator: Generator::OctaveLessSixthOfTritave,

@@ -117,10 +117,10 @@ pub fn strip_of(kinds: &[Kind]) -> Outcome<Vec<u8>> {
 }
 
 /// "Key 0 is 0, home."
-const HOME: u8 = 0;
+pub const HOME: u8 = 0;
 
 /// "Natural 1, sharp k 2 + k, flat k 102 + k, enharmonic 255."
-fn lamp(kind: Kind) -> u8 {
+pub fn lamp(kind: Kind) -> u8 {
     fitted(match kind {
         Kind::Natural => 1,
         Kind::Sharp(level) => 2 + level,

@@ -11,13 +11,12 @@ use judge::numbers;
 use judge::patterns;
 use judge::patterns::Pattern;
 use judge::spelling;
-use judge::spelling::Accidentals;
+use judge::words;
+use judge::words::words;
 use reading::Outcome;
 use reading::ask;
 use reading::books;
 use reading::chains;
-use reading::layers::Kind;
-use reading::layouts::strip_of;
 use reading::numbers::remainder;
 use reading::pergens::Format;
 use reading::tables;
@@ -33,8 +32,6 @@ use crate::questions::Layout;
 use crate::questions::OfLayout;
 use crate::questions::OfPattern;
 use crate::questions::Question;
-use crate::questions::pattern_text;
-use crate::questions::read_pattern;
 
 /// Why there is no answer.
 enum Absent {
@@ -113,7 +110,7 @@ fn text(question: &Question) -> Text {
         }
         Question::Pergen(pergen) => pergen_text(&created(*pergen)?),
         Question::Generation(pergen, key) => given(spelling::generation(&created(*pergen)?, *key))
-            .map(|generation| format!("{} {}", generation.degree, or_dash(generation.cycle))),
+            .map(|generation| format!("{} {}", generation.degree, words(generation.cycle))),
         Question::Accidentals {
             pergen,
             num_symbols,
@@ -129,14 +126,14 @@ fn text(question: &Question) -> Text {
                 num_symbols: *num_symbols,
                 genchain_origin: *genchain_origin,
             };
-            given(spelling::accidentals(&created(*pergen)?, &format, *key)).map(spelling_text)
+            given(spelling::accidentals(&created(*pergen)?, &format, *key)).map(words::spelling)
         }
         Question::NewGenesis(pergen) => {
             let genesis = patterns::create_genesis(pergen.period, pergen.generator);
-            settled(pergen.read(), genesis).map(mos_text)
+            settled(pergen.read(), genesis).map(words::pattern)
         }
         Question::NewCollapsed(large, small) => {
-            given(patterns::create_collapsed(*large, *small)).map(mos_text)
+            given(patterns::create_collapsed(*large, *small)).map(words::pattern)
         }
         Question::OfPattern(asked, pattern) => of_pattern(*asked, *pattern),
         Question::GetKey(pattern, primary, secondary) => {
@@ -149,7 +146,7 @@ fn text(question: &Question) -> Text {
         }
         Question::OfLayout(asked, layout) => of_layout(*asked, &created_layout(*layout)?),
         Question::Spelling(layout, key) => {
-            given(layouts::accidentals(&created_layout(*layout)?, *key)).map(spelling_text)
+            given(layouts::accidentals(&created_layout(*layout)?, *key)).map(words::spelling)
         }
         Question::Name(layout, key) => given(layouts::note_name(&created_layout(*layout)?, *key)),
         Question::BookLength(layout) => Ok(book(*layout)?.len().to_string()),
@@ -166,7 +163,7 @@ fn text(question: &Question) -> Text {
 fn given<T>(answer: Answer<T>) -> Result<T, Absent> {
     match answer {
         Ok(value) => Ok(value),
-        Err(panicked) if panicked.message.contains("overflow") => Err(Absent::Overflow),
+        Err(panicked) if panicked.is_overflow() => Err(Absent::Overflow),
         Err(panicked) => unreachable!("document 01 has an answer; the original {panicked}"),
     }
 }
@@ -190,7 +187,10 @@ fn created(asked: FreePergen) -> Result<PerGen, Absent> {
 }
 
 fn created_pattern(pattern: Pattern) -> Result<Mos, Absent> {
-    match (read_pattern(pattern), patterns::create(pattern)) {
+    match (
+        reading::patterns::Pattern::given(pattern),
+        patterns::create(pattern),
+    ) {
         (Ok(_), Ok(Some(mos))) => Ok(mos),
         (Err(number), Ok(None)) => Err(number.into()),
         (read, answer) => {
@@ -233,14 +233,14 @@ fn of_pattern(asked: OfPattern, pattern: Pattern) -> Text {
                 derived.reduced_size
             )
         }),
-        OfPattern::Child => given(patterns::child(mos)).map(mos_or_none),
-        OfPattern::Parent => given(patterns::parent(mos)).map(mos_or_none),
-        OfPattern::Genesis => given(patterns::genesis(mos)).map(mos_text),
-        OfPattern::Dual => given(patterns::dual(mos)).map(mos_text),
-        OfPattern::Mirror => given(patterns::mirror(mos)).map(mos_text),
+        OfPattern::Child => given(patterns::child(mos)).map(words::pattern_or_none),
+        OfPattern::Parent => given(patterns::parent(mos)).map(words::pattern_or_none),
+        OfPattern::Genesis => given(patterns::genesis(mos)).map(words::pattern),
+        OfPattern::Dual => given(patterns::dual(mos)).map(words::pattern),
+        OfPattern::Mirror => given(patterns::mirror(mos)).map(words::pattern),
         OfPattern::Coprime => {
-            let read = read_pattern(pattern)?.coprime();
-            settled(read, patterns::coprime(mos)).map(mos_text)
+            let read = reading::patterns::Pattern::given(pattern)?.coprime();
+            settled(read, patterns::coprime(mos)).map(words::pattern)
         }
         OfPattern::Children => given(patterns::children(mos)).map(walk_text),
         OfPattern::Parents => given(patterns::parents(mos)).map(walk_text),
@@ -255,27 +255,20 @@ fn of_layout(asked: OfLayout, layout: &IsomorphicLayout) -> Text {
     match asked {
         OfLayout::Numbers => {
             let pergen = pergen_text(layout.pergen())?;
-            let pattern = mos_text(layout.mos());
+            let pattern = words::pattern(layout.mos());
             let scale = given(layouts::scale_name(layout))?;
             Ok(format!("{scale} {pergen} {pattern}"))
         }
-        OfLayout::Names => names(layout).map(words),
+        OfLayout::Names => given(layouts::note_names(layout)).map(words),
         OfLayout::KeyLayers => {
             given(layouts::layers(layout)).map(|layers| words(layers.into_iter().map(layer_text)))
         }
-        OfLayout::Lamps => lamps(layout).map(words),
+        OfLayout::Lamps => Ok(words(given(layouts::strip(layout))??)),
     }
 }
 
-fn names(layout: &IsomorphicLayout) -> Result<Vec<String>, Absent> {
-    (0..layout.pergen().period())
-        .map(|key| given(layouts::note_name(layout, key)))
-        .collect()
-}
-
-/// The original's names, laid down as document 01 says.
 fn book(layout: Layout) -> Result<Vec<u8>, Absent> {
-    Ok(books::of_names(&names(&created_layout(layout)?)?))
+    given(layouts::book(&created_layout(layout)?))
 }
 
 /// Offset and length, and the name; or the refusal, which both calls tell.
@@ -287,23 +280,6 @@ fn found_text(book: &[u8], key: u32) -> String {
             format!("{offset} {length} {name}")
         }
         Err(number) => format!("refused {number} refused {number}"),
-    }
-}
-
-/// The codes of the octave's keys, by the layers that the original gives them.
-fn lamps(layout: &IsomorphicLayout) -> Result<Vec<u8>, Absent> {
-    let layers = given(layouts::layers(layout))?;
-    let octave = usize::from(layout.pergen().period());
-    let kinds: Vec<Kind> = layers[..octave].iter().copied().map(kind_of).collect();
-    Ok(strip_of(&kinds)?)
-}
-
-fn kind_of(layer: Layer) -> Kind {
-    match layer {
-        Layer::Natural => Kind::Natural,
-        Layer::Sharp(level) => Kind::Sharp(level.into()),
-        Layer::Enharmonic(level) => Kind::Enharmonic(level.into()),
-        Layer::Flat(level) => Kind::Flat(level.into()),
     }
 }
 
@@ -323,7 +299,7 @@ fn table_lines(line: &str) -> Text {
         tritave,
     })?;
     let mut text = String::new();
-    for (key, lamp) in (0..).zip(lamps(&layout)?) {
+    for (key, lamp) in (0..).zip(given(layouts::strip(&layout))??) {
         let name = given(layouts::note_name(&layout, key))?;
         writeln!(text, "{key} {name} {lamp}").expect("a string takes any text");
     }
@@ -346,17 +322,6 @@ fn pergen_text(pergen: &PerGen) -> Text {
     ))
 }
 
-fn spelling_text(spelt: Accidentals) -> String {
-    format!(
-        "{} {} {} {} {}",
-        spelt.sharp_index,
-        spelt.sharp_count,
-        spelt.flat_index,
-        spelt.flat_count,
-        or_dash(spelt.cycle)
-    )
-}
-
 fn layer_text(layer: Layer) -> String {
     match layer {
         Layer::Natural => "n".to_owned(),
@@ -366,31 +331,8 @@ fn layer_text(layer: Layer) -> String {
     }
 }
 
-fn mos_text(mos: Mos) -> String {
-    pattern_text(mos.into())
-}
-
-fn mos_or_none(mos: Option<Mos>) -> String {
-    mos.map(mos_text).unwrap_or_else(|| "none".to_owned())
-}
-
 fn walk_text(walk: Vec<Mos>) -> String {
-    words(walk.into_iter().map(mos_text))
-}
-
-fn words<T: Display>(values: impl IntoIterator<Item = T>) -> String {
-    let words: Vec<String> = values.into_iter().map(|value| value.to_string()).collect();
-    if words.is_empty() {
-        "-".to_owned()
-    } else {
-        words.join(" ")
-    }
-}
-
-fn or_dash(value: Option<u16>) -> String {
-    value
-        .map(|value| value.to_string())
-        .unwrap_or_else(|| "-".to_owned())
+    words(walk.into_iter().map(words::pattern))
 }
 
 #[cfg(test)]

@@ -3,15 +3,14 @@
 //! Refusals 10 to 13 are met here: rooms one too short, and books that are damaged
 //! in every way that document 01 tells from a book.
 
-use judge::patterns::Pattern;
 use reading::layers;
+use reading::patterns::Pattern;
 
 use crate::list::layout;
 use crate::questions::Layout;
 use crate::questions::OfLayout;
 use crate::questions::OfPattern;
 use crate::questions::Question;
-use crate::questions::read_pattern;
 use crate::random::Random;
 
 /// Of each chain a small book, in which every key is looked up, a larger one and a
@@ -111,13 +110,8 @@ fn in_no_room(layout: Layout) -> Vec<Question> {
 }
 
 fn pattern_rooms() -> Vec<Question> {
-    let pattern = Pattern {
-        num_primary_steps: 5,
-        num_secondary_steps: 2,
-        primary_step: 5,
-        secondary_step: 3,
-    };
-    let read = read_pattern(pattern).expect("an accepted pattern");
+    let pattern = [5, 2, 5, 3];
+    let read = Pattern::given(pattern).expect("an accepted pattern");
     // A pattern is four numbers, and a walk begins with the pattern itself.
     [
         (OfPattern::Children, 4 * read.children().count()),

@@ -6,9 +6,9 @@ use std::fmt::Display;
 use std::fmt::Formatter;
 
 use judge::patterns::Pattern;
+use judge::words::words;
 use reading::Outcome;
 use reading::layouts;
-use reading::patterns;
 use reading::pergens::Pergen;
 
 /// A chain code, and the step counts of octave and tritave.
@@ -38,16 +38,6 @@ impl FreePergen {
     pub fn read(self) -> Outcome<Pergen> {
         Pergen::new(self.period.into(), self.generator.into())
     }
-}
-
-/// What document 01 makes of a pattern.
-pub fn read_pattern(pattern: Pattern) -> Outcome<patterns::Pattern> {
-    patterns::Pattern::given([
-        pattern.num_primary_steps,
-        pattern.num_secondary_steps,
-        pattern.primary_step,
-        pattern.secondary_step,
-    ])
 }
 
 #[derive(Clone, Copy, Debug, PartialEq, Eq)]
@@ -167,17 +157,6 @@ impl Display for FreePergen {
     }
 }
 
-/// The four numbers of a pattern in text.
-pub fn pattern_text(pattern: Pattern) -> String {
-    format!(
-        "{} {} {} {}",
-        pattern.num_primary_steps,
-        pattern.num_secondary_steps,
-        pattern.primary_step,
-        pattern.secondary_step
-    )
-}
-
 impl Display for Question {
     fn fmt(&self, f: &mut Formatter<'_>) -> fmt::Result {
         match self {
@@ -200,14 +179,10 @@ impl Display for Question {
             Self::NewGenesis(pergen) => write!(f, "new_genesis {pergen}"),
             Self::NewCollapsed(large, small) => write!(f, "new_collapsed {large} {small}"),
             Self::OfPattern(asked, pattern) => {
-                write!(f, "{} {}", asked.name(), pattern_text(*pattern))
+                write!(f, "{} {}", asked.name(), words(*pattern))
             }
             Self::GetKey(pattern, primary, secondary) => {
-                write!(
-                    f,
-                    "get_key {} {primary} {secondary}",
-                    pattern_text(*pattern)
-                )
+                write!(f, "get_key {} {primary} {secondary}", words(*pattern))
             }
             Self::Chain(code) => write!(f, "chain {code}"),
             Self::OfLayout(asked, layout) => write!(f, "{} {layout}", asked.name()),

@@ -3,16 +3,16 @@ use mathlib.Core.Path.{refl, ap}
 use Prim.Native.Nat.{ℕ}
 use native.Mathlib.Omega.{arith}
 use Rattle.answer.specs.Outcome.{given}
-use Rattle.answer.proofs.Writing.{wrote-as}
-use Rattle.answer.proofs.Lent.{filled-refused, filled-given}
+use Rattle.text.proofs.Writing.{wrote-as, filled-given}
+use Rattle.answer.proofs.Lent.{filled-refused}
 use Rattle.genchain.proofs.TableRows.{table-row, row-count, row-letters, length-letters-in}
-use Rattle.genchain.proofs.Calls.{letters-no-chain, letters-not-held, letters-held}
+use Rattle.genchain.proofs.Calls.{is-chain, is-none, letters-no-chain, letters-not-held, letters-held}
 use borrow.Author.Needs.{needs}
 use Rattle.genchain.proofs.letters.Statement.{statement}
 use Rattle.genchain.proofs.letters.Tie as tie
 
-returns : tie.Need-returns
-returns c = filled-refused 1 _ (letters-no-chain _ (c .if1 .taken) _) refl
+is-chain-requires : tie.Need-is-chain-requires
+is-chain-requires c κs = search needs
 
 row-requires : tie.Need-row-requires
 row-requires c κs = search needs
@@ -20,24 +20,25 @@ row-requires c κs = search needs
 cast-count : tie.Need-cast-count
 cast-count c = search needs
 
-returns-2 : tie.Need-returns-2
-returns-2 c =
-    let below = c .before .before .before .if1 .left in
+returns : tie.Need-returns
+returns c =
+    let below = is-chain _ (c .before .before .before .before .is-chain .ensures) (c .before .before .before .if1 .taken) in
     let t = table-row _ _ below (c .before .before .row .ensures) in
     filled-refused 10 _ (letters-not-held _ below _ (omega (arith, row-count _ t))) refl
 
 put-letters-requires : tie.Need-put-letters-requires
 put-letters-requires c κs =
-    let t = table-row _ _ (c .before .before .before .before .if1 .left) (c .before .before .before .row .ensures) in
+    let below = is-chain _ (c .before .before .before .before .before .is-chain .ensures) (c .before .before .before .before .if1 .taken) in
+    let t = table-row _ _ below (c .before .before .before .row .ensures) in
     (t, omega (arith, length-letters-in _ t))
 
 same-length : tie.Need-same-length
 same-length c = search needs
 
-returns-3 : tie.Need-returns-3
-returns-3 c =
+returns-2 : tie.Need-returns-2
+returns-2 c =
     let s = c .before .before .before .before in
-    let below = s .before .before .before .if1 .left in
+    let below = is-chain _ (s .before .before .before .before .is-chain .ensures) (s .before .before .before .if1 .taken) in
     let t = table-row _ _ below (s .before .before .row .ensures) in
     filled-given
     (letters-held _ below _ (omega (arith, row-count _ t)))
@@ -45,7 +46,18 @@ returns-3 c =
     (omega (arith, row-count _ t))
     (wrote-as (row-letters _ t) (c .before .before .put-letters .ensures))
 
+returns-3 : tie.Need-returns-3
+returns-3 c = filled-refused 1 _ (letters-no-chain _ (is-none _ (c .before .is-chain .ensures) (c .if1 .left)) _) refl
+
 pub letters-spec : {M : Type 1} → statement M
 letters-spec =
     tie.close
-    (tie.spec returns row-requires cast-count returns-2 put-letters-requires same-length returns-3)
+    (tie.spec
+    is-chain-requires
+    row-requires
+    cast-count
+    returns
+    put-letters-requires
+    same-length
+    returns-2
+    returns-3)

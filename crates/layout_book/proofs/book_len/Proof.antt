@@ -1,22 +1,18 @@
 -- Questions 1 to 4, then the length of the layout's book.
 use mathlib.Core.Path.{sym, ap, _∙_}
-use Rattle.genchain.proofs.Calls.{generator-no-chain}
 use Rattle.layout.specs.Parts.{foundOutcome}
-use Rattle.layout.proofs.Finding.{find-refused, count-found}
+use Rattle.layout.proofs.Calls.{laid-of, row-found}
 use Rattle.answer.specs.Lent.{counted}
 use Rattle.layout_book.proofs.BookCalls.{book-refused, book-count}
 use borrow.Author.Needs.{needs}
 use Rattle.layout_book.proofs.book_len.Statement.{statement}
 use Rattle.layout_book.proofs.book_len.Tie as tie
 
-returns : tie.Need-returns
-returns c = ap counted (book-refused _ 1 (find-refused _ _ _ 1 (generator-no-chain _ _ _ (c .if1 .taken))))
-
 row-requires : tie.Need-row-requires
 row-requires c κs = search needs
 
 find-requires : tie.Need-find-requires
-find-requires c κs = count-found _ _ (c .row .ensures)
+find-requires c κs = search needs
 
 enum-known-q : tie.Need-enum-known-q
 enum-known-q c = search needs
@@ -25,31 +21,29 @@ enum-known-found : tie.Need-enum-known-found
 enum-known-found c = search needs
 
 speller-of-requires : tie.Need-speller-of-requires
-speller-of-requires c κs = (
-  c .before .before .before .before .row .ensures,
-  sym (sym (ap foundOutcome (c .before .found .given .1)) ∙ c .before .before .before .find .ensures),
-)
+speller-of-requires c κs =
+    let e = sym (ap foundOutcome (c .before .found .given .1)) ∙ c .before .before .before .find .ensures in
+    (row-found _ _ e _ (c .before .before .before .before .row .ensures), laid-of _ _ e)
 
 book-length-requires : tie.Need-book-length-requires
 book-length-requires c κs = search needs
 
-returns-2 : tie.Need-returns-2
-returns-2 c = ap counted (book-refused _ _ (sym (ap foundOutcome (c .before .q .given .1)) ∙ c .before .before .before .find .ensures))
+returns : tie.Need-returns
+returns c = ap counted (book-refused _ _ (sym (ap foundOutcome (c .before .q .given .1)) ∙ c .before .before .before .find .ensures))
 
-returns-3 : tie.Need-returns-3
-returns-3 c =
+returns-2 : tie.Need-returns-2
+returns-2 c =
     book-count _ _ (sym (ap foundOutcome (c .before .before .before .found .given .1)) ∙ c .before .before .before .before .before .find .ensures) _ (c .before .speller-of .ensures) _ (c .book-length .ensures)
 
 pub book-len-spec : {M : Type 1} → statement M
 book-len-spec =
     tie.close
     (tie.spec
-    returns
     row-requires
     find-requires
     enum-known-q
     enum-known-found
     speller-of-requires
     book-length-requires
-    returns-2
-    returns-3)
+    returns
+    returns-2)

@@ -1,23 +1,18 @@
 -- Questions 1 to 4, then 10, then the layout's book.
 use mathlib.Core.Path.{refl, sym, ap, _∙_}
-use Rattle.genchain.proofs.Calls.{generator-no-chain}
 use Rattle.layout.specs.Parts.{foundOutcome}
-use Rattle.layout.proofs.Finding.{find-refused, count-found}
-use Rattle.layout.proofs.Calls.{filled-as, refused-in-room}
+use Rattle.layout.proofs.Calls.{laid-of, row-found, filled-as, refused-in-room}
 use Rattle.answer.proofs.Lent.{filled-refused}
 use Rattle.layout_book.proofs.BookCalls.{book-refused, book-in-room}
 use borrow.Author.Needs.{needs}
 use Rattle.layout_book.proofs.write_book.Statement.{statement}
 use Rattle.layout_book.proofs.write_book.Tie as tie
 
-returns : tie.Need-returns
-returns c = filled-refused 1 _ (refused-in-room _ 1 _ (book-refused _ 1 (find-refused _ _ _ 1 (generator-no-chain _ _ _ (c .if1 .taken))))) refl
-
 row-requires : tie.Need-row-requires
 row-requires c κs = search needs
 
 find-requires : tie.Need-find-requires
-find-requires c κs = count-found _ _ (c .row .ensures)
+find-requires c κs = search needs
 
 enum-known-q : tie.Need-enum-known-q
 enum-known-q c = search needs
@@ -26,23 +21,22 @@ enum-known-found : tie.Need-enum-known-found
 enum-known-found c = search needs
 
 speller-of-requires : tie.Need-speller-of-requires
-speller-of-requires c κs = (
-  c .before .before .before .before .row .ensures,
-  sym (sym (ap foundOutcome (c .before .found .given .1)) ∙ c .before .before .before .find .ensures),
-)
+speller-of-requires c κs =
+    let e = sym (ap foundOutcome (c .before .found .given .1)) ∙ c .before .before .before .find .ensures in
+    (row-found _ _ e _ (c .before .before .before .before .row .ensures), laid-of _ _ e)
 
 write-names-requires : tie.Need-write-names-requires
 write-names-requires c κs = search needs
 
-returns-2 : tie.Need-returns-2
-returns-2 c =
+returns : tie.Need-returns
+returns c =
     filled-refused _ _ (refused-in-room _ _ _ (book-refused _ _ (sym (ap foundOutcome (c .before .q .given .1)) ∙ c .before .before .before .find .ensures))) refl
 
 same-length : tie.Need-same-length
 same-length c = search needs
 
-returns-3 : tie.Need-returns-3
-returns-3 c =
+returns-2 : tie.Need-returns-2
+returns-2 c =
     let w = c .before .before in
     let s = w .before .before in
     filled-as (book-in-room _ _ (sym (ap foundOutcome (s .before .before .found .given .1)) ∙ s .before .before .before .before .find .ensures) _ (s .speller-of .ensures) _) (w .write-names .ensures)
@@ -51,13 +45,12 @@ pub write-book-spec : {M : Type 1} → statement M
 write-book-spec =
     tie.close
     (tie.spec
-    returns
     row-requires
     find-requires
     enum-known-q
     enum-known-found
     speller-of-requires
     write-names-requires
-    returns-2
+    returns
     same-length
-    returns-3)
+    returns-2)

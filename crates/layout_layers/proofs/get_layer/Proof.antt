@@ -1,8 +1,8 @@
 -- Questions 1 to 4, then the key's number.
 use mathlib.Core.Path.{sym, ap, _∙_}
 use Rattle.layout.specs.Parts.{foundOutcome}
+use Rattle.layout.proofs.Calls.{parts-of, laid-of}
 use Rattle.layout_layers.proofs.Calls.{layer-refused, layer-given, inverse-given}
-use Rattle.layout_layers.proofs.PlanLaws.{plan-parts}
 use borrow.Author.Needs.{needs}
 use Rattle.layout_layers.proofs.get_layer.Statement.{statement}
 use Rattle.layout_layers.proofs.get_layer.Tie as tie
@@ -18,10 +18,10 @@ enum-known-found c = search needs
 
 solve-requires : tie.Need-solve-requires
 solve-requires c κs =
-    plan-parts _ _ _ _ (sym (sym (ap foundOutcome (c .before .found .given .1)) ∙ c .before .before .before .search .ensures)) .positive
+    parts-of _ _ (sym (ap foundOutcome (c .before .found .given .1)) ∙ c .before .before .before .search .ensures) .positive
 
 plan-of-requires : tie.Need-plan-of-requires
-plan-of-requires c κs = sym (sym (ap foundOutcome (c .before .before .found .given .1)) ∙ c .before .before .before .before .search .ensures)
+plan-of-requires c κs = laid-of _ _ (sym (ap foundOutcome (c .before .before .found .given .1)) ∙ c .before .before .before .before .search .ensures)
 
 number-of-requires : tie.Need-number-of-requires
 number-of-requires c κs =

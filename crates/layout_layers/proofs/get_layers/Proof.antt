@@ -1,6 +1,7 @@
 -- Questions 1 to 4, then the entries of the plan.
 use mathlib.Core.Path.{sym, ap, _∙_}
 use Rattle.layout.specs.Parts.{foundOutcome}
+use Rattle.layout.proofs.Calls.{laid-of}
 use Rattle.layout_layers.proofs.Calls.{layers-not-written, layers-written}
 use borrow.Author.Needs.{needs}
 use Rattle.layout_layers.proofs.get_layers.Statement.{statement}
@@ -16,7 +17,7 @@ enum-known-found : tie.Need-enum-known-found
 enum-known-found c = search needs
 
 plan-of-requires : tie.Need-plan-of-requires
-plan-of-requires c κs = sym (sym (ap foundOutcome (c .before .found .given .1)) ∙ c .before .before .before .search .ensures)
+plan-of-requires c κs = laid-of _ _ (sym (ap foundOutcome (c .before .found .given .1)) ∙ c .before .before .before .search .ensures)
 
 write-layers-requires : tie.Need-write-layers-requires
 write-layers-requires c κs = c .before .plan-of .ensures .sound

@@ -1,6 +1,7 @@
 -- Questions 1 to 4, then the plan's total.
 use mathlib.Core.Path.{sym, ap, _∙_}
 use Rattle.layout.specs.Parts.{foundOutcome}
+use Rattle.layout.proofs.Calls.{laid-of}
 use Rattle.layout_layers.proofs.Calls.{count-refused, count-given}
 use borrow.Author.Needs.{needs}
 use Rattle.layout_layers.proofs.layer_count.Statement.{statement}
@@ -16,7 +17,7 @@ enum-known-found : tie.Need-enum-known-found
 enum-known-found c = search needs
 
 plan-of-requires : tie.Need-plan-of-requires
-plan-of-requires c κs = sym (sym (ap foundOutcome (c .before .found .given .1)) ∙ c .before .before .before .search .ensures)
+plan-of-requires c κs = laid-of _ _ (sym (ap foundOutcome (c .before .found .given .1)) ∙ c .before .before .before .search .ensures)
 
 total-of-requires : tie.Need-total-of-requires
 total-of-requires c κs = c .plan-of .ensures .sound

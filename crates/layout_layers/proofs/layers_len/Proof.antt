@@ -2,6 +2,7 @@
 use mathlib.Core.Path.{sym, ap, _∙_}
 use Rattle.answer.specs.Lent.{counted}
 use Rattle.layout.specs.Parts.{foundOutcome}
+use Rattle.layout.proofs.Calls.{laid-of}
 use Rattle.layout_layers.proofs.Calls.{layers-refused, length-given}
 use borrow.Author.Needs.{needs}
 use Rattle.layout_layers.proofs.layers_len.Statement.{statement}
@@ -17,7 +18,7 @@ enum-known-found : tie.Need-enum-known-found
 enum-known-found c = search needs
 
 plan-of-requires : tie.Need-plan-of-requires
-plan-of-requires c κs = sym (sym (ap foundOutcome (c .before .found .given .1)) ∙ c .before .before .before .search .ensures)
+plan-of-requires c κs = laid-of _ _ (sym (ap foundOutcome (c .before .found .given .1)) ∙ c .before .before .before .search .ensures)
 
 entries-requires : tie.Need-entries-requires
 entries-requires c κs = search needs

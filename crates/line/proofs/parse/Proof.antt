@@ -5,8 +5,8 @@ use borrow.Author.Needs.{needs}
 use Rattle.line.proofs.parse.Statement.{statement}
 use Rattle.line.proofs.parse.Tie as tie
 
-read-number-requires : tie.Need-read-number-requires
-read-number-requires c κs = search needs
+read-field-requires : tie.Need-read-field-requires
+read-field-requires c κs = search needs
 
 enum-known-genchain : tie.Need-enum-known-genchain
 enum-known-genchain c = search needs
@@ -15,10 +15,10 @@ enum-told : tie.Need-enum-told
 enum-told c = search needs
 
 returns : tie.Need-returns
-returns c = no-first _ (sym (c .enum-told .given .1) ∙ c .before .before .read-number .ensures)
+returns c = no-first _ (sym (c .enum-told .given .1) ∙ c .before .before .read-field .ensures)
 
-read-number-requires-2 : tie.Need-read-number-requires-2
-read-number-requires-2 c κs = search needs
+read-field-requires-2 : tie.Need-read-field-requires-2
+read-field-requires-2 c κs = search needs
 
 enum-known-octave : tie.Need-enum-known-octave
 enum-known-octave c = search needs
@@ -29,11 +29,11 @@ enum-told-2 c = search needs
 returns-2 : tie.Need-returns-2
 returns-2 c =
     let a = c .before .before .before .before in
-    no-second _ _ _ (sym (a .genchain .given .1) ∙ a .before .before .read-number .ensures)
-    (sym (c .enum-told2 .given .1) ∙ c .before .before .read-number2 .ensures)
+    no-second _ _ _ (sym (a .genchain .given .1) ∙ a .before .before .read-field .ensures)
+    (sym (c .enum-told2 .given .1) ∙ c .before .before .read-field2 .ensures)
 
-read-number-requires-3 : tie.Need-read-number-requires-3
-read-number-requires-3 c κs = search needs
+read-field-requires-3 : tie.Need-read-field-requires-3
+read-field-requires-3 c κs = search needs
 
 enum-known-tritave : tie.Need-enum-known-tritave
 enum-known-tritave c = search needs
@@ -45,18 +45,18 @@ returns-3 : tie.Need-returns-3
 returns-3 c =
     let b = c .before .before .before .before in
     let a = b .before .before .before .before in
-    no-third _ _ _ (sym (a .genchain .given .1) ∙ a .before .before .read-number .ensures) _ _
-    (sym (b .octave .given .1) ∙ b .before .before .read-number2 .ensures)
-    (sym (c .enum-told3 .given .1) ∙ c .before .before .read-number3 .ensures)
+    no-third _ _ _ (sym (a .genchain .given .1) ∙ a .before .before .read-field .ensures) _ _
+    (sym (b .octave .given .1) ∙ b .before .before .read-field2 .ensures)
+    (sym (c .enum-told3 .given .1) ∙ c .before .before .read-field3 .ensures)
 
 returns-4 : tie.Need-returns-4
 returns-4 c =
     let t = c .before .before in
     let b = t .before .before .before .before in
     let a = b .before .before .before .before in
-    octave-too-large _ _ _ (sym (a .genchain .given .1) ∙ a .before .before .read-number .ensures) _ _
-    (sym (b .octave .given .1) ∙ b .before .before .read-number2 .ensures) _ _
-    (sym (t .tritave .given .1) ∙ t .before .before .read-number3 .ensures)
+    octave-too-large _ _ _ (sym (a .genchain .given .1) ∙ a .before .before .read-field .ensures) _ _
+    (sym (b .octave .given .1) ∙ b .before .before .read-field2 .ensures) _ _
+    (sym (t .tritave .given .1) ∙ t .before .before .read-field3 .ensures)
     (c .if1 .taken)
 
 returns-5 : tie.Need-returns-5
@@ -64,24 +64,24 @@ returns-5 c =
     let t = c .before .before in
     let b = t .before .before .before .before in
     let a = b .before .before .before .before in
-    line-given _ _ _ (sym (a .genchain .given .1) ∙ a .before .before .read-number .ensures) _ _
-    (sym (b .octave .given .1) ∙ b .before .before .read-number2 .ensures) _ _
-    (sym (t .tritave .given .1) ∙ t .before .before .read-number3 .ensures)
+    line-given _ _ _ (sym (a .genchain .given .1) ∙ a .before .before .read-field .ensures) _ _
+    (sym (b .octave .given .1) ∙ b .before .before .read-field2 .ensures) _ _
+    (sym (t .tritave .given .1) ∙ t .before .before .read-field3 .ensures)
     (c .if1 .left)
 
 pub parse-spec : {M : Type 1} → statement M
 parse-spec =
     tie.close
     (tie.spec
-    read-number-requires
+    read-field-requires
     enum-known-genchain
     enum-told
     returns
-    read-number-requires-2
+    read-field-requires-2
     enum-known-octave
     enum-told-2
     returns-2
-    read-number-requires-3
+    read-field-requires-3
     enum-known-tritave
     enum-told-3
     returns-3

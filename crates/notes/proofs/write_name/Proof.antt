@@ -3,8 +3,8 @@ use mathlib.Core.Path.{refl, ap, _∙_}
 use native.Mathlib.Omega.{arith}
 use lib.ListN.{length}
 use Rattle.answer.specs.Outcome.{given}
-use Rattle.answer.proofs.Writing.{wrote-as}
-use Rattle.answer.proofs.Lent.{filled-refused, filled-given}
+use Rattle.text.proofs.Writing.{wrote-as, filled-given}
+use Rattle.answer.proofs.Lent.{filled-refused}
 use Rattle.genchain.proofs.TableRows.{table-row}
 use Rattle.notes.proofs.Calls.{name-no-chain, planned-name, name-held, name-not-held}
 use borrow.Author.Needs.{needs}

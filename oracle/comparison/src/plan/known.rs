@@ -1,6 +1,9 @@
 //! The inputs that docs/DIFFERENCES.md names, so that every class is met at its
 //! smallest, and document 01's bench examples.
 
+use judge::classes::Input;
+use judge::classes::SMALLEST;
+
 use super::Task;
 use crate::subjects::layouts::GivenLayout;
 use crate::subjects::numbers;
@@ -11,54 +14,51 @@ use crate::subjects::tables;
 use crate::tally::Tally;
 
 pub fn plan(tasks: &mut Vec<Task>) {
-    tasks.push(Box::new(smallest_of_classes));
+    for (_, inputs) in SMALLEST {
+        for input in inputs {
+            tasks.push(Box::new(|tally| compare_input(tally, *input)));
+        }
+    }
+    tasks.push(Box::new(others_of_classes));
     tasks.push(Box::new(bench_examples));
-    for (code, octave, tritave) in FIRST_WITHOUT_LAYERS {
-        tasks.push(Box::new(move |tally| {
+}
+
+fn compare_input(tally: &mut Tally, input: Input) {
+    match input {
+        // No call of the library.
+        Input::Quotient(..) => (),
+        Input::Remainder(numer, denom) => numbers::remainder(tally, numer, denom),
+        Input::Pergen(period, generator) => FreePergen::new(period, generator).compare(tally),
+        Input::Generation(period, generator, key) => {
+            FreePergen::new(period, generator).compare_generation(tally, key);
+        }
+        Input::Accidentals(period, generator, symbols, origin, key) => {
+            FreePergen::new(period, generator).compare_accidentals(tally, symbols, origin, key);
+        }
+        Input::Genesis(period, generator) => patterns::find(tally, period, generator, 0),
+        Input::PatternLayers(pattern) | Input::Coprime(pattern) => {
+            GivenPattern::new(pattern).compare(tally);
+        }
+        Input::Key(pattern, primary, secondary) => {
+            GivenPattern::new(pattern).compare_key(tally, primary, secondary);
+        }
+        Input::Layout(code, octave, tritave) => {
+            GivenLayout::new(code, octave, tritave).compare(tally);
+        }
+        Input::NoteName(code, octave, tritave, key) => {
+            let layout = GivenLayout::new(code, octave, tritave);
+            layout.compare(tally);
+            layout.compare_key(tally, key);
+        }
+        Input::LayoutLayers(code, octave, tritave) => {
             GivenLayout::new(code, octave, tritave).compare_octave(tally);
-        }));
+        }
     }
 }
 
-/// The first layouts of each chain that have a key whose name the original does not
-/// tell: chain code, octave, tritave, key.
-const FIRST_WITHOUT_NAME: [(u16, u16, u16, u16); 5] = [
-    (0, 32_771, 49_156, 65_535),
-    (1, 32_771, 49_156, 65_535),
-    (2, 32_771, 49_156, 65_535),
-    (4, 32_777, 49_165, 65_535),
-    (5, 32_770, 6, 65_535),
-];
-
-/// The first whose layers it does not tell.
-const FIRST_WITHOUT_LAYERS: [(u16, u16, u16); 5] = [
-    (0, 46_345, 57_931),
-    (1, 46_345, 54_069),
-    (2, 46_345, 54_069),
-    (4, 46_351, 56_651),
-    (5, 46_342, 6),
-];
-
-fn smallest_of_classes(tally: &mut Tally) {
-    numbers::remainder(tally, 0, 0);
-    patterns::find(tally, 0, 0, 0);
-
-    let last_key = FreePergen::new(32_770, 32_769);
-    last_key.compare_generation(tally, u16::MAX);
-    last_key.compare_accidentals(tally, 1, 0, u16::MAX);
-    FreePergen::new(46_342, 46_341).compare_generation(tally, 46_341);
-
-    GivenPattern::new([1, 65_535, 0, 0]).compare(tally);
-    GivenPattern::new([1, 65_535, 1, 0]).compare(tally);
-    GivenPattern::new([0, 2, 32_769, 0]).compare(tally);
-    GivenPattern::new([1, 1, 32_769, 0]).compare(tally);
-    GivenPattern::new([0, 0, 2, 65_535]).compare_key(tally, i16::MIN, i16::MIN);
-
-    for (code, octave, tritave, key) in FIRST_WITHOUT_NAME {
-        let layout = GivenLayout::new(code, octave, tritave);
-        layout.compare(tally);
-        layout.compare_key(tally, key);
-    }
+/// A product with the inverse that is too large, in a format and in a name.
+fn others_of_classes(tally: &mut Tally) {
+    FreePergen::new(32_770, 32_769).compare_accidentals(tally, 1, 0, u16::MAX);
     GivenLayout::new(5, 46_342, 6).compare_key(tally, 46_341);
 }
 

@@ -16,17 +16,23 @@ const PATTERN_LIMITS: [u16; 13] = [
     0, 1, 2, 3, 4, 255, 256, 257, 32_767, 32_768, 32_769, 65_534, 65_535,
 ];
 
+/// Places of the board around key 0.
+const SMALL_PLACES: [i16; 5] = [-2, -1, 0, 1, 2];
+
 /// Places of the board at the limits.
 const PLACE_LIMITS: [i16; 7] = [i16::MIN, -32_767, -1, 0, 1, 32_766, i16::MAX];
 
 pub fn plan(tasks: &mut Vec<Task>, mode: Mode, seed: u64) {
     for primary_count in PATTERN_LIMITS {
-        tasks.push(Box::new(move |tally| limits(tally, primary_count)));
+        tasks.push(Box::new(move |tally| {
+            all_with_count(tally, primary_count, &PATTERN_LIMITS, &PLACE_LIMITS);
+        }));
     }
     let largest = mode.pick(14, 20);
     for primary_count in 0..=largest {
         tasks.push(Box::new(move |tally| {
-            all_with_count(tally, primary_count, largest);
+            let numbers: Vec<u16> = (0..=largest).collect();
+            all_with_count(tally, primary_count, &numbers, &SMALL_PLACES);
         }));
     }
     for stream in 0..mode.pick(40, 320) {
@@ -38,53 +44,29 @@ pub fn plan(tasks: &mut Vec<Task>, mode: Mode, seed: u64) {
     }
 }
 
-fn all_with_count(tally: &mut Tally, primary_count: u16, largest: u16) {
-    for secondary_count in 0..=largest {
-        for primary_step in 0..=largest {
-            for secondary_step in 0..=largest {
+/// Every pattern of the numbers that has this primary count, with every key whose
+/// place is of the places.
+fn all_with_count(tally: &mut Tally, primary_count: u16, numbers: &[u16], places: &[i16]) {
+    for secondary_count in numbers {
+        for primary_step in numbers {
+            for secondary_step in numbers {
                 let pattern = GivenPattern::new([
                     primary_count,
-                    secondary_count,
-                    primary_step,
-                    secondary_step,
+                    *secondary_count,
+                    *primary_step,
+                    *secondary_step,
                 ]);
                 pattern.compare(tally);
-                compare_board(tally, &pattern);
+                compare_board(tally, &pattern, places);
             }
         }
     }
 }
 
-/// The keys around key 0.
-fn compare_board(tally: &mut Tally, pattern: &GivenPattern) {
-    for primary in -2..=2 {
-        for secondary in -2..=2 {
-            pattern.compare_key(tally, primary, secondary);
-        }
-    }
-}
-
-fn limits(tally: &mut Tally, primary_count: u16) {
-    for secondary_count in PATTERN_LIMITS {
-        for primary_step in PATTERN_LIMITS {
-            for secondary_step in PATTERN_LIMITS {
-                let pattern = GivenPattern::new([
-                    primary_count,
-                    secondary_count,
-                    primary_step,
-                    secondary_step,
-                ]);
-                pattern.compare(tally);
-                compare_limits_of_board(tally, &pattern);
-            }
-        }
-    }
-}
-
-fn compare_limits_of_board(tally: &mut Tally, pattern: &GivenPattern) {
-    for primary in PLACE_LIMITS {
-        for secondary in PLACE_LIMITS {
-            pattern.compare_key(tally, primary, secondary);
+fn compare_board(tally: &mut Tally, pattern: &GivenPattern, places: &[i16]) {
+    for primary in places {
+        for secondary in places {
+            pattern.compare_key(tally, *primary, *secondary);
         }
     }
 }

@@ -1,6 +1,10 @@
 //! Layouts: making one, its scale name, the layers of its keys, strip and book.
 
+use std::fmt::Debug;
+
 use judge::layouts;
+use judge::layouts::kind_of;
+use judge::patterns;
 use judge::spelling;
 use reading::Outcome;
 use reading::Whole;
@@ -10,15 +14,14 @@ use reading::fitted;
 use reading::layers;
 use reading::layers::Kind;
 use reading::layouts::Layout;
-use reading::layouts::strip_of;
 use tune::layout::IsomorphicLayout;
 use tune::layout::Layer;
+use vetchnoon::Refused;
 
 use crate::classes;
 use crate::classes::Class;
 use crate::question::Call;
 use crate::question::Question;
-use crate::subjects::patterns::original_numbers;
 use crate::tally::Answers;
 use crate::tally::Original;
 use crate::tally::Tally;
@@ -113,7 +116,7 @@ impl GivenLayout {
                     derived.reduced_period,
                     derived.inverse,
                 ];
-                numbers.extend(original_numbers(layout.mos()));
+                numbers.extend(patterns::numbers(layout.mos()));
                 numbers
             });
             Original::of(derived)
@@ -156,11 +159,42 @@ impl GivenLayout {
         let original = self
             .original_layers()
             .then(|layers| numbers_of(layers, total));
+        self.compare_each(tally, Call::Layer, &reading, vetchnoon::layer);
         let class = self.class(classes::of_layout_layers);
         let question = self.asking(Call::LayoutLayers);
         let call =
             |out: &mut [u16]| vetchnoon::layout_layers(self.code, self.octave, self.tritave, out);
         tally.compare_filling(question, reading, original, class, call);
+    }
+
+    /// A call for one key against the list of all, which repeats: each key that has
+    /// an entry, some beyond, and two keys where the layout is refused. The original
+    /// has lists alone.
+    fn compare_each<T: Copy + PartialEq + Debug>(
+        &self,
+        tally: &mut Tally,
+        call: Call,
+        reading: &Outcome<Vec<T>>,
+        library: impl Fn(u16, u16, u16, u16) -> Result<T, Refused>,
+    ) {
+        let entries = reading.as_ref().map_or(1, Vec::len);
+        let keys = (0..entries).chain([entries, entries + 1, usize::from(u16::MAX)]);
+        for key in keys.filter_map(|key| u16::try_from(key).ok()) {
+            let answers = Answers {
+                library: outcome(library(self.code, self.octave, self.tritave, key)),
+                reading: match reading {
+                    Ok(list) => Ok(list[usize::from(key) % entries]),
+                    Err(number) => Err(*number),
+                },
+                original: Original::Silent,
+            };
+            let arguments = [self.code, self.octave, self.tritave, key].map(i64::from);
+            let question = Question {
+                call,
+                arguments: &arguments,
+            };
+            tally.compare(question, &answers, None);
+        }
     }
 
     fn original_layers(&self) -> Original<Vec<Layer>> {
@@ -174,10 +208,10 @@ impl GivenLayout {
             Ok(layout) => layout.strip(),
             Err(number) => Err(*number),
         };
-        let octave = usize::from(self.octave);
         let original = self
-            .original_layers()
-            .then(|layers| strip_from(&layers[..octave]));
+            .original
+            .then(|layout| Original::of_option(layouts::strip(layout).map(Result::ok)));
+        self.compare_each(tally, Call::Lamp, &reading, vetchnoon::lamp);
         let class = self.class(classes::of_layout_layers);
         let question = self.asking(Call::LampStrip);
         let call =
@@ -196,21 +230,31 @@ impl GivenLayout {
         tally.compare(self.asking(Call::BookLen), &answers, None);
 
         let call = |out: &mut [u8]| vetchnoon::book(self.code, self.octave, self.tritave, out);
-        let original = self.original_book();
+        let original = self
+            .original
+            .then(|layout| Original::of(layouts::book(layout)));
         let class = self.class(classes::of_layout_book);
         let question = self.asking(Call::Book);
         tally.compare_filling(question, reading, original, class, call);
     }
+}
 
-    /// A book of the original's names, laid out as document 01 says.
-    fn original_book(&self) -> Original<Vec<u8>> {
-        self.original.then(|layout| {
-            let names: Result<Vec<String>, _> = (0..self.octave)
-                .map(|key| layouts::note_name(layout, key))
-                .collect();
-            Original::of(names.map(|names| books::of_names(&names)))
-        })
-    }
+/// What a layer number means of T. A number from T on, of which document 01 says
+/// nothing, counts as flat 0, as the header says.
+pub fn compare_kind(tally: &mut Tally, total: u16, number: u16) {
+    let (kind, level) = match layers::kind(number.into(), total.into()) {
+        Kind::Natural => (vetchnoon::NATURAL, 0),
+        Kind::Sharp(level) => (vetchnoon::SHARP, level),
+        Kind::Enharmonic(level) => (vetchnoon::ENHARMONIC, level),
+        Kind::Flat(level) => (vetchnoon::FLAT, level.max(0)),
+    };
+    let reading = Ok(vec![kind, fitted(level)]);
+    let question = Question {
+        call: Call::LayerKind,
+        arguments: &[total.into(), number.into()],
+    };
+    let call = |out: &mut [u16]| vetchnoon::layer_kind(total, number, out);
+    tally.compare_filling(question, reading, Original::Silent, None, call);
 }
 
 /// The original's layers by document 01's numbers of T.
@@ -236,22 +280,4 @@ fn number_of(layer: Layer, total: Whole) -> Option<u16> {
     };
     let in_range = (0..total).contains(&number);
     (in_range && layers::kind(number, total) == kind_of(layer)).then(|| fitted(number))
-}
-
-fn kind_of(layer: Layer) -> Kind {
-    match layer {
-        Layer::Natural => Kind::Natural,
-        Layer::Sharp(level) => Kind::Sharp(level.into()),
-        Layer::Enharmonic(level) => Kind::Enharmonic(level.into()),
-        Layer::Flat(level) => Kind::Flat(level.into()),
-    }
-}
-
-/// The strip that the original's layers make, or none where they have no codes.
-fn strip_from(layers: &[Layer]) -> Original<Vec<u8>> {
-    let kinds: Vec<Kind> = layers.iter().copied().map(kind_of).collect();
-    match strip_of(&kinds) {
-        Ok(strip) => Original::Answered(strip),
-        Err(_) => Original::Declined,
-    }
 }

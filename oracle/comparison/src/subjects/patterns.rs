@@ -29,22 +29,10 @@ type Filling = fn(vetchnoon::Pattern, &mut [u16]) -> Result<usize, Refused>;
 
 impl GivenPattern {
     pub fn new(numbers: [u16; 4]) -> Self {
-        let [
-            num_primary_steps,
-            num_secondary_steps,
-            primary_step,
-            secondary_step,
-        ] = numbers;
-        let pattern = patterns::Pattern {
-            num_primary_steps,
-            num_secondary_steps,
-            primary_step,
-            secondary_step,
-        };
         Self {
             numbers,
             reading: Pattern::given(numbers),
-            original: Original::of_option(patterns::create(pattern)),
+            original: Original::of_option(patterns::create(numbers)),
         }
     }
 
@@ -78,7 +66,7 @@ impl GivenPattern {
             Call::MosGenesis,
             vetchnoon::mos_genesis,
             |pattern| Ok(pattern.genesis().numbers().to_vec()),
-            |mos| patterns::genesis(mos).map(|mos| original_numbers(mos).to_vec()),
+            |mos| patterns::genesis(mos).map(|mos| patterns::numbers(mos).to_vec()),
             None,
         );
     }
@@ -89,7 +77,7 @@ impl GivenPattern {
             Call::MosCoprime,
             vetchnoon::mos_coprime,
             |pattern| pattern.coprime().map(|coprime| coprime.numbers().to_vec()),
-            |mos| patterns::coprime(mos).map(|mos| original_numbers(mos).to_vec()),
+            |mos| patterns::coprime(mos).map(|mos| patterns::numbers(mos).to_vec()),
             self.reading.ok().and_then(classes::of_coprime),
         );
     }
@@ -195,18 +183,9 @@ fn or_nothing(pattern: Option<Pattern>) -> Vec<u16> {
 }
 
 fn original_or_nothing(mos: Option<Mos>) -> Vec<u16> {
-    mos.map_or_else(Vec::new, |mos| original_numbers(mos).to_vec())
-}
-
-pub fn original_numbers(mos: Mos) -> [u16; 4] {
-    [
-        mos.num_primary_steps(),
-        mos.num_secondary_steps(),
-        mos.primary_step(),
-        mos.secondary_step(),
-    ]
+    mos.map_or_else(Vec::new, |mos| patterns::numbers(mos).to_vec())
 }
 
 fn original_walk(walk: Vec<Mos>) -> Vec<u16> {
-    walk.into_iter().flat_map(original_numbers).collect()
+    walk.into_iter().flat_map(patterns::numbers).collect()
 }

@@ -95,10 +95,17 @@ impl FreePergen {
             };
             Original::of(spelling::accidentals(pergen, &format, key).map(original_spellings))
         });
-        let class = self
-            .period_class()
-            .or_else(|| format_class(format))
-            .or_else(|| self.key_class(key));
+        let class = match &self.reading {
+            Ok(pergen) => classes::of_accidentals(pergen, format, key.into()),
+            Err(_) => self.period_class(),
+        };
+        let original = match (class, &self.reading) {
+            (Some(Class::OriginNotBelowSymbols), Ok(pergen)) => {
+                let named = classes::spellings_from_any_origin(pergen, format, key.into());
+                original.if_named(spellings(named))
+            }
+            _ => original,
+        };
         let call = |out: &mut [u16]| {
             vetchnoon::accidentals(self.period, self.generator, symbols, origin, key, out)
         };
@@ -114,16 +121,6 @@ impl FreePergen {
             Ok(pergen) => classes::of_generation(pergen, key.into()),
             Err(_) => self.period_class(),
         }
-    }
-}
-
-fn format_class(format: Format) -> Option<Class> {
-    if format.symbols == 0 {
-        Some(Class::NoSymbols)
-    } else if format.origin >= format.symbols {
-        Some(Class::OriginNotBelowSymbols)
-    } else {
-        None
     }
 }
 

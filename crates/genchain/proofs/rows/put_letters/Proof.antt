@@ -4,8 +4,8 @@ use Prim.Native.Nat.{_+_, _≤_, _-_}
 use native.Mathlib.Omega.{arith}
 use native.Mathlib.Nat.{le-antisymm}
 use lib.ListN.{length, take, length-set}
-use Rattle.answer.specs.Writing.{Wrote}
-use Rattle.answer.proofs.Copying.{copy-start, copy-more}
+use Rattle.text.specs.Writing.{Wrote}
+use Rattle.text.proofs.Copying.{copy-start, copy-more}
 use Rattle.genchain.specs.Chains.{lettersIn}
 use Rattle.genchain.proofs.TableRows.{row-length, row-count-small, length-letters-in}
 use Rattle.genchain.proofs.rows.put_letters.Statement.{statement}

@@ -12,14 +12,15 @@ search-requires c κs = search needs
 enum-known-q : tie.Need-enum-known-q
 enum-known-q c = search needs
 
-enum-told : tie.Need-enum-told
-enum-told c = search needs
+enum-known-found : tie.Need-enum-known-found
+enum-known-found c = search needs
 
 returns : tie.Need-returns
 returns c = genchain-refused _ _ (sym (ap foundOutcome (c .before .q .given .1)) ∙ c .before .before .before .search .ensures)
 
 returns-2 : tie.Need-returns-2
-returns-2 c = genchain-given _ _ (sym (ap foundOutcome (c .enum-told .given .1)) ∙ c .before .before .search .ensures)
+returns-2 c = genchain-given _ _ (sym (ap foundOutcome (c .before .found .given .1)) ∙ c .before .before .before .search .ensures)
 
 pub genchain-spec : {M : Type 1} → statement M
-genchain-spec = tie.close (tie.spec search-requires enum-known-q enum-told returns returns-2)
+genchain-spec =
+    tie.close (tie.spec search-requires enum-known-q enum-known-found returns returns-2)

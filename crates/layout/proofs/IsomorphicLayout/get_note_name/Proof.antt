@@ -1,23 +1,17 @@
 -- Questions 1 to 4, then 10, then the name along the chain's row.
 use mathlib.Core.Path.{refl, sym, ap, _∙_}
 use Rattle.answer.proofs.Lent.{filled-refused}
-use Rattle.genchain.proofs.Calls.{generator-no-chain}
-use Rattle.genchain.proofs.TableRows.{table-row}
 use Rattle.layout.specs.Parts.{foundOutcome}
-use Rattle.layout.proofs.Finding.{find-refused, count-found}
-use Rattle.layout.proofs.Calls.{name-refused, parts-of, name-in-room, filled-as, refused-in-room}
+use Rattle.layout.proofs.Calls.{name-refused, laid-of, row-found, name-in-room, filled-as, refused-in-room}
 use borrow.Author.Needs.{needs}
 use Rattle.layout.proofs.IsomorphicLayout.get_note_name.Statement.{statement}
 use Rattle.layout.proofs.IsomorphicLayout.get_note_name.Tie as tie
-
-returns : tie.Need-returns
-returns c = filled-refused 1 _ (refused-in-room _ 1 _ (name-refused _ 1 (find-refused _ _ _ 1 (generator-no-chain _ _ _ (c .if1 .taken))) _)) refl
 
 row-requires : tie.Need-row-requires
 row-requires c κs = search needs
 
 find-requires : tie.Need-find-requires
-find-requires c κs = count-found _ _ (c .row .ensures)
+find-requires c κs = search needs
 
 enum-known-q : tie.Need-enum-known-q
 enum-known-q c = search needs
@@ -26,31 +20,29 @@ enum-known-found : tie.Need-enum-known-found
 enum-known-found c = search needs
 
 write-name-requires : tie.Need-write-name-requires
-write-name-requires c κs = (
-  table-row _ _ (c .before .before .before .before .before .before .if1 .left) (c .before .before .before .before .before .row .ensures),
-  parts-of _ _ (sym (ap foundOutcome (c .before .before .found .given .1)) ∙ c .before .before .before .before .find .ensures) .positive,
-)
+write-name-requires c κs =
+    let e = sym (ap foundOutcome (c .before .before .found .given .1)) ∙ c .before .before .before .before .find .ensures in
+    (row-found _ _ e _ (c .before .before .before .before .before .row .ensures), laid-of _ _ e)
 
-returns-2 : tie.Need-returns-2
-returns-2 c = filled-refused _ _ (refused-in-room _ _ _ (name-refused _ _ (sym (ap foundOutcome (c .before .q .given .1)) ∙ c .before .before .before .find .ensures) _)) refl
+returns : tie.Need-returns
+returns c = filled-refused _ _ (refused-in-room _ _ _ (name-refused _ _ (sym (ap foundOutcome (c .before .q .given .1)) ∙ c .before .before .before .find .ensures) _)) refl
 
 same-length : tie.Need-same-length
 same-length c = search needs
 
-returns-3 : tie.Need-returns-3
-returns-3 c =
-    filled-as (name-in-room _ _ (sym (ap foundOutcome (c .before .before .before .before .before .found .given .1)) ∙ c .before .before .before .before .before .before .before .find .ensures) _ _ (c .before .before .before .before .before .before .before .before .row .ensures) _) (c .before .before .write-name .ensures)
+returns-2 : tie.Need-returns-2
+returns-2 c =
+    filled-as (name-in-room _ _ (sym (ap foundOutcome (c .before .before .before .before .before .found .given .1)) ∙ c .before .before .before .before .before .before .before .find .ensures) _ _) (c .before .before .write-name .ensures)
 
 pub get-note-name-spec : {M : Type 1} → statement M
 get-note-name-spec =
     tie.close
     (tie.spec
-    returns
     row-requires
     find-requires
     enum-known-q
     enum-known-found
     write-name-requires
-    returns-2
+    returns
     same-length
-    returns-3)
+    returns-2)

@@ -16,14 +16,17 @@ enum-known-generator : tie.Need-enum-known-generator
 enum-known-generator c = search needs
 
 with-pattern-requires : tie.Need-with-pattern-requires
-with-pattern-requires c κs = generated _ _ _ _ (sym (c .before .before .before .generator .ensures) ∙ ap numberOutcome (c .before .generator2 .given .1)) .positive
+with-pattern-requires c κs = (
+  c .before .before .before .before .pre,
+  generated _ _ _ _ (sym (c .before .before .before .generator .ensures) ∙ ap numberOutcome (c .before .generator2 .given .1)) .positive,
+)
 
 returns : tie.Need-returns
-returns c = find-refused _ _ _ _ (sym (ap numberOutcome (c .before .q .given .1)) ∙ c .before .before .before .generator .ensures)
+returns c = find-refused _ _ (sym (ap numberOutcome (c .before .q .given .1)) ∙ c .before .before .before .generator .ensures)
 
 returns-2 : tie.Need-returns-2
 returns-2 c =
-    find-given _ _ _ _ _ _ (sym (ap numberOutcome (c .before .before .generator2 .given .1)) ∙ c .before .before .before .before .generator .ensures) (search needs)
+    find-given _ _ _ (sym (ap numberOutcome (c .before .before .generator2 .given .1)) ∙ c .before .before .before .before .generator .ensures)
     (c .with-pattern .ensures)
 
 pub find-spec : {M : Type 1} → statement M

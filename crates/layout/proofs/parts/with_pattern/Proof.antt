@@ -1,13 +1,11 @@
 -- The walk from the genesis, and the pattern that it left in the array.
-use Prim.Native.Nat.{ℕ, _-_}
 use mathlib.Core.Path.{ap, _∙_}
+use mathlib.Core.Option.{some}
 use native.Mathlib.Nat.{mod-lt}
 use native.Mathlib.Omega.{arith}
-use Rattle.mos.specs.Patterns.{mos}
-use Rattle.mos.specs.Walks.{children, firstWith}
 use Rattle.mos.proofs.Theorems.{made-patterns}
 use Rattle.mos.proofs.Sequences.{meets-found, meets-nothing}
-use Rattle.layout.specs.Layouts.{withPattern}
+use Rattle.layout.proofs.Finding.{walk-met, walk-without}
 use borrow.Author.Needs.{needs}
 use Rattle.layout.proofs.parts.with_pattern.Statement.{statement}
 use Rattle.layout.proofs.parts.with_pattern.Tie as tie
@@ -16,36 +14,26 @@ within-octave-requires : tie.Need-within-octave-requires
 within-octave-requires c κs = search needs
 
 sub-seek : tie.Need-sub-seek
-sub-seek c = omega (arith, c .within-octave .ensures, mod-lt (c .before .args .generator) (c .before .pre))
+sub-seek c = omega (arith, c .within-octave .ensures, mod-lt (c .before .args .generator) (c .before .pre .1))
+
+cast-seek : tie.Need-cast-seek
+cast-seek c = search needs
 
 seek-requires : tie.Need-seek-requires
-seek-requires c κs = rw (c .before .within-octave .ensures) (made-patterns .of-genesis _ _ (c .before .before .pre) (search needs))
+seek-requires c κs = rw (c .before .within-octave .ensures) (made-patterns .of-genesis _ _ (c .before .before .pre .1) (search needs))
 
-array-read-t12 : tie.Need-array-read-t12
-array-read-t12 c = search needs
-
-array-read-t15 : tie.Need-array-read-t15
-array-read-t15 c = search needs
-
-array-read-t18 : tie.Need-array-read-t18
-array-read-t18 c = search needs
-
-array-read-t21 : tie.Need-array-read-t21
-array-read-t21 c = search needs
+pattern-of-requires : tie.Need-pattern-of-requires
+pattern-of-requires c κs = search needs
 
 returns : tie.Need-returns
 returns c =
-    let args = c .before .before .before .before .args in
-    ap (withPattern (args .generator)) (meets-found _ _ (c .before .seek .ensures) (c .if1 .taken))
-    ∙ ap (λ (step : ℕ). withPattern (args .generator) (firstWith (args .num-letters) (children (mos 1 1 step (args .octave - step)))))
-    (c .before .before .before .within-octave .ensures)
+    walk-met _ _ (c .before .before .before .before .before .pre .0) _ _ (c .before .before .before .before .within-octave .ensures) _
+    (ap some (c .pattern-of .ensures) ∙ meets-found _ _ (c .before .before .seek .ensures) (c .before .if1 .taken))
 
 returns-2 : tie.Need-returns-2
 returns-2 c =
-    let args = c .before .before .before .before .args in
-    ap (withPattern (args .generator)) (meets-nothing _ _ (c .before .seek .ensures) (c .if1 .left))
-    ∙ ap (λ (step : ℕ). withPattern (args .generator) (firstWith (args .num-letters) (children (mos 1 1 step (args .octave - step)))))
-    (c .before .before .before .within-octave .ensures)
+    walk-without _ _ (c .before .before .before .before .pre .0) _ _ (c .before .before .before .within-octave .ensures)
+    (meets-nothing _ _ (c .before .seek .ensures) (c .if1 .left))
 
 pub with-pattern-spec : {M : Type 1} → statement M
 with-pattern-spec =
@@ -53,10 +41,8 @@ with-pattern-spec =
     (tie.spec
     within-octave-requires
     sub-seek
+    cast-seek
     seek-requires
-    array-read-t12
-    array-read-t15
-    array-read-t18
-    array-read-t21
+    pattern-of-requires
     returns
     returns-2)

@@ -3,9 +3,9 @@ use Prim.Native.Nat.{ℕ}
 use native.Mathlib.Omega.{arith}
 use mathlib.Core.Path.{ap}
 use lib.ListN.{length}
-use Rattle.answer.specs.Writing.{joined}
+use Rattle.text.specs.Writing.{joined}
 use Rattle.book.proofs.Written.{length-book}
-use Rattle.layout_book.specs.Parts.{nameOf}
+use Rattle.layout_speller.specs.Parts.{nameOf}
 use borrow.Author.Needs.{needs}
 use Rattle.layout_book.proofs.parts.book_length.Statement.{statement}
 use Rattle.layout_book.proofs.parts.book_length.Tie as tie

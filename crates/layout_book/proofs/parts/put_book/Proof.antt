@@ -3,12 +3,13 @@ use native.Mathlib.Omega.{arith}
 use mathlib.Core.Path.{sym, _∙_}
 use mathlib.Core.List.{append-assoc}
 use lib.ListN.{length-append}
-use Rattle.answer.specs.Writing.{joined}
-use Rattle.answer.proofs.Writing.{then, wrote-as, wrote-length}
-use Rattle.book.specs.Books.{le32, pairText}
-use Rattle.book.proofs.Numbers.{length-le32}
+use Rattle.text.specs.Writing.{joined}
+use Rattle.text.proofs.Writing.{then, wrote-as, wrote-length}
+use Rattle.book.specs.Books.{pairText}
+use Rattle.text.specs.LittleEndian.{le32}
+use Rattle.text.proofs.FourBytes.{length-le32}
 use Rattle.book.proofs.Written.{length-book, length-pairs, book-is}
-use Rattle.layout_book.specs.Parts.{nameOf}
+use Rattle.layout_speller.specs.Parts.{nameOf}
 use borrow.Author.Needs.{needs}
 use Rattle.layout_book.proofs.parts.put_book.Statement.{statement}
 use Rattle.layout_book.proofs.parts.put_book.Tie as tie

@@ -5,9 +5,9 @@ use native.Mathlib.Nat.{le-antisymm}
 use mathlib.Core.Path.{subst}
 use mathlib.Core.List.{List}
 use borrow.Author.Needs.{needs}
-use Rattle.answer.specs.Writing.{joined}
-use Rattle.answer.proofs.Joined.{length-joined-more, length-joined-le}
-use Rattle.answer.proofs.Writing.{wrote-as, wrote-length}
+use Rattle.text.specs.Writing.{joined}
+use Rattle.text.proofs.Joined.{length-joined-more, length-joined-le}
+use Rattle.text.proofs.Writing.{wrote-as, wrote-length}
 use Rattle.notes.specs.declared.plans.NamePlan.{NamePlan}
 use Rattle.notes.specs.Parts.{starredText}
 use Rattle.layout_book.specs.Parts.{starredPair, Beside}

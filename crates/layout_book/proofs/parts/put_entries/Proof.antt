@@ -6,10 +6,10 @@ use mathlib.Core.Path.{_≡_, refl, sym, ap, subst, _∙_}
 use borrow.Author.Needs.{needs}
 use Rattle.book.proofs.Written.{length-pairs}
 use Rattle.genchain.proofs.TableRows.{row-count-small}
-use Rattle.layout_book.specs.Parts.{nameOf}
-use Rattle.layout_book.proofs.Spelled.{few-degrees, few-cycles, planned-as}
-use Rattle.layout_book.proofs.LettersRead.{letters-read, letters-short}
-use Rattle.layout_book.proofs.PlacesAlong.{some-letters}
+use Rattle.layout_speller.specs.Parts.{nameOf}
+use Rattle.layout_speller.proofs.Spelled.{few-degrees, few-cycles, planned-as}
+use Rattle.layout_speller.proofs.LettersRead.{letters-read, letters-short}
+use Rattle.layout_speller.proofs.PlacesAlong.{some-letters}
 use Rattle.layout_book.proofs.Due.{Due, due-none}
 use Rattle.layout_book.proofs.SideBySide.{beside-start, beside-length, beside-whole}
 use Rattle.layout_book.proofs.Turns.{turnPlace, sharp-below, flat-below, turn-below, turn-first, turn-next, turn-spelled, Entries, pairs-apart, cycles-fit, due-next, entries-next}

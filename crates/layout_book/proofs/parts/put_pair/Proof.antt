@@ -1,7 +1,7 @@
 -- Two numbers, one after the other.
 use native.Mathlib.Omega.{arith}
-use Rattle.answer.proofs.Writing.{then}
-use Rattle.book.proofs.Numbers.{length-le32}
+use Rattle.text.proofs.Writing.{then}
+use Rattle.text.proofs.FourBytes.{length-le32}
 use Rattle.layout_book.specs.Parts.{numbersText}
 use Rattle.layout_book.proofs.Due.{length-numbers}
 use borrow.Author.Needs.{needs}

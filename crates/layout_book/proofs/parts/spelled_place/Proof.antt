@@ -2,7 +2,7 @@
 use Prim.Native.Nat.{_+_, _-_}
 use native.Mathlib.Omega.{arith}
 use borrow.Author.Needs.{needs}
-use Rattle.layout_book.proofs.PlacesAlong.{place-alone, place-signed, rounds-below, rest-below}
+use Rattle.layout_book.proofs.SpelledPlaces.{place-alone, place-signed, rounds-below, rest-below}
 use Rattle.layout_book.proofs.parts.spelled_place.Statement.{statement}
 use Rattle.layout_book.proofs.parts.spelled_place.Tie as tie
 

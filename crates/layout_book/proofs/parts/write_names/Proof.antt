@@ -3,9 +3,10 @@ use mathlib.Core.Path.{refl, ap}
 use native.Mathlib.Omega.{arith}
 use lib.ListN.{length}
 use Rattle.answer.specs.Outcome.{given}
-use Rattle.answer.proofs.Lent.{held, not-held, filled-refused, filled-given}
+use Rattle.answer.proofs.Lent.{held, not-held, filled-refused}
+use Rattle.text.proofs.Writing.{filled-given}
 use Rattle.book.specs.Books.{bookText}
-use Rattle.layout_book.specs.Parts.{nameOf}
+use Rattle.layout_speller.specs.Parts.{nameOf}
 use borrow.Author.Needs.{needs}
 use Rattle.layout_book.proofs.parts.write_names.Statement.{statement}
 use Rattle.layout_book.proofs.parts.write_names.Tie as tie

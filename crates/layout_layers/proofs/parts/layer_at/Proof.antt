@@ -4,12 +4,12 @@ use mathlib.Core.Path.{_≡_, ap}
 use native.Mathlib.Omega.{arith}
 use lib.ListN.{length}
 use borrow.Author.Needs.{needs}
-use Rattle.answer.specs.Writing.{joined}
-use Rattle.answer.proofs.Joined.{joined-none}
-use Rattle.layers.specs.Layers.{dropEmpty}
-use Rattle.layers.specs.Theorems.{sum}
-use Rattle.layers.specs.Parts.{runAt}
-use Rattle.layers.proofs.Sizes.{count-none}
+use Rattle.text.specs.Writing.{joined}
+use Rattle.text.proofs.Joined.{joined-none}
+use Rattle.mos_layers.specs.Layers.{dropEmpty}
+use Rattle.mos_layers.specs.Theorems.{sum}
+use Rattle.mos_layers.specs.Parts.{runAt}
+use Rattle.mos_layers.proofs.Sizes.{count-none}
 use Rattle.layout_layers.proofs.RunPlaces.{span-fits, here-size, here-small, here-found, past-run, past-count, count-within, none-behind}
 use Rattle.layout_layers.proofs.parts.layer_at.Statement.{statement}
 use Rattle.layout_layers.proofs.parts.layer_at.Tie as tie

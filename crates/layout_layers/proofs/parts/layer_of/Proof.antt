@@ -3,8 +3,8 @@ use Prim.Native.Nat.{ℕ, _*_, _<_}
 use mathlib.Core.Path.{sym, subst}
 use native.Mathlib.Nat.{mul-le-mul, mod-lt}
 use native.Mathlib.Omega.{arith}
-use Rattle.layers.specs.Theorems.{sum}
-use Rattle.layers.specs.Parts.{runSizes}
+use Rattle.mos_layers.specs.Theorems.{sum}
+use Rattle.mos_layers.specs.Parts.{runSizes}
 use Rattle.layout_layers.proofs.PlanLaws.{layer-alternates, layer-listed, place-listed}
 use Rattle.layout_layers.proofs.ChainLaws.{some-places, place-by}
 use borrow.Author.Needs.{needs}

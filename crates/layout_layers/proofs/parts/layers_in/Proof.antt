@@ -2,7 +2,7 @@
 use mathlib.Core.Path.{sym, ap, _∙_}
 use native.Mathlib.Omega.{arith}
 use lib.ListN.{length, length-replicate}
-use Rattle.layers.proofs.Sizes.{drop-none, drop-all}
+use Rattle.mos_layers.proofs.Sizes.{drop-none, drop-all}
 use Rattle.layout_layers.proofs.parts.layers_in.Statement.{statement}
 use Rattle.layout_layers.proofs.parts.layers_in.Tie as tie
 

@@ -3,11 +3,11 @@ use Prim.Native.Nat.{_-_, _≤_}
 use mathlib.Core.Path.{_≡_}
 use native.Mathlib.Omega.{arith}
 use lib.ListN.{length}
-use Rattle.answer.specs.Writing.{joined}
-use Rattle.layers.specs.Layers.{dropEmpty}
-use Rattle.layers.specs.Theorems.{sum}
-use Rattle.layers.specs.Parts.{runAt}
-use Rattle.layers.proofs.Sizes.{count-none, count-more}
+use Rattle.text.specs.Writing.{joined}
+use Rattle.mos_layers.specs.Layers.{dropEmpty}
+use Rattle.mos_layers.specs.Theorems.{sum}
+use Rattle.mos_layers.specs.Parts.{runAt}
+use Rattle.mos_layers.proofs.Sizes.{count-none, count-more}
 use Rattle.layout_layers.specs.Parts.{Walk, listedNumber}
 use Rattle.layout_layers.proofs.PlanLaws.{listed-fits}
 use Rattle.layout_layers.proofs.RunPlaces.{count-within}

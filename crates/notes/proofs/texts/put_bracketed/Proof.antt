@@ -1,6 +1,6 @@
 -- Both spellings between parentheses.
 use native.Mathlib.Omega.{arith}
-use Rattle.answer.proofs.Writing.{then}
+use Rattle.text.proofs.Writing.{then}
 use Rattle.notes.specs.Parts.{bracketedText}
 use Rattle.notes.proofs.Lengths.{length-bracketed}
 use borrow.Author.Needs.{needs}

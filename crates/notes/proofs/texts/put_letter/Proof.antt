@@ -2,7 +2,7 @@
 use mathlib.Core.Path.{ap}
 use native.Mathlib.Omega.{arith}
 use lib.ListN.{length}
-use Rattle.answer.proofs.Writing.{then}
+use Rattle.text.proofs.Writing.{then}
 use Rattle.notes.proofs.Utf8.{letter-one, letter-two}
 use borrow.Author.Needs.{needs}
 use Rattle.notes.proofs.texts.put_letter.Statement.{statement}

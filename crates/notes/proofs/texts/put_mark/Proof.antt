@@ -4,7 +4,7 @@ use mathlib.Core.Path.{sym, ap}
 use mathlib.Core.List.{List, _++_}
 use native.Mathlib.Omega.{arith}
 use lib.ListN.{replicate, length-replicate}
-use Rattle.answer.proofs.Writing.{then, wrote-as}
+use Rattle.text.proofs.Writing.{then, wrote-as}
 use Rattle.notes.specs.Names.{letterText}
 use Rattle.notes.specs.Parts.{markText}
 use Rattle.notes.proofs.Lengths.{length-mark}

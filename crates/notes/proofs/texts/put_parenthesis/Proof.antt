@@ -4,7 +4,7 @@ use mathlib.Core.Path.{ap}
 use mathlib.Core.Bool.{Bool}
 use native.Mathlib.Omega.{arith}
 use lib.ListN.{length}
-use Rattle.answer.proofs.Writing.{wrote-none}
+use Rattle.text.proofs.Writing.{wrote-none}
 use Rattle.notes.specs.Parts.{parenthesisText}
 use borrow.Author.Needs.{needs}
 use Rattle.notes.proofs.texts.put_parenthesis.Statement.{statement}

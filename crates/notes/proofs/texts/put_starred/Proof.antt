@@ -2,7 +2,7 @@
 use native.Mathlib.Omega.{arith}
 use lib.ListN.{length-replicate}
 use Prim.Native.Nat.{ℕ}
-use Rattle.answer.proofs.Writing.{then}
+use Rattle.text.proofs.Writing.{then}
 use Rattle.notes.specs.Parts.{starredText}
 use Rattle.notes.proofs.Lengths.{length-starred}
 use borrow.Author.Needs.{needs}

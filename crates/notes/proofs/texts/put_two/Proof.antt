@@ -1,6 +1,6 @@
 -- The first spelling, the slash, and the second.
 use native.Mathlib.Omega.{arith}
-use Rattle.answer.proofs.Writing.{then}
+use Rattle.text.proofs.Writing.{then}
 use Rattle.notes.specs.Parts.{twoText}
 use Rattle.notes.proofs.Lengths.{length-two}
 use borrow.Author.Needs.{needs}

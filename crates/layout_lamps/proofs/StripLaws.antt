@@ -1,0 +1,210 @@
+-- Codes and strips: T at most 202 leaves sharp and flat layers below 100, T above 202 has a key in sharp layer 100, and a plan's codes with home are the strip.
+use Prim.Native.Nat.{ℕ, zero, suc, _+_, _*_, _-_, _/_, _≤_, _<_}
+use mathlib.Core.Path.{_≡_, refl, sym, ap, ap₂, _∙_}
+use mathlib.Core.Bool.{Bool, true, false, _&&_, and-false}
+use mathlib.Core.List.{List, [], _∷_, _++_}
+use native.Mathlib.Nat.{mod-lt, mod-eq-of-lt, div-eq-of-lt, mul-pos}
+use native.Mathlib.Omega.{arith}
+use lib.ListN.{length, set, drop, length-set}
+use lib.Seq.{set-append-left}
+use lib.Dec.{eqb, ltb, leb}
+use borrow.Author.Tests.{eq-eqb, ne-eqb, eqb-true, eqb-false, lt-ltb, ltb-true, ltb-false, leb-true, leb-false}
+use Rattle.text.specs.Writing.{joined}
+use Rattle.text.proofs.Joined.{joined-same, joined-first}
+use Rattle.mos.specs.Patterns.{pick}
+use Rattle.pergen.specs.Pergen.{cycle}
+use Rattle.mos_layers.specs.Layers.{layerSizes}
+use Rattle.layout.specs.declared.IsomorphicLayout.{IsomorphicLayout}
+use Rattle.layout.specs.Layouts.{Layout, Accepted, cyclesIn}
+use Rattle.layout_layers.specs.declared.Layer.{Layer}
+use Rattle.layout_layers.specs.declared.Layer.the-variants.{Natural, Sharp, Enharmonic, Flat}
+use Rattle.layout_layers.specs.declared.parts.Plan.{Plan}
+use Rattle.layout_layers.specs.KeyLayers.{equalized, layerCount, kindOf, numberIn, countIn}
+use Rattle.layout_layers.specs.Parts.{keysOf, Spread, InTurns, listedNumber, totalOf, Sound, PlanOf, turnLayer, planNumber, Fronted}
+use Rattle.layout_layers.proofs.SpreadLaws.{length-listed, spread-as, spread-front}
+use Rattle.layout_layers.proofs.ChainLaws.{some-places}
+use Rattle.layout_layers.proofs.PlanLaws.{number-is, number-listed, keys-are, kind-natural, kind-sharp, kind-enharmonic, kind-flat, turn-below}
+use Rattle.layout_layers.proofs.Theorems.{counts-fit, each-number-is-met, first-keys}
+use Rattle.layout_lamps.specs.Lamps.{lampCode, kindAt, lampOf, stripOf, lampable, every, hasLamps, lampIn, stripIn, hasLampsIn}
+use Rattle.layout_lamps.specs.Parts.{codeOf, planCodes, planStrip}
+
+-- ---- codes
+
+-- with T at most 202 every sharp and flat number is below 100
+pub few-layers : (T j : ℕ) → T ≤ 202 → lampable (kindOf T j) ≡ true
+unfolding kindOf
+few-layers T j h = by (eqb j 0) (ltb (2 * j) T) (eqb (2 * j) T) refl refl
+  where
+    by : (a b c : Bool) → ltb (2 * j) T ≡ b → eqb (2 * j) T ≡ c
+        → lampable (pick a Natural (pick b (Sharp (j - 1)) (pick c (Enharmonic (j - 1)) (Flat (T - j - 1))))) ≡ true
+    by true b c e f = refl
+    by false true c e f = lt-ltb (j - 1) 100 (omega (arith, ltb-true (2 * j) T e))
+    by false false true e f = refl
+    by false false false e f =
+        lt-ltb (T - j - 1) 100 (omega (arith, ltb-false (2 * j) T e, eqb-false (2 * j) T f))
+
+-- the codes, by what the code tests
+module _ (T j : ℕ) (in-range : j < T) where
+  pub code-low : 2 * j < T → j + 1 ≡ codeOf T j
+  unfolding codeOf lampCode
+  code-low h = by (eqb j 0) refl
+    where
+      by : (b : Bool) → eqb j 0 ≡ b → j + 1 ≡ lampCode (kindOf T j)
+      by true t =
+          let none : j ≡ 0 = eqb-true j 0 t in
+          (let q : j + 1 ≡ 1 = omega (arith, none) in q) ∙ ap lampCode (kind-natural T j none)
+      by false t =
+          let some = eqb-false j 0 t in
+          (let q : j + 1 ≡ 2 + (j - 1) = omega (arith, some) in q) ∙ ap lampCode (kind-sharp T j some h)
+
+  pub code-half : 2 * j ≡ T → 255 ≡ codeOf T j
+  unfolding codeOf lampCode
+  code-half e = ap lampCode (kind-enharmonic T j (λ none. omega (arith, none)) e)
+
+  pub code-high : T < 2 * j → 101 + (T - j) ≡ codeOf T j
+  unfolding codeOf lampCode
+  code-high h =
+      (let q : 101 + (T - j) ≡ 102 + (T - j - 1) = omega arith in q) ∙ ap lampCode (kind-flat T j (λ none. omega (arith, none)) h refl)
+
+pub length-plan-codes : (p : Plan) (T : ℕ) → length (planCodes p T) ≡ keysOf (p .chain)
+length-plan-codes p T = length-listed (λ i. codeOf T (planNumber p i)) (keysOf (p .chain))
+
+pub length-strip : (p : Plan) (T : ℕ) → keysOf (p .chain) ≡ length (planStrip p T)
+length-strip p T = sym (length-set (planCodes p T) 0 0 ∙ length-plan-codes p T)
+
+-- a key's number is below T
+pub number-below : (p : Plan) → Sound p → (i j T : ℕ) → j ≡ planNumber p i → T ≡ totalOf p → j < T
+number-below p sound i j T e is =
+    let n = p .chain .«num_cycles» in
+    omega (arith, turn-below p sound (i / n), mod-lt i (sound .unbroken .some-cycles))
+
+pub turn-most : (p : Plan) → Sound p → (T turn layer : ℕ) → T ≡ totalOf p → layer ≡ turnLayer p turn
+    → layer * p .chain .«num_cycles» + p .chain .«num_cycles» ≤ T
+turn-most p sound T turn layer is e = omega (arith, ap (λ (k : ℕ). k * p .chain .«num_cycles») e, turn-below p sound turn)
+
+-- ---- home, stored over the code of key 0
+
+module _ (p : Plan) (T : ℕ) (sound : Sound p) (xs : List ℕ) (room : keysOf (p .chain) ≤ length xs) where
+  pub some-codes : 0 < keysOf (p .chain)
+  some-codes = mul-pos (some-places (p .chain) (sound .unbroken)) (sound .unbroken .some-cycles)
+
+  pub home-over : {ys : List ℕ} → Spread (InTurns (p .chain .«num_cycles») (p .chain .«reduced_period»)) (λ i. codeOf T (planNumber p i)) xs ys
+      → Fronted (planStrip p T) xs (set ys 0 0)
+  home-over s =
+      let text = planCodes p T in
+      ap (λ (l : List ℕ). set l 0 0)
+      (spread-front (p .chain .«num_cycles») (p .chain .«reduced_period») (λ i. codeOf T (planNumber p i)) (sound .unbroken .some-cycles) room s)
+      ∙ set-append-left text (drop (length text) xs) 0 0 (omega (arith, length-plan-codes p T, some-codes))
+      ∙ ap (λ (k : ℕ). set text 0 0 ++ drop k xs) (sym (length-set text 0 0))
+
+-- the codes of the layers, of a scale that is not equalized
+pub codes-listed : (p : Plan) (T : ℕ) {xs ys : List ℕ} → p .equalized ≡ false
+    → Spread (InTurns (p .chain .«num_cycles») (p .chain .«reduced_period»)) (λ i. codeOf T (listedNumber (p .runs) (p .chain) i)) xs ys
+    → Spread (InTurns (p .chain .«num_cycles») (p .chain .«reduced_period»)) (λ i. codeOf T (planNumber p i)) xs ys
+codes-listed p T other s = spread-as (λ i t. ap (codeOf T) (number-listed p other i)) s
+
+-- ---- question 9
+
+every-true : (test : ℕ → Bool) (count : ℕ) → ((i : ℕ) → test i ≡ true) → every test count ≡ true
+every-true test zero h = refl
+every-true test (suc count) h = ap₂ (λ (a b : Bool). a && b) (h count) (every-true test count h)
+
+every-false : (test : ℕ → Bool) (count i : ℕ) → i < count → test i ≡ false → every test count ≡ false
+every-false test zero i h e = absurd (let z : ⊥ = omega arith in z)
+every-false test (suc count) i h e = by (eqb i count) refl (every-false test count i)
+  where
+    by : (t : Bool) → eqb i count ≡ t → (i < count → test i ≡ false → every test count ≡ false) → (test count && every test count) ≡ false
+    by true t ih = ap (λ (b : Bool). b && every test count) (ap test (sym (eqb-true i count t)) ∙ e)
+    by false t ih = ap (λ (b : Bool). test count && b) (ih (omega (arith, eqb-false i count t)) e) ∙ and-false (test count)
+
+-- the kind of a key's layer in a layout
+abbrev kindIn : Layout → ℕ → Layer
+kindIn l i = kindAt (l .octave) (l .generator) (l .letters) (l .start) (l .pattern) i
+
+module _ (r : IsomorphicLayout) (l : Layout) (ok : Accepted r l) where
+  abbrev P : ℕ
+  P = l .octave
+
+  abbrev T : ℕ
+  T = countIn l
+
+  kind-in : (i : ℕ) → kindIn l i ≡ kindOf T (numberIn l i)
+  unfolding kindAt
+  kind-in i = refl
+
+  all-lamps : T ≤ 202 → hasLampsIn l ≡ true
+  unfolding hasLamps
+  all-lamps h =
+      every-true (λ i. lampable (kindIn l i)) P (λ i. ap lampable (kind-in i) ∙ few-layers T (numberIn l i) h)
+
+  -- a key of layer 101, which is sharp layer 100
+  met : 202 < T → (key : ℕ) × (key < P) × (numberIn l key ≡ 101)
+  unfolding layerCount cycle
+  met h = by (equalized (l .pattern)) refl
+    where
+      by : (b : Bool) → equalized (l .pattern) ≡ b → (key : ℕ) × (key < P) × (numberIn l key ≡ 101)
+      by false t = each-number-is-met r l ok t 101 (omega arith)
+      by true t =
+          let two : T ≡ 2 * cyclesIn l = ap (λ (b : Bool). pick b 2 (length (layerSizes (l .pattern))) * cyclesIn l) t in
+          let low : 101 < cyclesIn l = omega arith in (
+            101,
+            omega (arith, counts-fit r l ok),
+            first-keys r l ok t 101 (div-eq-of-lt low) ∙ mod-eq-of-lt low,
+          )
+
+  some-lamp-missing : 202 < T → hasLampsIn l ≡ false
+  unfolding hasLamps
+  some-lamp-missing h =
+      let key = met h in
+      every-false (λ i. lampable (kindIn l i)) P (key .0) (key .1)
+      (ap lampable
+      (kind-in (key .0)
+      ∙ ap (kindOf T) (key .2)
+      ∙ sym (kind-sharp T 101 (λ e. omega arith) (omega arith))))
+
+  pub lamps-by-count-at : hasLampsIn l ≡ leb (countIn l) 202
+  lamps-by-count-at = by (leb (countIn l) 202) refl
+    where
+      by : (b : Bool) → leb (countIn l) 202 ≡ b → hasLampsIn l ≡ b
+      by true t = all-lamps (leb-true (countIn l) 202 t)
+      by false t = some-lamp-missing (leb-false (countIn l) 202 t)
+
+-- ---- the strip
+
+-- key 0 is home, and the others have their codes
+pub home-first : (f : ℕ → ℕ) (P : ℕ) → set (joined (λ i. f i ∷ []) P) 0 0 ≡ joined (λ i. pick (eqb i 0) 0 (f i) ∷ []) P
+unfolding joined
+home-first f zero = refl
+home-first f (suc n) =
+    ap (λ (xs : List ℕ). set xs 0 0) (joined-first (λ i. f i ∷ []) n)
+    ∙ ap (λ (xs : List ℕ). 0 ∷ xs)
+    (joined-same (λ i. f (suc i) ∷ []) (λ i. pick (eqb (suc i) 0) 0 (f (suc i)) ∷ []) n
+    (λ i h. ap (λ (b : Bool). pick b 0 (f (suc i)) ∷ []) (sym (ne-eqb (suc i) 0 (λ e. omega arith)))))
+    ∙ ap (λ (b : Bool). pick b 0 (f 0) ∷ joined (λ i. pick (eqb (suc i) 0) 0 (f (suc i)) ∷ []) n) (sym (eq-eqb 0 0 refl))
+    ∙ sym (joined-first (λ i. pick (eqb i 0) 0 (f i) ∷ []) n)
+
+module _ (l : Layout) (p : Plan) (k : PlanOf l p) (some : 0 < l .octave) (T : ℕ) (is : T ≡ countIn l) where
+  -- the code of a key, by the plan
+  pub code-at : (i : ℕ) → codeOf T (planNumber p i) ≡ lampCode (kindIn l i)
+  unfolding codeOf kindAt
+  code-at i = ap₂ (λ (t j : ℕ). lampCode (kindOf t j)) is (number-is l p k i)
+
+  pub strip-is : planStrip p T ≡ stripIn l
+  unfolding stripOf lampOf
+  strip-is =
+      let f : ℕ → ℕ = λ i. lampCode (kindIn l i) in
+      ap (λ (xs : List ℕ). set xs 0 0)
+      (joined-same (λ i. codeOf T (planNumber p i) ∷ []) (λ i. f i ∷ []) (keysOf (p .chain)) (λ i h. ap (λ (x : ℕ). x ∷ []) (code-at i))
+      ∙ ap (joined (λ i. f i ∷ [])) (keys-are l p k some))
+      ∙ home-first f (l .octave)
+
+  pub lamp-is : (i : ℕ) → (i ≡ 0 → ⊥) → codeOf T (planNumber p i) ≡ lampIn l i
+  unfolding lampOf
+  lamp-is i h =
+      code-at i
+      ∙ ap (λ (b : Bool). pick b 0 (lampCode (kindIn l i))) (sym (ne-eqb i 0 h))
+
+pub lamp-home : (l : Layout) (i : ℕ) → i ≡ 0 → 0 ≡ lampIn l i
+unfolding lampOf
+lamp-home l i e =
+    ap (λ (b : Bool). pick b 0 (lampCode (kindIn l i))) (sym (eq-eqb i 0 e))

@@ -1,0 +1,17 @@
+-- What the calls answer: questions 1 to 4 of the layout, question 9, then the value; a strip goes through question 10 too.
+use Prim.Native.Nat.{ℕ, _%_}
+use mathlib.Core.List.{List}
+use Rattle.answer.specs.Outcome.{Outcome, given, ask}
+use Rattle.layout.specs.declared.IsomorphicLayout.{IsomorphicLayout}
+use Rattle.layout.specs.Layouts.{Layout, layoutOutcome}
+use Rattle.layout.specs.Answers.{ofLayout}
+use Rattle.layout_lamps.specs.Lamps.{lampOf, stripOf, hasLamps, lampIn, stripIn, hasLampsIn}
+
+unfoldable pub getStrip : IsomorphicLayout → Outcome (List ℕ)
+unfolding layoutOutcome hasLamps stripOf
+getStrip r = ofLayout r (λ (l : Layout). ask 9 (hasLampsIn l) (given (stripIn l)))
+
+-- "The board repeats the strip each octave": a key's code is that of its place in the octave.
+unfoldable pub getLamp : IsomorphicLayout → ℕ → Outcome ℕ
+unfolding layoutOutcome hasLamps lampOf
+getLamp r key = ofLayout r (λ (l : Layout). ask 9 (hasLampsIn l) (given (lampIn l (key % l .octave))))

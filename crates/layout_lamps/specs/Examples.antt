@@ -1,0 +1,67 @@
+-- Worked examples of strips beside document 01's marked one (BenchExamples), and one theorem that the definitions give them.
+use mathlib.Core.Path.{_≡_}
+use mathlib.Core.List.{List, [], _∷_, map}
+use Prim.Native.Nat.{ℕ}
+use Rattle.answer.specs.Outcome.{Outcome, given, refused}
+use Rattle.layout.specs.declared.IsomorphicLayout.{IsomorphicLayout}
+use Rattle.layout.specs.Examples.{layout}
+use Rattle.layout_layers.specs.declared.Layer.the-variants.{Natural, Sharp, Enharmonic, Flat}
+use Rattle.layout_lamps.specs.Lamps.{lampCode}
+use Rattle.layout_lamps.specs.Answers.{getStrip, getLamp}
+
+pub record StripExample : Type 0 where
+  pub layout : IsomorphicLayout
+  pub strip : Outcome (List ℕ)
+
+-- The lamps of 1 12 19 stand in document 01's key table, and 1 2400 3800 among its bench examples; in 2 7 8 key 3, whose name has a flat spelling too, is in sharp layer 0.
+abbrev pub stripExamples : List StripExample
+stripExamples =
+    record {
+      layout = layout 1 12 19;
+      strip = given (0 ∷ 255 ∷ 1 ∷ 1 ∷ 255 ∷ 1 ∷ 255 ∷ 1 ∷ 255 ∷ 1 ∷ 1 ∷ 255 ∷ []);
+    }
+    ∷ record {
+      layout = layout 2 7 8;
+      strip = given (0 ∷ 1 ∷ 1 ∷ 2 ∷ 102 ∷ 1 ∷ 1 ∷ []);
+    }
+    ∷ record {
+      layout = layout 1 24 38;
+      strip = given (0 ∷ 2 ∷ 255 ∷ 102 ∷ 1 ∷ 2 ∷ 1 ∷ 2 ∷ 255 ∷ 102 ∷ 1 ∷ 2 ∷ 255 ∷ 102 ∷ 1 ∷ 2 ∷ 255 ∷ 102 ∷ 1 ∷ 2 ∷ 1 ∷ 2 ∷ 255 ∷ 102 ∷ []);
+    }
+    ∷ record {
+      layout = layout 1 17 27;
+      strip = given (0 ∷ 102 ∷ 2 ∷ 1 ∷ 1 ∷ 102 ∷ 2 ∷ 1 ∷ 102 ∷ 2 ∷ 1 ∷ 102 ∷ 2 ∷ 1 ∷ 1 ∷ 102 ∷ 2 ∷ []);
+    }
+    ∷ record {
+      layout = layout 1 31 49;
+      strip = given (0 ∷ 103 ∷ 2 ∷ 102 ∷ 3 ∷ 1 ∷ 102 ∷ 2 ∷ 1 ∷ 103 ∷ 2 ∷ 102 ∷ 3 ∷ 1 ∷ 103 ∷ 2 ∷ 102 ∷ 3 ∷ 1 ∷ 103 ∷ 2 ∷ 102 ∷ 3 ∷ 1 ∷ 102 ∷ 2 ∷ 1 ∷ 103 ∷ 2 ∷ 102 ∷ 3 ∷ []);
+    }
+    ∷ record { layout = layout 6 12 19; strip = refused 1 }
+    ∷ record { layout = layout 1 0 19; strip = refused 2 }
+    ∷ record { layout = layout 3 12 19; strip = refused 3 }
+    ∷ record { layout = layout 0 12 19; strip = refused 4 }
+    ∷ record { layout = layout 1 2400 3800; strip = refused 9 }
+    ∷ []
+
+pub record LampExample : Type 0 where
+  pub layout : IsomorphicLayout
+  pub key : ℕ
+  pub code : Outcome ℕ
+
+-- 101 cycles of an equalized scale have sharp layers up to 99 and a strip; with 102 there is none. The board repeats the strip each octave.
+abbrev pub lampExamples : List LampExample
+lampExamples =
+    record { layout = layout 2 7 8; key = 3; code = given 2 }
+    ∷ record { layout = layout 1 7 11; key = 0; code = given 0 }
+    ∷ record { layout = layout 1 7 11; key = 7; code = given 0 }
+    ∷ record { layout = layout 1 7 11; key = 9; code = given 255 }
+    ∷ record { layout = layout 1 707 1111; key = 100; code = given 101 }
+    ∷ record { layout = layout 1 714 1122; key = 0; code = refused 9 }
+    ∷ record { layout = layout 0 12 19; key = 0; code = refused 4 }
+    ∷ []
+
+-- Theorem: the definitions give what the examples say.
+pub record ExamplesHold : Type 0 where
+  pub codes : map lampCode (Natural ∷ Sharp 0 ∷ Sharp 99 ∷ Flat 0 ∷ Flat 99 ∷ Enharmonic 7 ∷ []) ≡ 1 ∷ 2 ∷ 101 ∷ 102 ∷ 201 ∷ 255 ∷ []
+  pub strips : map (λ (e : StripExample). getStrip (e .layout)) stripExamples ≡ map (λ (e : StripExample). e .strip) stripExamples
+  pub lamps : map (λ (e : LampExample). getLamp (e .layout) (e .key)) lampExamples ≡ map (λ (e : LampExample). e .code) lampExamples

@@ -1,0 +1,69 @@
+-- The lamp strip of a layout (document 01, "Lamps and book").
+use Prim.Native.Nat.{ℕ, zero, suc, _+_}
+use mathlib.Core.Bool.{Bool, true, false, _&&_}
+use mathlib.Core.List.{List, [], _∷_}
+use lib.Dec.{eqb, ltb}
+use Rattle.text.specs.Writing.{joined}
+use Rattle.mos.specs.declared.Mos.{Mos}
+use Rattle.mos.specs.Patterns.{pick}
+use Rattle.layout.specs.Layouts.{Layout}
+use Rattle.layout_layers.specs.declared.Layer.{Layer}
+use Rattle.layout_layers.specs.declared.Layer.the-variants.{Natural, Sharp, Enharmonic, Flat}
+use Rattle.layout_layers.specs.KeyLayers.{layerNumber, layerCount, kindOf}
+
+-- "natural 1, sharp k 2 + k, flat k 102 + k, enharmonic 255"
+unfoldable pub lampCode : Layer → ℕ
+lampCode Natural = 1
+lampCode (Sharp k) = 2 + k
+lampCode (Enharmonic k) = 255
+lampCode (Flat k) = 102 + k
+
+-- "key 0 is 0, home"
+abbrev pub home : ℕ
+home = 0
+
+-- The kind of entry i's layer.
+unfoldable pub kindAt : (P G N start : ℕ) → Mos → ℕ → Layer
+unfolding kindOf layerCount layerNumber
+kindAt P G N start m i = kindOf (layerCount P G m) (layerNumber P G N start m i)
+
+-- The code of key i of the octave: "Other keys, from the first P layer entries".
+unfoldable pub lampOf : (P G N start : ℕ) → Mos → ℕ → ℕ
+unfolding lampCode kindAt
+lampOf P G N start m i = pick (eqb i 0) home (lampCode (kindAt P G N start m i))
+
+-- "A lamp strip holds P one-byte codes"
+abbrev pub stripLength : ℕ → ℕ
+stripLength P = P
+
+unfoldable pub stripOf : (P G N start : ℕ) → Mos → List ℕ
+unfolding joined lampOf
+stripOf P G N start m = joined (λ i. lampOf P G N start m i ∷ []) (stripLength P)
+
+-- Question 9, of one layer: a sharp or flat layer's number is below 100.
+abbrev pub lampable : Layer → Bool
+lampable Natural = true
+lampable (Sharp k) = ltb k 100
+lampable (Enharmonic k) = true
+lampable (Flat k) = ltb k 100
+
+-- A test passes on all numbers below count.
+abbrev pub every : (ℕ → Bool) → ℕ → Bool
+every test zero = true
+every test (suc count) = test count && every test count
+
+-- 9. "Is every sharp and flat layer number of the lamp strip below 100?": of the first P entries.
+unfoldable pub hasLamps : (P G N start : ℕ) → Mos → Bool
+unfolding kindAt
+hasLamps P G N start m = every (λ i. lampable (kindAt P G N start m i)) (stripLength P)
+
+-- ---- in a layout
+
+abbrev pub lampIn : Layout → ℕ → ℕ
+lampIn l i = lampOf (l .octave) (l .generator) (l .letters) (l .start) (l .pattern) i
+
+abbrev pub stripIn : Layout → List ℕ
+stripIn l = stripOf (l .octave) (l .generator) (l .letters) (l .start) (l .pattern)
+
+abbrev pub hasLampsIn : Layout → Bool
+hasLampsIn l = hasLamps (l .octave) (l .generator) (l .letters) (l .start) (l .pattern)

@@ -1,0 +1,54 @@
+// The scale's name of a layout, after `IsomorphicLayout::get_scale_name` in src/layout.rs of the original.
+//
+// Holds the name and its length (document 01, "Step patterns"); the names stand in the table of `genchain_names`.
+// The definitions are those of `layout`: ScaleNames says which name a pattern's scale has, Answers what each call answers.
+// Every entry point answers every input. Nothing is assumed.
+use answer::CountAnswer;
+use genchain_names::texts;
+use layout::IsomorphicLayout;
+use layout::parts::FoundAnswer;
+use mos::Mos;
+ghost use mathlib.Core.Path.{_≡_};
+ghost use Prim.Native.Nat.{_<_};
+ghost use lib.ListN.{length};
+ghost use Rattle.answer.specs.Refusals.{countOutcome};
+ghost use Rattle.answer.specs.Lent.{counted, Filled};
+ghost use Rattle.genchain_names.specs.Texts.{PlaceOf};
+ghost use Rattle.layout.specs.Answers.{getScaleName, inRoom};
+ghost use Rattle.layout.specs.ScaleNames.{scaleName};
+
+// The place of a pattern's scale name in the table.
+fn place_of(code: u16, pattern: Mos) -> u16
+    requires { ⌜ code < 6 ⌝ }
+    ensures { λ r. ⌜ PlaceOf (scaleName code pattern) r ⌝ }
+{
+    if pattern.secondary_step < pattern.primary_step {
+        return 2 + 3 * code;
+    }
+    if pattern.primary_step < pattern.secondary_step {
+        return 3 + 3 * code;
+    }
+    0
+}
+
+// How many bytes the scale's name has (1, 2, 3, 4).
+pub fn scale_name_len(layout: IsomorphicLayout) -> CountAnswer
+    ensures { λ r. ⌜ countOutcome r ≡ counted (getScaleName layout) ⌝ }
+{
+    match layout::parts::search(layout) {
+        FoundAnswer::Refused(q) => CountAnswer::Refused(q),
+        FoundAnswer::Given(found) => {
+            CountAnswer::Given(texts::text_len(place_of(found.chain, found.pattern)))
+        }
+    }
+}
+
+// The scale's name, as "diatonic" (1, 2, 3, 4, 10).
+pub fn get_scale_name(layout: IsomorphicLayout, out: &mut [u8]) -> CountAnswer
+    ensures { λ r. ⌜ Filled (inRoom (length (now (out .entry))) (getScaleName layout)) (countOutcome r) (now (out .entry)) (now (out .exit)) ⌝ }
+{
+    match layout::parts::search(layout) {
+        FoundAnswer::Refused(q) => CountAnswer::Refused(q),
+        FoundAnswer::Given(found) => texts::fill(place_of(found.chain, found.pattern), out),
+    }
+}

@@ -1,0 +1,54 @@
+-- The key table (document 01, "Lamps and book", the last paragraph), as bytes.
+use Prim.Native.Nat.{ℕ}
+use mathlib.Core.List.{List, [], _∷_, _++_}
+use Rattle.answer.specs.Outcome.{Outcome, given, refused, ask, andThen}
+use Rattle.text.specs.Writing.{joined}
+use Rattle.layout_lamps.specs.Lamps.{lampOf, hasLamps, lampIn, hasLampsIn}
+use Rattle.layout.specs.declared.IsomorphicLayout.{IsomorphicLayout}
+use Rattle.layout.specs.Layouts.{Layout, layoutOutcome}
+use Rattle.layout.specs.Names.{nameIn}
+use Rattle.layout.specs.Answers.{ofLayout}
+use Rattle.text.specs.Decimal.{digits}
+use Rattle.line.specs.Lines.{space, lineFeed, lineOutcome}
+use Rattle.line.specs.declared.Line.{Line}
+
+-- A key's line: "number, name, lamp code, one space between."
+unfoldable pub keyLine : (key : ℕ) (name : List ℕ) (lamp : ℕ) → List ℕ
+unfolding digits
+keyLine key name lamp = digits key ++ (space ∷ []) ++ name ++ (space ∷ []) ++ digits lamp ++ (lineFeed ∷ [])
+
+-- "a line per key from 0 to octave − 1 .. No header."
+unfoldable pub tableIn : Layout → List ℕ
+unfolding joined keyLine nameIn lampOf
+tableIn l = joined (λ key. keyLine key (nameIn l key) (lampIn l key)) (l .octave)
+
+-- Questions 1 to 4, question 9, then the table.
+unfoldable pub getTable : IsomorphicLayout → Outcome (List ℕ)
+unfolding layoutOutcome hasLamps tableIn
+getTable r = ofLayout r (λ (l : Layout). ask 9 (hasLampsIn l) (given (tableIn l)))
+
+-- The layout that a line asks for.
+abbrev pub layoutOn : Line → IsomorphicLayout
+layoutOn a = record { genchain = a .genchain; octave = a .octave; tritave = a .tritave }
+
+-- "The key table program reads one line, ignores bytes after it": question 14, then the table of the layout.
+unfoldable pub lineTable : List ℕ → Outcome (List ℕ)
+unfolding lineOutcome getTable
+lineTable line = andThen (lineOutcome line) (λ (a : Line). getTable (layoutOn a))
+
+-- "A refusal prints only `refused`, a space and the number, and a line feed."
+abbrev pub refusedWord : List ℕ
+refusedWord = 114 ∷ 101 ∷ 102 ∷ 117 ∷ 115 ∷ 101 ∷ 100 ∷ space ∷ []
+
+unfoldable pub refusalLine : ℕ → List ℕ
+unfolding digits
+refusalLine n = refusedWord ++ digits n ++ (lineFeed ∷ [])
+
+abbrev pub outputOf : Outcome (List ℕ) → List ℕ
+outputOf (given text) = text
+outputOf (refused n) = refusalLine n
+
+-- What the program prints.
+unfoldable pub output : List ℕ → List ℕ
+unfolding lineTable refusalLine
+output line = outputOf (lineTable line)

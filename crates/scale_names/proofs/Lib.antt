@@ -1,2 +1,0 @@
-pub mod ScaleTable
-pub mod ScaleCalls

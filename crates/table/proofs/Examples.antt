@@ -1,9 +1,0 @@
--- The worked examples hold by computation.
-use mathlib.Core.Path.{refl}
-use Rattle.line.specs.Lines.{lineText}
-use Rattle.table.specs.Tables.{refusalLine, output}
-use Rattle.table.specs.Examples.{ExamplesHold}
-
-pub examples-hold : ExamplesHold
-unfolding output lineText refusalLine
-examples-hold = record { printed = refl; refusal = refl }

@@ -1,0 +1,5 @@
+pub mod Writing
+pub mod Decimal
+pub mod LittleEndian
+pub mod Theorems
+pub mod Examples

@@ -1,0 +1,86 @@
+// Numbers of 16 bits in decimal.
+//
+// Parts, and no entry points: `put_number` asks that there is room. An entry point first answers question 10, and then calls it.
+use crate::writer::put_byte;
+ghost use mathlib.Core.Path.{_≡_};
+ghost use Prim.Native.Nat.{_+_, _<_};
+ghost use Rattle.text.specs.Writing.{Room, Wrote};
+ghost use Rattle.text.specs.Decimal.{digits, DigitsLength, digitAt, numberAt};
+
+// A number and the place after its digits, or none.
+pub enum Reading {
+    Number(u16, usize),
+    Nothing,
+}
+
+// How many digits a number has: 1 to 5.
+pub fn number_len(n: u16) -> usize
+    ensures { λ r. ⌜ DigitsLength n r ⌝ }
+{
+    if n < 10 {
+        return 1;
+    }
+    if n < 100 {
+        return 2;
+    }
+    if n < 1000 {
+        return 3;
+    }
+    if n < 10000 {
+        return 4;
+    }
+    5
+}
+
+// The digits of a number at a place, the highest first, without leading zeros; the place after them.
+pub fn put_number(out: &mut [u8], at: usize, n: u16) -> usize
+    requires { ⌜ Room (now out) at (digits n) ⌝ }
+    ensures { λ r. ⌜ Wrote (now (out .entry)) at (digits n) (now (out .exit)) r ⌝ }
+{
+    if n < 10 {
+        return put_byte(out, at, 48 + n as u8);
+    }
+    let next = put_number(out, at, n / 10);
+    put_byte(out, next, 48 + (n % 10) as u8)
+}
+
+// The digit at a place, or 10 where there is none.
+fn digit_at(text: &[u8], at: usize) -> u32
+    ensures { λ r. ⌜ r ≡ digitAt (now (text .entry)) at ⌝ }
+{
+    if text.len() <= at {
+        return 10;
+    }
+    let byte = text[at];
+    if byte < b'0' {
+        return 10;
+    }
+    if b'9' < byte {
+        return 10;
+    }
+    (byte - b'0') as u32
+}
+
+// The number that begins at a place: 1 to 5 digits, leading zeros among them, which say at most 65,535.
+pub fn read_number(text: &[u8], at: usize) -> Reading
+    ensures { λ r. ⌜ r ≡ numberAt (now (text .entry)) at ⌝ }
+{
+    let mut value: u32 = 0;
+    let mut next = at;
+    let mut digit = digit_at(text, next);
+    while digit < 10 {
+        value = 10 * value + digit;
+        next += 1;
+        if 65535 < value {
+            return Reading::Nothing;
+        }
+        if 5 < next - at {
+            return Reading::Nothing;
+        }
+        digit = digit_at(text, next);
+    }
+    if next <= at {
+        return Reading::Nothing;
+    }
+    Reading::Number(value as u16, next)
+}

@@ -1,0 +1,59 @@
+-- Questions 1 to 4, then the numbers that were found and solved.
+use mathlib.Core.Path.{sym, ap, _∙_}
+use Rattle.layout.specs.Parts.{foundOutcome}
+use Rattle.layout.proofs.Calls.{parts-of}
+use Rattle.vetchnoon_codes.proofs.Coding.{coded, fills-refused, fills-as}
+use Rattle.vetchnoon.proofs.Outputs.{layout-refused, layout-given}
+use borrow.Author.Needs.{needs}
+use Rattle.vetchnoon.proofs.layouts.vn_layout.Statement.{statement}
+use Rattle.vetchnoon.proofs.layouts.vn_layout.Tie as tie
+
+search-requires : tie.Need-search-requires
+search-requires c κs = search needs
+
+enum-known-question : tie.Need-enum-known-question
+enum-known-question c = search needs
+
+refused-requires : tie.Need-refused-requires
+refused-requires c κs = search needs
+
+enum-known-found : tie.Need-enum-known-found
+enum-known-found c = search needs
+
+solve-requires : tie.Need-solve-requires
+solve-requires c κs = parts-of _ _ (sym (ap foundOutcome (c .before .found .given .1)) ∙ c .before .before .before .search .ensures) .positive
+
+slice-aggregate-put : tie.Need-slice-aggregate-put
+slice-aggregate-put c = search needs
+
+put-requires : tie.Need-put-requires
+put-requires c κs = search needs
+
+returns : tie.Need-returns
+returns c =
+    fills-refused _ _ (layout-refused _ _ (sym (ap foundOutcome (c .before .before .question .given .1)) ∙ c .before .before .before .before .search .ensures))
+    (coded (c .refused .ok) (c .refused .ensures))
+
+same-length : tie.Need-same-length
+same-length c = search needs
+
+returns-2 : tie.Need-returns-2
+returns-2 c =
+    fills-as (layout-given _ _ _ (sym (ap foundOutcome (c .before .before .before .before .before .before .before .before .found .given .1)) ∙ c .before .before .before .before .before .before .before .before .before .before .search .ensures) (c .before .before .before .before .before .before .solve .ensures))
+    (c .before .before .put .ok)
+    (c .before .before .put .ensures)
+
+pub vn-layout-spec : {M : Type 1} → statement M
+vn-layout-spec =
+    tie.close
+    (tie.spec
+    search-requires
+    enum-known-question
+    refused-requires
+    enum-known-found
+    solve-requires
+    slice-aggregate-put
+    put-requires
+    returns
+    same-length
+    returns-2)

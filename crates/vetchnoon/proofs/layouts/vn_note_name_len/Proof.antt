@@ -1,0 +1,23 @@
+-- A name is at most 39,325 bytes long, so its length fits.
+use mathlib.Core.Path.{ap, _∙_}
+use native.Mathlib.Omega.{arith}
+use Rattle.layout.specs.Answers.{getNoteName}
+use Rattle.vetchnoon_codes.specs.Codes.{codeOf}
+use Rattle.vetchnoon.specs.Written.{layout}
+use Rattle.vetchnoon_codes.proofs.Coding.{coded, small-counted}
+use Rattle.vetchnoon.proofs.Outputs.{names-fit}
+use borrow.Author.Needs.{needs}
+use Rattle.vetchnoon.proofs.layouts.vn_note_name_len.Statement.{statement}
+use Rattle.vetchnoon.proofs.layouts.vn_note_name_len.Tie as tie
+
+note-name-len-requires : tie.Need-note-name-len-requires
+note-name-len-requires c κs = search needs
+
+count-requires : tie.Need-count-requires
+count-requires c κs = small-counted (getNoteName (layout (c .before .args .chain) (c .before .args .octave) (c .before .args .tritave)) (c .before .args .key)) (c .note-name-len .result) (c .note-name-len .ensures) (names-fit _ (omega arith) _)
+
+returns : tie.Need-returns
+returns c = coded (c .count .ok) (c .count .ensures ∙ ap codeOf (c .before .note-name-len .ensures))
+
+pub vn-note-name-len-spec : {M : Type 1} → statement M
+vn-note-name-len-spec = tie.close (tie.spec note-name-len-requires count-requires returns)

@@ -1,0 +1,167 @@
+/* Calls each function of vetchnoon.h once, with arguments that tell order, width and sign apart, and compares its answer with
+ * the one that document 01 gives. Prints nothing; status 1, and the line, where an answer differs. */
+#include <stdio.h>
+#include <string.h>
+#include "vetchnoon.h"
+
+static int wrong;
+
+static void is(int line, int64_t answer, int64_t wanted)
+{
+    if (answer != wanted) {
+        printf("every_call.c:%d: %lld, not %lld\n", line, (long long)answer, (long long)wanted);
+        wrong = 1;
+    }
+}
+
+static void holds(int line, const void *slice, const void *wanted, size_t bytes)
+{
+    if (memcmp(slice, wanted, bytes) != 0) {
+        printf("every_call.c:%d: other contents\n", line);
+        wrong = 1;
+    }
+}
+
+#define IS(answer, wanted) is(__LINE__, answer, wanted)
+#define TEXT(wanted) holds(__LINE__, text, wanted, strlen(wanted))
+#define NUMBERS(...) \
+    do { \
+        const uint16_t wanted[] = {__VA_ARGS__}; \
+        holds(__LINE__, numbers, wanted, sizeof wanted); \
+    } while (0)
+
+static uint16_t numbers[64];
+static uint8_t text[512];
+
+static void call_numbers(void)
+{
+    IS(vn_gcd(65535, 51), 51);
+    IS(vn_rem(-65537, 12), 7);
+}
+
+static void call_pergens(void)
+{
+    IS(vn_pergen(12, 9, numbers, 3), 3);
+    NUMBERS(3, 4, 3);
+    IS(vn_generation(12, 9, 4, numbers, 3), 3);
+    NUMBERS(3, 1, 1);
+    IS(vn_accidentals(12, 7, 7, 3, 1, numbers, 4), 4);
+    NUMBERS(3, 1, 5, 1);
+    IS(vn_accidentals(12, 7, 0, 3, 1, numbers, 4), -VN_SYMBOLS);
+    IS(vn_accidentals(12, 7, 3, 3, 1, numbers, 4), -VN_ORIGIN);
+}
+
+static void call_patterns(void)
+{
+    int64_t key[1];
+    IS(vn_mos_child(5, 2, 2, 1, numbers, 4), 4);
+    NUMBERS(5, 7, 1, 1);
+    IS(vn_mos_parent(5, 2, 2, 1, numbers, 4), 4);
+    NUMBERS(3, 2, 2, 3);
+    IS(vn_mos_genesis(5, 2, 2, 1, numbers, 4), 4);
+    NUMBERS(1, 1, 7, 5);
+    IS(vn_mos_coprime(5, 2, 4, 2, numbers, 4), 4);
+    NUMBERS(5, 2, 4, 3);
+    IS(vn_mos_find(12, 7, 5, numbers, 4), 4);
+    NUMBERS(3, 2, 2, 3);
+    IS(vn_mos_children(1, 1, 7, 5, numbers, 20), 20);
+    NUMBERS(1, 1, 7, 5, 1, 2, 2, 5, 3, 2, 2, 3, 5, 2, 2, 1, 5, 7, 1, 1);
+    IS(vn_mos_parents(5, 2, 2, 1, numbers, 16), 16);
+    NUMBERS(5, 2, 2, 1, 3, 2, 2, 3, 1, 2, 2, 5, 1, 1, 7, 5);
+    IS(vn_mos_layers(5, 2, 2, 1, numbers, 12), 12);
+    NUMBERS(0, 0, 0, 0, 0, 0, 0, 1, 1, 1, 1, 1);
+    IS(vn_mos_key(5, 2, 2, 1, -32768, 3, key, 1), 1);
+    IS(key[0], -65533);
+    IS(vn_mos_child(65535, 2, 2, 1, numbers, 4), -VN_SIZE);
+    IS(vn_mos_coprime(1, 60000, 4, 0, numbers, 4), -VN_COPRIME_SIZE);
+}
+
+static void call_chains(void)
+{
+    IS(vn_chain_letters(0, numbers, 9), 9);
+    NUMBERS(946, 'F', 'C', 'G', 'D', 'A', 'E', 'B', 966);
+    IS(vn_chain_letters(0, numbers, 8), -VN_ROOM);
+    IS(vn_chain_name(3, text, 12), 12);
+    TEXT("Porcupine[8]");
+    IS(vn_chain_name(3, text, 11), -VN_ROOM);
+    IS(vn_start(0), 4);
+    IS(vn_start(256), -VN_CHAIN);
+}
+
+static void call_layouts(void)
+{
+    IS(vn_layout(1, 12, 19, numbers, 8), 8);
+    NUMBERS(7, 1, 12, 7, 5, 2, 2, 1);
+    IS(vn_scale_name(1, 12, 19, text, 8), 8);
+    TEXT("diatonic");
+    IS(vn_note_name_len(1, 12, 19, 1), 5);
+    IS(vn_note_name(1, 12, 19, 1, text, 5), 5);
+    TEXT("D#/Eb");
+    IS(vn_layout_accidentals(1, 12, 19, 1, numbers, 4), 4);
+    NUMBERS(3, 1, 5, 1);
+    IS(vn_sounded_key(1, 12, 19, 3, 65537, 0), 5);
+    IS(vn_sounded_key(1, 12, 19, 4, -65537, 0), 2);
+    IS(vn_sounded_key(1, 12, 19, 3, INT32_MAX, 0), 7);
+    IS(vn_sounded_key(1, 12, 19, 3, INT32_MIN, 0), 4);
+    IS(vn_sounded_key(1, 24, 38, 3, 0, 1), 1);
+    IS(vn_sounded_key(1, 24, 38, 7, 0, 2), -VN_LETTER);
+    IS(vn_sounded_key(1, 24, 38, 6, 0, 2), -VN_STARS);
+    IS(vn_layout(6, 12, 19, numbers, 8), -VN_CHAIN);
+    IS(vn_layout(1, 0, 19, numbers, 8), -VN_PERIOD);
+    IS(vn_layout(1, 19, 12, numbers, 8), -VN_GENERATOR);
+    IS(vn_layout(1, 12, 12, numbers, 8), -VN_PATTERN);
+    IS(vn_layout(1, 12, 19, numbers, 7), -VN_ROOM);
+}
+
+static void call_layers(void)
+{
+    IS(vn_layer_count(1, 12, 19), 2);
+    IS(vn_layout_layers(1, 12, 19, numbers, 12), 12);
+    NUMBERS(0, 1, 0, 0, 1, 0, 1, 0, 1, 0, 0, 1);
+    IS(vn_layer(1, 31, 49, 65535), 3);
+    IS(vn_layer(1, 31, 49, 6), 4);
+    IS(vn_layer_kind(65535, 0, numbers, 2), 2);
+    NUMBERS(VN_NATURAL, 0);
+    IS(vn_layer_kind(65535, 32767, numbers, 2), 2);
+    NUMBERS(VN_SHARP, 32766);
+    IS(vn_layer_kind(6, 3, numbers, 2), 2);
+    NUMBERS(VN_ENHARMONIC, 2);
+    IS(vn_layer_kind(5, 3, numbers, 2), 2);
+    NUMBERS(VN_FLAT, 1);
+    IS(vn_layer_kind(5, 3, numbers, 1), -VN_ROOM);
+    IS(vn_lamp_strip(1, 12, 19, text, 12), 12);
+    holds(__LINE__, text, "\0\377\1\1\377\1\377\1\377\1\1\377", 12);
+    IS(vn_lamp_strip(1, 2400, 3800, text, sizeof text), -VN_LAMP_LAYER);
+    IS(vn_lamp(1, 31, 49, 65535), 103);
+    IS(vn_lamp(1, 31, 49, 31), 0);
+    IS(vn_lamp(1, 2400, 3800, 31), -VN_LAMP_LAYER);
+}
+
+static void call_books(void)
+{
+    uint32_t found[2];
+    int64_t length = vn_book_len(1, 12, 19);
+    IS(length, 132);
+    IS(vn_book(1, 12, 19, text, sizeof text), length);
+    IS(vn_book_find(text, (size_t)length, 1, found, 2), 2);
+    IS(found[0], 101);
+    IS(found[1], 5);
+    holds(__LINE__, text + found[0], "D#/Eb", 5);
+    IS(vn_book_find(text, (size_t)length, 12, found, 2), -VN_BOOK_KEY);
+    IS(vn_book_find(text, (size_t)length - 1, 1, found, 2), -VN_BOOK_COVER);
+    IS(vn_book_find(text, 3, 1, found, 2), -VN_BOOK_PAIRS);
+    IS(vn_key_table((const uint8_t *)"1 0 19\n", 7, text, sizeof text), 10);
+    TEXT("refused 2\n");
+}
+
+int main(void)
+{
+    call_numbers();
+    call_pergens();
+    call_patterns();
+    call_chains();
+    call_layouts();
+    call_layers();
+    call_books();
+    return wrong;
+}

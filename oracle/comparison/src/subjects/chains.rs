@@ -1,0 +1,62 @@
+//! The six chains: letters, names and starts.
+
+use judge::layouts;
+use reading::chains::chain;
+use reading::fitted;
+
+use crate::question::Call;
+use crate::question::Question;
+use crate::tally::Answers;
+use crate::tally::Original;
+use crate::tally::Tally;
+use crate::tally::outcome;
+
+/// Every question about a chain code.
+pub fn compare(tally: &mut Tally, code: u16) {
+    compare_letters(tally, code);
+    compare_name(tally, code);
+    compare_start(tally, code);
+}
+
+/// The original keeps its letters and starts to itself; its key names show them.
+fn compare_letters(tally: &mut Tally, code: u16) {
+    let reading = chain(code).map(|chain| {
+        let letters = chain.letters.iter().flat_map(|letter| letter.chars());
+        letters
+            .map(|letter| fitted(u32::from(letter).into()))
+            .collect()
+    });
+    let call = |out: &mut [u16]| vetchnoon::chain_letters(code, out);
+    let question = Question {
+        call: Call::ChainLetters,
+        arguments: &[code.into()],
+    };
+    tally.compare_filling(question, reading, Original::Silent, None, call);
+}
+
+fn compare_name(tally: &mut Tally, code: u16) {
+    let reading = chain(code).map(|chain| chain.name.as_bytes().to_vec());
+    let original = match layouts::chain(code) {
+        Some(chain) => Original::Answered(chain.to_string().into_bytes()),
+        None => Original::Silent,
+    };
+    let call = |out: &mut [u8]| vetchnoon::chain_name(code, out);
+    let question = Question {
+        call: Call::ChainName,
+        arguments: &[code.into()],
+    };
+    tally.compare_filling(question, reading, original, None, call);
+}
+
+fn compare_start(tally: &mut Tally, code: u16) {
+    let answers = Answers {
+        library: outcome(vetchnoon::start(code)),
+        reading: chain(code).map(|chain| fitted(chain.start)),
+        original: Original::Silent,
+    };
+    let question = Question {
+        call: Call::Start,
+        arguments: &[code.into()],
+    };
+    tally.compare(question, &answers, None);
+}
