@@ -7,9 +7,9 @@ ghost use mathlib.Core.Path.{_≡_};
 ghost use mathlib.Core.Bool.{true, _&&_};
 ghost use lib.ListN.{length};
 ghost use lib.Dec.{ltb, leb};
+ghost use Rattle.answer.specs.Choice.{pick};
 ghost use Rattle.text.specs.Writing.{Room, Wrote};
 ghost use Rattle.mos.specs.Patterns.{
-  pick,
   primaries,
   secondaries,
   primary,

@@ -3,8 +3,9 @@ use mathlib.Core.Path.{sym, ap, _∙_}
 use mathlib.Core.Bool.{Bool, _&&_}
 use lib.Dec.{ltb, leb}
 use borrow.Author.Needs.{needs}
+use Rattle.answer.specs.Choice.{pick}
 use Rattle.mos.specs.declared.Mos.{Mos}
-use Rattle.mos.specs.Patterns.{pick, primaries, secondaries, primary, secondary, childOf}
+use Rattle.mos.specs.Patterns.{primaries, secondaries, primary, secondary, childOf}
 use Rattle.mos.specs.Parts.{isSome}
 use Rattle.mos.proofs.Descent.{parent-there}
 use Rattle.mos_listings.proofs.parts.lessens.Statement.{statement}
