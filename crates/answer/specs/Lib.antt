@@ -1,3 +1,4 @@
+pub mod Choice
 pub mod Outcome
 pub mod Refusals
 pub mod Lent

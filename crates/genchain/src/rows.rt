@@ -70,7 +70,7 @@ pub fn row(code: u16) -> ChainRow
 }
 
 // The letters of a row at the front of a slice; how many there are.
-pub fn put_letters(out: &mut [u16], row: ChainRow) -> usize
+pub(crate) fn put_letters(out: &mut [u16], row: ChainRow) -> usize
     requires { ⌜ TableRow row × Room (now out) 0 (lettersIn row) ⌝ }
     ensures { λ r. ⌜ Wrote (now (out .entry)) 0 (lettersIn row) (now (out .exit)) r ⌝ }
 {

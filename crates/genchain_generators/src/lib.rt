@@ -15,7 +15,7 @@ ghost use Rattle.genchain.specs.Answers.{generatorOutcome};
 pub fn generator(code: u16, octave: u16, tritave: u16) -> NumberAnswer
     ensures { λ r. ⌜ numberOutcome r ≡ generatorOutcome code octave tritave ⌝ }
 {
-    if 6 <= code {
+    if !genchain::rows::is_chain(code) {
         return NumberAnswer::Refused(Refusal::Chain);
     }
     if octave == 0 {

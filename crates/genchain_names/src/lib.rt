@@ -18,7 +18,7 @@ ghost use Rattle.genchain.specs.Answers.{nameLengthOutcome, nameOutcome};
 pub fn name_len(code: u16) -> CountAnswer
     ensures { λ r. ⌜ countOutcome r ≡ nameLengthOutcome code ⌝ }
 {
-    if 6 <= code {
+    if !genchain::rows::is_chain(code) {
         return CountAnswer::Refused(Refusal::Chain);
     }
     CountAnswer::Given(texts::text_len(1 + 3 * code))
@@ -28,7 +28,7 @@ pub fn name_len(code: u16) -> CountAnswer
 pub fn name(code: u16, out: &mut [u8]) -> CountAnswer
     ensures { λ r. ⌜ Filled (nameOutcome code (length (now (out .entry)))) (countOutcome r) (now (out .entry)) (now (out .exit)) ⌝ }
 {
-    if 6 <= code {
+    if !genchain::rows::is_chain(code) {
         return CountAnswer::Refused(Refusal::Chain);
     }
     texts::fill(1 + 3 * code, out)

@@ -1,4 +1,4 @@
--- What it takes for a layout to be accepted, and what the search for it answers: by cases on the generator's outcome.
+-- What it takes for a layout to be accepted, and what the questions answer: by cases on the generator's outcome.
 use Prim.Native.Nat.{ℕ, _-_, _%_, _<_}
 use mathlib.Core.Path.{_≡_, refl, ap, ap₂, _∙_, subst}
 use mathlib.Core.Option.{Option, none, some}
@@ -32,7 +32,7 @@ generated code octave tritave G e =
       positive = leb-true 1 octave (asked-yes 2 (leb 1 octave) _ (asked-rest 1 (ltb code 6) _ e));
     }
 
--- ---- what the search answers
+-- ---- what the questions answer
 
 abbrev pub generatorOf : IsomorphicLayout → Outcome ℕ
 generatorOf r = generatorOutcome (r .genchain) (r .octave) (r .tritave)
@@ -41,13 +41,13 @@ abbrev pub walked : IsomorphicLayout → ℕ → Option Mos
 walked r G = firstWith (lettersOf (r .genchain)) (children (genesis (r .octave) G))
 
 module _ (r : IsomorphicLayout) where
-  pub find-refused : (n : ℕ) → refused n ≡ generatorOf r → refused n ≡ layoutOutcome r
+  pub ask-refused : (n : ℕ) → refused n ≡ generatorOf r → refused n ≡ layoutOutcome r
   unfolding layoutOutcome
-  find-refused n e = ap (λ (o : Outcome ℕ). andThen o (λ (G : ℕ). withPattern r G (walked r G))) e
+  ask-refused n e = ap (λ (o : Outcome ℕ). andThen o (λ (G : ℕ). withPattern r G (walked r G))) e
 
-  pub find-given : (G : ℕ) (x : Outcome Layout) → given G ≡ generatorOf r → x ≡ withPattern r G (walked r G) → x ≡ layoutOutcome r
+  pub ask-given : (G : ℕ) (x : Outcome Layout) → given G ≡ generatorOf r → x ≡ withPattern r G (walked r G) → x ≡ layoutOutcome r
   unfolding layoutOutcome
-  find-given G x e p = p ∙ ap (λ (o : Outcome ℕ). andThen o (λ (H : ℕ). withPattern r H (walked r H))) e
+  ask-given G x e p = p ∙ ap (λ (o : Outcome ℕ). andThen o (λ (H : ℕ). withPattern r H (walked r H))) e
 
   -- with the numbers of the chain's row, and the walk from the generator within the octave
   module _ (row : ChainRow) (is : row ≡ rowOf (chainOf (r .genchain))) (G step : ℕ) (within : step ≡ G % r .octave) where

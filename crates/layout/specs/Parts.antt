@@ -7,7 +7,7 @@ use Rattle.layout.specs.declared.parts.Found.{Found}
 use Rattle.layout.specs.declared.parts.FoundAnswer.{FoundAnswer}
 use Rattle.layout.specs.declared.parts.FoundAnswer.the-variants as FoundAnswer
 
--- The layout that a search found.
+-- The layout that the questions found.
 abbrev pub layoutOf : Found → Layout
 layoutOf f =
     record {

@@ -2,8 +2,9 @@
 use Prim.Native.Nat.{ℕ}
 use mathlib.Core.List.{List}
 use lib.Dec.{ltb}
+use Rattle.answer.specs.Choice.{pick}
 use Rattle.mos.specs.declared.Mos.{Mos}
-use Rattle.mos.specs.Patterns.{pick, primary, secondary}
+use Rattle.mos.specs.Patterns.{primary, secondary}
 use Rattle.genchain.specs.Chains.{chainOf, equalized}
 
 -- The scale name of a pattern; sharpness is the primary less the secondary step.

@@ -57,7 +57,7 @@ pub fn create_layout(genchain: u16, octave: u16, tritave: u16) -> LayoutAnswer
         octave,
         tritave,
     };
-    match parts::search(layout) {
+    match parts::ask(layout) {
         FoundAnswer::Refused(q) => LayoutAnswer::Refused(q),
         FoundAnswer::Given(_) => LayoutAnswer::Given(layout),
     }
@@ -68,7 +68,7 @@ impl IsomorphicLayout {
     pub fn genchain(self) -> NumberAnswer
         ensures { λ r. ⌜ numberOutcome r ≡ getGenchain self ⌝ }
     {
-        match parts::search(self) {
+        match parts::ask(self) {
             FoundAnswer::Refused(q) => NumberAnswer::Refused(q),
             FoundAnswer::Given(found) => NumberAnswer::Given(found.chain),
         }
@@ -78,7 +78,7 @@ impl IsomorphicLayout {
     pub fn pergen(self) -> PerGenAnswer
         ensures { λ r. ⌜ pergenOutcome r ≡ getPergen self ⌝ }
     {
-        match parts::search(self) {
+        match parts::ask(self) {
             FoundAnswer::Refused(q) => PerGenAnswer::Refused(q),
             FoundAnswer::Given(found) => PerGenAnswer::Given(PerGen {
                 period: found.octave,
@@ -91,7 +91,7 @@ impl IsomorphicLayout {
     pub fn mos(self) -> MosAnswer
         ensures { λ r. ⌜ mosOutcome r ≡ getMos self ⌝ }
     {
-        match parts::search(self) {
+        match parts::ask(self) {
             FoundAnswer::Refused(q) => MosAnswer::Refused(q),
             FoundAnswer::Given(found) => {
                 let pattern = found.pattern;
@@ -104,7 +104,7 @@ impl IsomorphicLayout {
     pub fn get_accidentals(self, key: u16) -> AccidentalsAnswer
         ensures { λ r. ⌜ accidentalsOutcome r ≡ getAccidentals self key ⌝ }
     {
-        match parts::search(self) {
+        match parts::ask(self) {
             FoundAnswer::Refused(q) => AccidentalsAnswer::Refused(q),
             FoundAnswer::Given(found) => AccidentalsAnswer::Given(parts::accidentals(found, key)),
         }
@@ -115,7 +115,7 @@ impl IsomorphicLayout {
         ensures { λ r. ⌜ countOutcome r ≡ counted (getNoteName self key) ⌝ }
     {
         let row = rows::row(self.genchain);
-        match parts::find(self, row) {
+        match parts::ask_with_row(self, row) {
             FoundAnswer::Refused(q) => CountAnswer::Refused(q),
             FoundAnswer::Given(found) => CountAnswer::Given(plans::plan_length(parts::plan_key(
                 row,
@@ -130,7 +130,7 @@ impl IsomorphicLayout {
         ensures { λ r. ⌜ Filled (inRoom (length (now (out .entry))) (getNoteName self key)) (countOutcome r) (now (out .entry)) (now (out .exit)) ⌝ }
     {
         let row = rows::row(self.genchain);
-        match parts::find(self, row) {
+        match parts::ask_with_row(self, row) {
             FoundAnswer::Refused(q) => CountAnswer::Refused(q),
             FoundAnswer::Given(found) => parts::write_name(row, found, key, out),
         }
@@ -140,7 +140,7 @@ impl IsomorphicLayout {
     pub fn get_sounded_key(self, spelling: Spelling) -> NumberAnswer
         ensures { λ r. ⌜ numberOutcome r ≡ getSoundedKey self spelling ⌝ }
     {
-        match parts::search(self) {
+        match parts::ask(self) {
             FoundAnswer::Refused(q) => NumberAnswer::Refused(q),
             FoundAnswer::Given(found) => parts::sounded(found, spelling),
         }

@@ -84,7 +84,7 @@ fn with_pattern(layout: IsomorphicLayout, row: ChainRow, generator: u16) -> Foun
 }
 
 // Questions 1 to 4, of a layout whose chain has this row.
-pub fn find(layout: IsomorphicLayout, row: ChainRow) -> FoundAnswer
+pub fn ask_with_row(layout: IsomorphicLayout, row: ChainRow) -> FoundAnswer
     requires { ⌜ row ≡ rowOf (chainOf (layout .genchain)) ⌝ }
     ensures { λ r. ⌜ foundOutcome r ≡ layoutOutcome layout ⌝ }
 {
@@ -95,10 +95,10 @@ pub fn find(layout: IsomorphicLayout, row: ChainRow) -> FoundAnswer
 }
 
 // Questions 1 to 4.
-pub fn search(layout: IsomorphicLayout) -> FoundAnswer
+pub fn ask(layout: IsomorphicLayout) -> FoundAnswer
     ensures { λ r. ⌜ foundOutcome r ≡ layoutOutcome layout ⌝ }
 {
-    find(layout, rows::row(layout.genchain))
+    ask_with_row(layout, rows::row(layout.genchain))
 }
 
 // The two spellings of a key.

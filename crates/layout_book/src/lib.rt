@@ -24,7 +24,7 @@ pub fn book_len(layout: IsomorphicLayout) -> CountAnswer
     ensures { λ r. ⌜ countOutcome r ≡ counted (getBook layout) ⌝ }
 {
     let row = rows::row(layout.genchain);
-    match layout::parts::find(layout, row) {
+    match layout::parts::ask_with_row(layout, row) {
         FoundAnswer::Refused(q) => CountAnswer::Refused(q),
         FoundAnswer::Given(found) => CountAnswer::Given(parts::book_length(
             speller::speller_of(row, found),
@@ -38,7 +38,7 @@ pub fn write_book(layout: IsomorphicLayout, out: &mut [u8]) -> CountAnswer
     ensures { λ r. ⌜ Filled (inRoom (length (now (out .entry))) (getBook layout)) (countOutcome r) (now (out .entry)) (now (out .exit)) ⌝ }
 {
     let row = rows::row(layout.genchain);
-    match layout::parts::find(layout, row) {
+    match layout::parts::ask_with_row(layout, row) {
         FoundAnswer::Refused(q) => CountAnswer::Refused(q),
         FoundAnswer::Given(found) => parts::write_names(
             speller::speller_of(row, found),

@@ -33,7 +33,7 @@ ghost use Rattle.layout_book.specs.Parts.{
 };
 
 // How many bytes the book of an octave's keys has.
-pub fn book_length(speller: Speller, keys: u16) -> usize
+pub(crate) fn book_length(speller: Speller, keys: u16) -> usize
     requires { ⌜ Sound speller × (keys ≡ speller .solved .«reduced_period» * speller .solved .«num_cycles») ⌝ }
     ensures { λ r. ⌜ r ≡ length (bookText (nameOf speller) keys) ⌝ }
 {
@@ -148,7 +148,7 @@ fn put_book(out: &mut [u8], speller: Speller, keys: u16) -> usize
 }
 
 // The book of an octave's keys at the front of a slice that holds it (10).
-pub fn write_names(speller: Speller, keys: u16, out: &mut [u8]) -> CountAnswer
+pub(crate) fn write_names(speller: Speller, keys: u16, out: &mut [u8]) -> CountAnswer
     requires { ⌜ Sound speller × (keys ≡ speller .solved .«reduced_period» * speller .solved .«num_cycles») ⌝ }
     ensures { λ r. ⌜ Filled (heldIn (length (now (out .entry))) (bookText (nameOf speller) keys)) (countOutcome r) (now (out .entry)) (now (out .exit)) ⌝ }
 {

@@ -9,9 +9,9 @@ use lib.ListN.{length, set, drop, length-set}
 use lib.Seq.{set-append-left}
 use lib.Dec.{eqb, ltb, leb}
 use borrow.Author.Tests.{eq-eqb, ne-eqb, eqb-true, eqb-false, lt-ltb, ltb-true, ltb-false, leb-true, leb-false}
+use Rattle.answer.specs.Choice.{pick}
 use Rattle.text.specs.Writing.{joined}
 use Rattle.text.proofs.Joined.{joined-same, joined-first}
-use Rattle.mos.specs.Patterns.{pick}
 use Rattle.pergen.specs.Pergen.{cycle}
 use Rattle.mos_layers.specs.Layers.{layerSizes}
 use Rattle.layout.specs.declared.IsomorphicLayout.{IsomorphicLayout}

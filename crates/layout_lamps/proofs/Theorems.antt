@@ -7,8 +7,8 @@ use native.Mathlib.Nat.{one-mul, mul-le-mul}
 use native.Mathlib.Omega.{arith}
 use lib.Dec.{eqb, ltb}
 use borrow.Author.Tests.{eqb-true, leb-true, ltb-true}
+use Rattle.answer.specs.Choice.{pick}
 use Rattle.text.proofs.Joined.{length-joined-each}
-use Rattle.mos.specs.Patterns.{pick}
 use Rattle.layout.specs.declared.IsomorphicLayout.{IsomorphicLayout}
 use Rattle.layout.specs.Layouts.{Layout, Accepted}
 use Rattle.layout.proofs.Finding.{accepted}

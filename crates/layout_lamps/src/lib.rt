@@ -24,7 +24,7 @@ ghost use Rattle.layout_lamps.specs.Answers.{getStrip, getLamp};
 pub fn lamp_strip(layout: IsomorphicLayout, out: &mut [u8]) -> CountAnswer
     ensures { λ r. ⌜ Filled (inRoom (length (now (out .entry))) (getStrip layout)) (countOutcome r) (now (out .entry)) (now (out .exit)) ⌝ }
 {
-    match layout::parts::search(layout) {
+    match layout::parts::ask(layout) {
         FoundAnswer::Refused(q) => CountAnswer::Refused(q),
         FoundAnswer::Given(found) => {
             let plan = layout_layers::parts::plan_of(found);
@@ -41,7 +41,7 @@ pub fn lamp_strip(layout: IsomorphicLayout, out: &mut [u8]) -> CountAnswer
 pub fn strip_len(layout: IsomorphicLayout) -> CountAnswer
     ensures { λ r. ⌜ countOutcome r ≡ counted (getStrip layout) ⌝ }
 {
-    match layout::parts::search(layout) {
+    match layout::parts::ask(layout) {
         FoundAnswer::Refused(q) => CountAnswer::Refused(q),
         FoundAnswer::Given(found) => {
             let plan = layout_layers::parts::plan_of(found);
@@ -57,7 +57,7 @@ pub fn strip_len(layout: IsomorphicLayout) -> CountAnswer
 pub fn lamp(layout: IsomorphicLayout, key: u16) -> NumberAnswer
     ensures { λ r. ⌜ numberOutcome r ≡ getLamp layout key ⌝ }
 {
-    match layout::parts::search(layout) {
+    match layout::parts::ask(layout) {
         FoundAnswer::Refused(q) => NumberAnswer::Refused(q),
         FoundAnswer::Given(found) => {
             let plan = layout_layers::parts::plan_of(found);

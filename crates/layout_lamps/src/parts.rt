@@ -37,7 +37,7 @@ pub fn put_strip(out: &mut [u8], plan: Plan, total: u16)
 }
 
 // The strip at the front of a slice that holds it (10).
-pub fn write_strip(plan: Plan, total: u16, out: &mut [u8]) -> CountAnswer
+pub(crate) fn write_strip(plan: Plan, total: u16, out: &mut [u8]) -> CountAnswer
     requires { ⌜ Sound plan × (total ≡ totalOf plan) × (total ≤ 202) ⌝ }
     ensures { λ r. ⌜ Filled (heldIn (length (now (out .entry))) (planStrip plan total)) (countOutcome r) (now (out .entry)) (now (out .exit)) ⌝ }
 {

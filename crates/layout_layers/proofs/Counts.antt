@@ -7,8 +7,8 @@ use native.Mathlib.Nat.{mul-zero, mul-one, mul-suc, suc-mul, mul-assoc, mul-le-m
 use native.Mathlib.Decide.{decLt}
 use native.Mathlib.Omega.{arith}
 use lib.ListN.{length}
+use Rattle.answer.specs.Choice.{pick}
 use Rattle.mos.specs.declared.Mos.{Mos}
-use Rattle.mos.specs.Patterns.{pick}
 use Rattle.pergen.specs.Pergen.{cycles, reduced}
 use Rattle.pergen.specs.Spelling.{starsOf}
 use Rattle.pergen.proofs.Inverse.{period-is, cycles-positive}

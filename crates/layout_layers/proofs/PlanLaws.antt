@@ -8,9 +8,10 @@ use native.Mathlib.Omega.{arith}
 use lib.ListN.{length, getD}
 use lib.Dec.{eqb}
 use borrow.Author.Tests.{eq-eqb, ne-eqb, lt-ltb, le-ltb}
+use Rattle.answer.specs.Choice.{pick}
 use Rattle.text.specs.Writing.{joined}
 use Rattle.text.proofs.Joined.{joined-same}
-use Rattle.mos.specs.Patterns.{pick, primaries, secondaries, primary, secondary, isPattern, cyclesOf}
+use Rattle.mos.specs.Patterns.{primaries, secondaries, primary, secondary, isPattern, cyclesOf}
 use Rattle.mos.proofs.Sizes.{fits-pattern}
 use Rattle.math.specs.Gcd.{gcdOrOne}
 use Rattle.pergen.specs.Pergen.{reduced, degree, cycle}

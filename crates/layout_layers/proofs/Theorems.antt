@@ -7,13 +7,14 @@ use mathlib.Core.List.{List, [], _∷_, _++_, reverse}
 use native.Mathlib.Nat.{mod-lt, mod-eq-of-lt, add-mod-mod, add-mod-right, add-zero, zero-div, zero-mod, zero-add, mul-zero, zero-mul, one-mul, div-add-mod', div-lt-iff-lt-mul, mul-le-mul-right, le-div-iff-mul-le, le-of-dvd, dvd-refl, dvd-antisymm, add-mul, mul-assoc, mul-comm, mul-div-cancel, add-mul-div-right, add-mul-mod-self-right, add-mul-mod-self-left}
 use native.Mathlib.Omega.{arith}
 use lib.ListN.{length, getD, replicate, length-replicate, getD-replicate, List·getD-append}
+use Rattle.answer.specs.Choice.{pick}
 use Rattle.text.proofs.Joined.{length-joined-each}
 use lib.Dec.{eqb}
 use borrow.Author.Tests.{eqb-true}
 use Rattle.math.specs.Gcd.{gcdOrOne}
 use Rattle.math.proofs.Gcd.{gcd-is, gcd-positive, gcd-or-one, gcd-or-one-positive, gcd-or-one-left, gcd-or-one-right}
 use Rattle.mos.specs.declared.Mos.{Mos}
-use Rattle.mos.specs.Patterns.{pick, primaries, secondaries, primary, secondary, countOf, sizeOf, cyclesOf, reducedSizeOf}
+use Rattle.mos.specs.Patterns.{primaries, secondaries, primary, secondary, countOf, sizeOf, cyclesOf, reducedSizeOf}
 use Rattle.pergen.specs.Pergen.{cycles, reduced, degree, cycle, inverse}
 use Rattle.pergen.proofs.Inverse.{period-is, cycles-positive, reduced-positive}
 use Rattle.pergen.proofs.Keys.{cycle-below, degree-and-cycle-tell-keys-apart}

@@ -5,9 +5,10 @@ use mathlib.Core.Bool.{Bool}
 use mathlib.Core.List.{List, [], _∷_}
 use lib.ListN.{length, getD}
 use lib.Dec.{eqb, ltb}
+use Rattle.answer.specs.Choice.{pick}
 use Rattle.text.specs.Writing.{joined}
 use Rattle.mos.specs.declared.Mos.{Mos}
-use Rattle.mos.specs.Patterns.{pick, primary, secondary, secondaries}
+use Rattle.mos.specs.Patterns.{primary, secondary, secondaries}
 use Rattle.pergen.specs.Pergen.{cycles, reduced, degree, cycle}
 use Rattle.mos_layers.specs.Layers.{layerSizes, layersOf}
 use Rattle.layout.specs.Layouts.{Layout}

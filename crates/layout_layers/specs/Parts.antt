@@ -3,8 +3,9 @@ use Prim.Native.Nat.{ℕ, _+_, _*_, _-_, _/_, _%_, _≤_, _<_}
 use mathlib.Core.Path.{_≡_}
 use mathlib.Core.List.{List, [], _∷_, _++_}
 use lib.ListN.{length, getD, drop}
+use Rattle.answer.specs.Choice.{pick}
 use Rattle.text.specs.Writing.{joined}
-use Rattle.mos.specs.Patterns.{pick, primaries, secondaries, primary, secondary, cyclesOf}
+use Rattle.mos.specs.Patterns.{primaries, secondaries, primary, secondary, cyclesOf}
 use Rattle.pergen.specs.Pergen.{inverse}
 use Rattle.mos_layers.specs.declared.Runs.{Runs}
 use Rattle.mos_layers.specs.Layers.{allSizes, dropEmpty, numbered}

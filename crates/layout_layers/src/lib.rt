@@ -33,7 +33,7 @@ pub enum Layer {
 pub fn get_layers(layout: IsomorphicLayout, out: &mut [u16]) -> CountAnswer
     ensures { λ r. ⌜ Filled (inRoom (length (now (out .entry))) (getLayers layout)) (countOutcome r) (now (out .entry)) (now (out .exit)) ⌝ }
 {
-    match layout::parts::search(layout) {
+    match layout::parts::ask(layout) {
         FoundAnswer::Refused(q) => CountAnswer::Refused(q),
         FoundAnswer::Given(found) => parts::write_layers(parts::plan_of(found), out),
     }
@@ -43,7 +43,7 @@ pub fn get_layers(layout: IsomorphicLayout, out: &mut [u16]) -> CountAnswer
 pub fn layers_len(layout: IsomorphicLayout) -> CountAnswer
     ensures { λ r. ⌜ countOutcome r ≡ counted (getLayers layout) ⌝ }
 {
-    match layout::parts::search(layout) {
+    match layout::parts::ask(layout) {
         FoundAnswer::Refused(q) => CountAnswer::Refused(q),
         FoundAnswer::Given(found) => CountAnswer::Given(parts::entries(parts::plan_of(found))),
     }
@@ -53,7 +53,7 @@ pub fn layers_len(layout: IsomorphicLayout) -> CountAnswer
 pub fn layer_count(layout: IsomorphicLayout) -> NumberAnswer
     ensures { λ r. ⌜ numberOutcome r ≡ getLayerCount layout ⌝ }
 {
-    match layout::parts::search(layout) {
+    match layout::parts::ask(layout) {
         FoundAnswer::Refused(q) => NumberAnswer::Refused(q),
         FoundAnswer::Given(found) => NumberAnswer::Given(parts::total_of(parts::plan_of(found))),
     }
@@ -63,7 +63,7 @@ pub fn layer_count(layout: IsomorphicLayout) -> NumberAnswer
 pub fn get_layer(layout: IsomorphicLayout, key: u16) -> NumberAnswer
     ensures { λ r. ⌜ numberOutcome r ≡ getLayer layout key ⌝ }
 {
-    match layout::parts::search(layout) {
+    match layout::parts::ask(layout) {
         FoundAnswer::Refused(q) => NumberAnswer::Refused(q),
         FoundAnswer::Given(found) => {
             let solved = euclid::solve(found.octave, found.generator);

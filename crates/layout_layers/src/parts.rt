@@ -300,7 +300,7 @@ fn put_alternating(out: &mut [u16], plan: Plan, turns: u32)
 }
 
 // All entries at the front of a slice that holds them (10).
-pub fn write_layers(plan: Plan, out: &mut [u16]) -> CountAnswer
+pub(crate) fn write_layers(plan: Plan, out: &mut [u16]) -> CountAnswer
     requires { ⌜ Sound plan ⌝ }
     ensures { λ r. ⌜ Filled (heldIn (length (now (out .entry))) (planLayers plan)) (countOutcome r) (now (out .entry)) (now (out .exit)) ⌝ }
 {

@@ -35,7 +35,7 @@ fn place_of(code: u16, pattern: Mos) -> u16
 pub fn scale_name_len(layout: IsomorphicLayout) -> CountAnswer
     ensures { λ r. ⌜ countOutcome r ≡ counted (getScaleName layout) ⌝ }
 {
-    match layout::parts::search(layout) {
+    match layout::parts::ask(layout) {
         FoundAnswer::Refused(q) => CountAnswer::Refused(q),
         FoundAnswer::Given(found) => {
             CountAnswer::Given(texts::text_len(place_of(found.chain, found.pattern)))
@@ -47,7 +47,7 @@ pub fn scale_name_len(layout: IsomorphicLayout) -> CountAnswer
 pub fn get_scale_name(layout: IsomorphicLayout, out: &mut [u8]) -> CountAnswer
     ensures { λ r. ⌜ Filled (inRoom (length (now (out .entry))) (getScaleName layout)) (countOutcome r) (now (out .entry)) (now (out .exit)) ⌝ }
 {
-    match layout::parts::search(layout) {
+    match layout::parts::ask(layout) {
         FoundAnswer::Refused(q) => CountAnswer::Refused(q),
         FoundAnswer::Given(found) => texts::fill(place_of(found.chain, found.pattern), out),
     }

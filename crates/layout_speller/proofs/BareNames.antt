@@ -9,15 +9,15 @@ use lib.ListN.{length, replicate, length-append, length-replicate}
 use borrow.Author.Tests.{lt-ltb, le-ltb, ltb-true, ltb-false}
 use native.Mathlib.Nat.{mod-eq-sub-mod, mod-eq-of-lt, mod-lt}
 use native.Mathlib.Omega.{arith}
+use Rattle.answer.specs.Choice.{pick}
 use Rattle.text.specs.Writing.{joined}
 use Rattle.text.proofs.Joined.{joined-blocks}
 use Rattle.genchain.specs.Chains.{lettersIn}
-use Rattle.notes.specs.Names.{letterAlone, printed, pickSpellings, inOrder, spellingText, spellingsText, nameText}
+use Rattle.notes.specs.Names.{letterAlone, printed, inOrder, spellingText, spellingsText, nameText}
 use Rattle.pergen.specs.declared.Accidentals.{Accidentals}
 use Rattle.pergen.specs.declared.Cycle.{Cycle}
 use Rattle.pergen.specs.declared.Cycle.the-variants.{Absent, Number}
 use Rattle.pergen.specs.declared.Spelling.{Spelling}
-use Rattle.pergen.specs.Pergen.{pickCycle}
 use Rattle.pergen.specs.Spelling.{starsOf, sharpSpelling, flatSpelling, sharpCoordinate, flatCoordinate, byCoordinates}
 use Rattle.pergen.proofs.Indices.{flat-inside, flat-past, accidentals-high}
 use Rattle.layout_speller.specs.Parts.{cycleAt, spelledAt, nameOf, firstStep, bareName, flatBeside, placeAt, bareAt, Sound}
@@ -32,8 +32,8 @@ use Rattle.layout_speller.proofs.Rounds.{length-joined-sum, stars-below
 abbrev tested : Cycle → ℕ → ℕ → ℕ → Bool → Bool → Bool → Bool → List Spelling
 tested c N sharp flat x y z w =
     let a = byCoordinates c N sharp flat in
-    pickSpellings x (sharpSpelling a ∷ [])
-    (pickSpellings y (sharpSpelling a ∷ []) (pickSpellings z (flatSpelling a ∷ []) (inOrder w (sharpSpelling a) (flatSpelling a))))
+    pick x (sharpSpelling a ∷ [])
+    (pick y (sharpSpelling a ∷ []) (pick z (flatSpelling a ∷ []) (inOrder w (sharpSpelling a) (flatSpelling a))))
 
 module _ (letters : List ℕ) (sf : Bool) (N sharp flat : ℕ) where
   -- parentheses do not go by the number
@@ -75,7 +75,7 @@ pub no-stars : (n : ℕ) → starsOf (cycleAt n 0) ≡ 0
 unfolding cycleAt
 no-stars n = by (ltb 1 n)
   where
-    by : (b : Bool) → starsOf (pickCycle b (Number 0) Absent) ≡ 0
+    by : (b : Bool) → starsOf (pick b (Number 0) Absent) ≡ 0
     by true = refl
     by false = refl
 

@@ -8,9 +8,10 @@ use mathlib.Core.List.{List, [], _∷_, _++_}
 use lib.Dec.{ltb}
 use borrow.Author.Tests.{lt-ltb, le-ltb}
 use lib.ListN.{length, replicate, length-append}
+use Rattle.answer.specs.Choice.{pick}
 use Rattle.genchain.specs.Chains.{lettersIn}
 use Rattle.genchain.proofs.TableRows.{row-good, row-count}
-use Rattle.notes.specs.Names.{pickText, letterText, letterAt, signsText, spellingText, inParentheses, spellingsText, printed, nameText}
+use Rattle.notes.specs.Names.{letterText, letterAt, signsText, spellingText, inParentheses, spellingsText, printed, nameText}
 use Rattle.notes.specs.Parts.{planText, Planned}
 use Rattle.notes.specs.declared.plans.NamePlan.{NamePlan}
 use Rattle.notes.proofs.Printing.{Printed, one, two, printed-view}
@@ -20,7 +21,6 @@ use Rattle.pergen.specs.declared.Cycle.{Cycle}
 use Rattle.pergen.specs.declared.Cycle.the-variants.{Absent, Number}
 use Rattle.pergen.specs.declared.Spelling.{Spelling}
 use Rattle.pergen.specs.declared.stepping.Step.{Step}
-use Rattle.pergen.specs.Pergen.{pickCycle}
 use Rattle.pergen.specs.Spelling.{starsOf, sharpCoordinate, flatCoordinate, byCoordinates, accidentalsOf}
 use Rattle.pergen.specs.Parts.{At}
 use Rattle.pergen.proofs.CarriedWalk.{at-degree-below, at-cycle-below}
@@ -53,7 +53,7 @@ letter-some : (c : ℕ) → 1 ≤ length (letterText c)
 unfolding letterText
 letter-some c = by (ltb c 128)
   where
-    by : (b : Bool) → 1 ≤ length (pickText b (c ∷ []) ((192 + c / 64) ∷ (128 + c % 64) ∷ []))
+    by : (b : Bool) → 1 ≤ length (pick b (c ∷ []) ((192 + c / 64) ∷ (128 + c % 64) ∷ []))
     by true = omega arith
     by false = omega arith
 
@@ -113,7 +113,7 @@ stars-at : (n c : ℕ) → starsOf (cycleAt n c) ≤ c
 unfolding cycleAt
 stars-at n c = by (ltb 1 n)
   where
-    by : (b : Bool) → starsOf (pickCycle b (Number c) Absent) ≤ c
+    by : (b : Bool) → starsOf (pick b (Number c) Absent) ≤ c
     by true = le-refl c
     by false = omega arith
 

@@ -8,8 +8,8 @@ use lib.Dec.{eqb}
 use borrow.Author.Tests.{eq-eqb, ne-eqb, eqb-true, eqb-false}
 use native.Mathlib.Nat.{eq-or-lt-of-le, mod-lt, mod-mod, mod-eq-of-lt, mul-assoc, mul-comm, mul-one, add-zero, zero-add, add-mul-mod-self-right, add-comm}
 use native.Mathlib.Omega.{arith}
+use Rattle.answer.specs.Choice.{pick}
 use Rattle.math.proofs.Congruence.{add-cong, mul-cong}
-use Rattle.pergen.specs.Spelling.{pickNumber}
 
 -- f 0 + .. + f (k − 1)
 unfoldable pub sum : (ℕ → ℕ) → ℕ → ℕ
@@ -41,7 +41,7 @@ sum-exchange f (suc m) k =
 
 -- one entry at e, and nothing elsewhere
 abbrev entry : ℕ → (ℕ → ℕ) → ℕ → ℕ
-entry e h i = pickNumber (eqb i e) (h i) 0
+entry e h i = pick (eqb i e) (h i) 0
 
 no-entry : (e : ℕ) (h : ℕ → ℕ) (k : ℕ) → k ≤ e → sum (entry e h) k ≡ 0
 unfolding sum
@@ -79,7 +79,7 @@ module _ (R : ℕ) (π σ : ℕ → ℕ) (w : Turned R π σ) (h : ℕ → ℕ) 
       ∙ sum-exchange (λ (t d : ℕ). entry (π t) h d) R R
       ∙ sum-same (λ (d : ℕ). sum (λ (t : ℕ). entry (π t) h d) R) h R
       (λ d l.
-      sum-same (λ (t : ℕ). entry (π t) h d) (entry (σ d) (λ (t : ℕ). h d)) R (λ t k. ap (λ (b : Bool). pickNumber b (h d) 0) (same-entry t d k l))
+      sum-same (λ (t : ℕ). entry (π t) h d) (entry (σ d) (λ (t : ℕ). h d)) R (λ t k. ap (λ (b : Bool). pick b (h d) 0) (same-entry t d k l))
       ∙ one-entry (σ d) (λ (t : ℕ). h d) R (w .back d l))
 
 -- ---- turning by x from a start, where x has a partner

@@ -4,6 +4,7 @@ use mathlib.Core.Path.{_≡_}
 use mathlib.Core.List.{List}
 use lib.Dec.{ltb}
 use lib.ListN.{length}
+use Rattle.answer.specs.Choice.{pick}
 use Rattle.text.specs.Writing.{joined}
 use Rattle.genchain.specs.Chains.{TableRow, lettersIn}
 use Rattle.genchain.specs.declared.rows.ChainRow.{ChainRow}
@@ -14,14 +15,13 @@ use Rattle.pergen.specs.declared.Accidentals.{Accidentals}
 use Rattle.pergen.specs.declared.Cycle.{Cycle}
 use Rattle.pergen.specs.declared.Cycle.the-variants.{Absent, Number}
 use Rattle.pergen.specs.declared.stepping.Step.{Step}
-use Rattle.pergen.specs.Pergen.{pickCycle}
-use Rattle.pergen.specs.Spelling.{pickNumber, byCoordinates, accidentalsOf}
+use Rattle.pergen.specs.Spelling.{byCoordinates, accidentalsOf}
 use Rattle.pergen.specs.Parts.{Walkable}
 use Rattle.layout_speller.specs.declared.speller.Speller.{Speller}
 
 -- "cycle i mod n, absent when n is 1"
 unfoldable pub cycleAt : ℕ → ℕ → Cycle
-cycleAt n c = pickCycle (ltb 1 n) (Number c) Absent
+cycleAt n c = pick (ltb 1 n) (Number c) Absent
 
 -- The spellings of a degree and a cycle.
 unfoldable pub spelledAt : Speller → Step → Accidentals
@@ -54,7 +54,7 @@ bareName s degree = nameText (lettersIn (s .row)) (s .«sharp_first») (spelledA
 
 -- The flat coordinate that goes with a sharp coordinate: "(N − 1 − d) mod R" where the sharp coordinate is d mod R.
 unfoldable pub flatBeside : ℕ → ℕ → ℕ → ℕ
-flatBeside R N sharp = pickNumber (ltb sharp N) (N - 1 - sharp) (R + (N - 1) - sharp)
+flatBeside R N sharp = pick (ltb sharp N) (N - 1 - sharp) (R + (N - 1) - sharp)
 
 -- The spellings of the degree with a sharp coordinate, in cycle 0: places along the chain, from the first letter on.
 unfoldable pub placeAt : Speller → ℕ → Accidentals

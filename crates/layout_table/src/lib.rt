@@ -22,7 +22,7 @@ pub fn table_len(layout: IsomorphicLayout) -> CountAnswer
     ensures { λ r. ⌜ countOutcome r ≡ counted (getTable layout) ⌝ }
 {
     let row = rows::row(layout.genchain);
-    match parts::ask(layout, row) {
+    match parts::ask_for_lamps(layout, row) {
         FoundAnswer::Refused(q) => CountAnswer::Refused(q),
         FoundAnswer::Given(found) => CountAnswer::Given(parts::table_length(row, found)),
     }
@@ -33,7 +33,7 @@ pub fn write_table(layout: IsomorphicLayout, out: &mut [u8]) -> CountAnswer
     ensures { λ r. ⌜ Filled (inRoom (length (now (out .entry))) (getTable layout)) (countOutcome r) (now (out .entry)) (now (out .exit)) ⌝ }
 {
     let row = rows::row(layout.genchain);
-    match parts::ask(layout, row) {
+    match parts::ask_for_lamps(layout, row) {
         FoundAnswer::Refused(q) => CountAnswer::Refused(q),
         FoundAnswer::Given(found) => parts::print_table(row, found, out),
     }
@@ -53,7 +53,7 @@ pub fn respond(line: &[u8], out: &mut [u8]) -> CountAnswer
                 tritave: asked.tritave,
             };
             let row = rows::row(asked.genchain);
-            match parts::ask(layout, row) {
+            match parts::ask_for_lamps(layout, row) {
                 FoundAnswer::Refused(q) => parts::write_refusal(q.number() as u16, out),
                 FoundAnswer::Given(found) => parts::print_table(row, found, out),
             }

@@ -1,4 +1,4 @@
-// How a table is written: parts, and no entry points. `ask` asks questions 1 to 4 and 9; 10 is asked before a byte is written.
+// How a table is written: parts, and no entry points. `ask_for_lamps` asks questions 1 to 4 and 9; 10 is asked before a byte is written.
 //
 // Row, pergen and lamps are read and solved once for all keys; degree and cycle are carried from key to key.
 use answer::CountAnswer;
@@ -28,11 +28,11 @@ ghost use Rattle.layout_speller.specs.Parts.{Sound};
 ghost use Rattle.layout_table.specs.Parts.{Asked, Printable, LampsIn, numbersLine, lineOf};
 
 // Questions 1 to 4 and 9, of a layout whose chain has this row.
-pub(crate) fn ask(layout: IsomorphicLayout, row: ChainRow) -> FoundAnswer
+pub(crate) fn ask_for_lamps(layout: IsomorphicLayout, row: ChainRow) -> FoundAnswer
     requires { ⌜ row ≡ rowOf (chainOf (layout .genchain)) ⌝ }
     ensures { λ r. ⌜ Asked layout r ⌝ }
 {
-    match layout::parts::find(layout, row) {
+    match layout::parts::ask_with_row(layout, row) {
         FoundAnswer::Refused(q) => FoundAnswer::Refused(q),
         FoundAnswer::Given(found) => {
             let plan = layout_layers::parts::plan_of(found);

@@ -11,11 +11,12 @@ use lib.Seq.{take-all, take-nil, getD-take, drop-append-le, getD-append-seam}
 use lib.Dec.{leb, eqb}
 use borrow.Author.Tests.{leb-true, leb-false, eqb-true}
 use Rattle.answer.proofs.Asked.{and-left, and-right}
-use Rattle.text.specs.Decimal.{isDigit, leading, value, digitsAt, valueAt, endAt, pickReading}
+use Rattle.answer.specs.Choice.{pick}
+use Rattle.text.specs.Decimal.{isDigit, leading, value, digitsAt, valueAt, endAt}
 use Rattle.line.specs.Lines.{isField, fieldAt, space, lineFeed, lineOutcome}
 use Rattle.line.specs.Theorems.{LaterBytesIgnored}
 use Rattle.text.specs.declared.decimal.Reading.{Reading}
-use Rattle.text.specs.declared.decimal.Reading.the-variants.{Number}
+use Rattle.text.specs.declared.decimal.Reading.the-variants.{Number, Nothing}
 use Rattle.text.proofs.Digits.{leading-digit, leading-other, leading-none}
 use Rattle.text.proofs.Numbers.{length-is, digits-above}
 use Rattle.line.proofs.Fields.{no-number}
@@ -25,7 +26,7 @@ use Rattle.line.proofs.WholeLine.{field-is, same-outcome}
 
 abbrev readingOf : List ℕ → ℕ → ℕ → ℕ → Reading
 readingOf text at byte behind =
-    pickReading (leb 1 (length text) && leb (length text) 5 && leb (value text) 65535 && eqb byte behind) (Number (value text) (at + length text + 1))
+    pick (leb 1 (length text) && leb (length text) 5 && leb (value text) 65535 && eqb byte behind) (Number (value text) (at + length text + 1)) Nothing
 
 reading-is : (line : List ℕ) (at behind : ℕ) → fieldAt line at behind ≡ readingOf (digitsAt line at) at (getD line (at + length (digitsAt line at)) 0) behind
 unfolding fieldAt

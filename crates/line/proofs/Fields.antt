@@ -7,7 +7,8 @@ use mathlib.Core.List.{List}
 use lib.ListN.{length, getD, List·getD-eq-default}
 use lib.Dec.{eqb}
 use borrow.Author.Tests.{eq-eqb, ne-eqb}
-use Rattle.text.specs.Decimal.{valueAt, endAt, isNumber, numberAt, pickReading}
+use Rattle.answer.specs.Choice.{pick}
+use Rattle.text.specs.Decimal.{valueAt, endAt, isNumber, numberAt}
 use Rattle.text.specs.declared.decimal.Reading.the-variants.{Number, Nothing}
 use Rattle.text.proofs.Numbers.{Picked, picked, picked-none}
 use Rattle.line.specs.Lines.{isField, fieldAt}
@@ -19,7 +20,7 @@ module _ (line : List ℕ) (at behind : ℕ) where
 
   no-field : isField line at behind ≡ false → Nothing ≡ fieldAt line at behind
   unfolding fieldAt
-  no-field e = sym (ap (λ (test : Bool). pickReading test (Number (valueAt line at) (endAt line at + 1))) e)
+  no-field e = sym (ap (λ (test : Bool). pick test (Number (valueAt line at) (endAt line at + 1)) Nothing) e)
 
   -- a number, and the byte
   pub is-field : isNumber line at ≡ true → getD line (endAt line at) 0 ≡ behind → isField line at behind ≡ true
@@ -27,7 +28,7 @@ module _ (line : List ℕ) (at behind : ℕ) where
 
   pub a-field : isField line at behind ≡ true → Number (valueAt line at) (endAt line at + 1) ≡ fieldAt line at behind
   unfolding fieldAt
-  a-field e = sym (ap (λ (test : Bool). pickReading test (Number (valueAt line at) (endAt line at + 1))) e)
+  a-field e = sym (ap (λ (test : Bool). pick test (Number (valueAt line at) (endAt line at + 1)) Nothing) e)
 
   pub no-number : isNumber line at ≡ false → Nothing ≡ fieldAt line at behind
   no-number e = no-field (both-tests ∙ simp e)

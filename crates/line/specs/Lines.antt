@@ -7,12 +7,13 @@ use lib.ListN.{getD}
 use lib.Dec.{leb, eqb}
 use Rattle.answer.specs.Outcome.{Outcome, given, refused, ask}
 use Rattle.answer.specs.Refusals.{numberOf}
-use Rattle.text.specs.Decimal.{digits, valueAt, endAt, isNumber, pickReading}
+use Rattle.answer.specs.Choice.{pick}
+use Rattle.text.specs.Decimal.{digits, valueAt, endAt, isNumber}
 use Rattle.line.specs.declared.Line.{Line}
 use Rattle.line.specs.declared.LineAnswer.{LineAnswer}
 use Rattle.line.specs.declared.LineAnswer.the-variants as LineAnswer
 use Rattle.text.specs.declared.decimal.Reading.{Reading}
-use Rattle.text.specs.declared.decimal.Reading.the-variants.{Number}
+use Rattle.text.specs.declared.decimal.Reading.the-variants.{Number, Nothing}
 
 -- ---- one number
 
@@ -71,4 +72,4 @@ lineText genchain octave tritave =
 -- A number, and the place after the byte behind it.
 unfoldable pub fieldAt : List ℕ → ℕ → ℕ → Reading
 unfolding isField valueAt endAt
-fieldAt line at behind = pickReading (isField line at behind) (Number (valueAt line at) (endAt line at + 1))
+fieldAt line at behind = pick (isField line at behind) (Number (valueAt line at) (endAt line at + 1)) Nothing

@@ -7,8 +7,9 @@ use native.Mathlib.Nat.{pos-of-ne-zero, le-of-lt, mul-le-mul-left, mul-sub, add-
 use native.Mathlib.Omega.{arith}
 use lib.Dec.{eqb, ltb}
 use borrow.Author.Tests.{ltb-true, ltb-false, eqb-true, eqb-false, lt-ltb, le-ltb, eq-eqb, ne-eqb}
+use Rattle.answer.specs.Choice.{pick}
 use Rattle.mos.specs.declared.Mos.{Mos}
-use Rattle.mos.specs.Patterns.{pick, mos, primaries, secondaries, primary, secondary, countOf, stepsOf, sizeOf, isPattern, childOf, dualOf, parentOf}
+use Rattle.mos.specs.Patterns.{mos, primaries, secondaries, primary, secondary, countOf, stepsOf, sizeOf, isPattern, childOf, dualOf, parentOf}
 use Rattle.mos.specs.Parts.{isSome}
 use Rattle.mos.proofs.Sizes.{pattern-same, pattern-fits, counts-fit, dual-size}
 

@@ -7,9 +7,9 @@ use native.Mathlib.Nat.{dvd-sub, dvd-one, div-lt-self, div-le-self, max-eq-right
 use native.Mathlib.Omega.{arith}
 use lib.Dec.{eqb, leb}
 use borrow.Author.Tests.{eq-eqb, ne-eqb, eqb-true, eqb-false, leb-true, leb-false, le-leb, lt-leb}
+use Rattle.answer.specs.Choice.{pick}
 use Rattle.math.specs.Gcd.{gcdOrOne}
 use Rattle.math.proofs.Gcd.{gcd-zero, gcd-or-one-positive, gcd-or-one-left, gcd-or-one-right}
-use Rattle.mos.specs.Patterns.{pick}
 use Rattle.mos.specs.Coprime.{distance, pass, passes, coprimeStep}
 
 -- ---- one pass, by what the code tests

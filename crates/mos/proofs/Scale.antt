@@ -12,9 +12,10 @@ use lib.Arith.{digits-div, digits-mod}
 use lib.ListN.{getElem?}
 use lib.Dec.{ltb}
 use borrow.Author.Tests.{ltb-true, ltb-false}
+use Rattle.answer.specs.Choice.{pick}
 use Rattle.math.proofs.Congruence.{of-cong, add-cong, add-cancel, mul-cong}
 use Rattle.mos.specs.declared.Mos.{Mos}
-use Rattle.mos.specs.Patterns.{pick, primaries, secondaries, primary, secondary, countOf, sizeOf, genesis}
+use Rattle.mos.specs.Patterns.{primaries, secondaries, primary, secondary, countOf, sizeOf, genesis}
 use Rattle.mos.specs.Walks.{children}
 use Rattle.mos.specs.Scale.{keyOf, above, stepAbove, placeAbove, interval, round, climbed, MomentOfSymmetry, InOrderOfPitch, PatternIsScale}
 use Rattle.mos.proofs.Descent.{Child, longer-primary, longer-secondary, child-at, child-keeps-size}

@@ -2,9 +2,10 @@
 use Prim.Native.Nat.{ℕ, zero, suc, _+_, _-_, _/_, max}
 use mathlib.Core.Bool.{true, false}
 use lib.Dec.{leb}
+use Rattle.answer.specs.Choice.{pick}
 use Rattle.math.specs.Gcd.{gcdOrOne}
 use Rattle.mos.specs.declared.Mos.{Mos}
-use Rattle.mos.specs.Patterns.{pick, mos, primaries, secondaries, primary, secondary}
+use Rattle.mos.specs.Patterns.{mos, primaries, secondaries, primary, secondary}
 
 -- The difference of two steps, whichever is longer.
 abbrev pub distance : ℕ → ℕ → ℕ

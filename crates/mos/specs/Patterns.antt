@@ -1,15 +1,12 @@
 -- Step patterns (document 01, "Step patterns").
 use Prim.Native.Nat.{ℕ, _+_, _*_, _-_, _/_, _%_}
-use mathlib.Core.Bool.{Bool, true, false, _&&_}
+use mathlib.Core.Bool.{Bool, _&&_}
 use mathlib.Core.Option.{Option, none, some, Option·map}
 use lib.Dec.{eqb, ltb, leb}
 use lib.IntN.{ℤ, pos, _+ℤ_, _-ℤ_, _*ℤ_}
+use Rattle.answer.specs.Choice.{pick}
 use Rattle.math.specs.Gcd.{gcdOrOne}
 use Rattle.mos.specs.declared.Mos.{Mos}
-
-abbrev pub pick : {A : Type 0} → Bool → A → A → A
-pick true x y = x
-pick false x y = y
 
 -- "A pattern has primary and secondary counts and steps": the counts a and b, the steps p and s.
 abbrev pub mos : (a b p s : ℕ) → Mos

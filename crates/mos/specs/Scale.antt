@@ -4,8 +4,9 @@ use mathlib.Core.Path.{_≡_}
 use mathlib.Core.Option.{some}
 use lib.Dec.{ltb}
 use lib.ListN.{getElem?}
+use Rattle.answer.specs.Choice.{pick}
 use Rattle.mos.specs.declared.Mos.{Mos}
-use Rattle.mos.specs.Patterns.{pick, primaries, secondaries, primary, secondary, countOf, genesis}
+use Rattle.mos.specs.Patterns.{primaries, secondaries, primary, secondary, countOf, genesis}
 use Rattle.mos.specs.Walks.{children}
 
 -- The chain of notes: place k lies k generators G up, brought back into the period P.

@@ -9,8 +9,8 @@ use native.Mathlib.Omega.{arith}
 use lib.ListN.{replicate}
 use lib.Dec.{eqb, leb}
 use borrow.Author.Tests.{eq-eqb, ne-eqb, eqb-true, eqb-false, leb-true, leb-false}
+use Rattle.answer.specs.Choice.{pick}
 use Rattle.text.specs.Writing.{joined}
-use Rattle.mos.specs.Patterns.{pick}
 use Rattle.mos_layers.specs.Layers.{holding, sharps, allSizes}
 use Rattle.mos_layers.specs.Theorems.{sum}
 use Rattle.mos_layers.specs.Parts.{runAt}

@@ -1,7 +1,7 @@
 -- Listing a walk in runs: what is listed and what is still to come make up the whole walk, pattern after pattern.
-use Prim.Native.Nat.{ℕ, _≤_, _<_}
+use Prim.Native.Nat.{ℕ, _≤_}
 use mathlib.Core.Path.{_≡_, refl, sym, ap, _∙_}
-use mathlib.Core.Option.{Option, none, some}
+use mathlib.Core.Option.{Option, none, some, Option·map}
 use mathlib.Core.Bool.{Bool, true, false, _&&_}
 use mathlib.Core.List.{List, [], _∷_, _++_, append-assoc, append-nil}
 use native.Mathlib.Nat.{le-refl}
@@ -10,25 +10,34 @@ use lib.ListN.{length, length-append}
 use Rattle.text.specs.Writing.{Room, Wrote}
 use Rattle.text.proofs.Writing.{then, wrote-as, wrote-none, wrote-length}
 use Rattle.mos.specs.declared.Mos.{Mos}
-use Rattle.mos.specs.Patterns.{isPattern}
-use Rattle.mos.specs.Walks.{onward, fields, listed}
-use Rattle.mos_listings.specs.Parts.{Listing}
+use Rattle.mos.specs.Patterns.{isPattern, childOf, dualOf, parentOf}
+use Rattle.mos.specs.Walks.{onward, parents, fields, listed}
+use Rattle.mos_listings.specs.Parts.{Listing, dualParents}
+use Rattle.mos.proofs.Descent.{child-at, child-falls, child-keeps-pattern}
+use Rattle.mos.proofs.Sequences.{parents-follow}
 
 -- a run's test tells that there is a next pattern
 pub both-left : (x y : Bool) {test : Bool} → test ≡ (x && y) → test ≡ true → x ≡ true
 both-left true y e f = refl
 both-left false y e f = absurd (let z : _≡_ {A = ℕ} 0 1 = cc in omega arith)
 
--- any walk that follows the next pattern, with what each next pattern keeps and the number that falls
-module _ (next : Mos → Option Mos) (walk : Mos → List Mos) (left : Mos → ℕ) (follow : (m : Mos) → walk m ≡ m ∷ onward (next m) walk)
-    (keeps : (m c : Mos) → next m ≡ some c → isPattern m ≡ true → isPattern c ≡ true)
-    (lessens : (m c : Mos) → next m ≡ some c → left c < left m) where
-  pub listing-start : (m : Mos) (xs : List ℕ) (at : ℕ) → isPattern m ≡ true → Listing walk left m xs at m xs at
+-- the walk of parents goes on with the child of the dual
+pub dual-follow : (d : Mos) → dualParents d ≡ dualOf d ∷ onward (childOf d) dualParents
+unfolding parentOf
+dual-follow d = parents-follow (dualOf d) ∙ ap (λ (rest : List Mos). dualOf d ∷ rest) (go (childOf d))
+  where
+    go : (o : Option Mos) → onward (Option·map dualOf o) parents ≡ onward o dualParents
+    go none = refl
+    go (some c) = refl
+
+-- any walk that goes on with the child, with what it shows of each pattern: the pattern, or its dual
+module _ (walk : Mos → List Mos) (shown : Mos → Mos) (follow : (m : Mos) → walk m ≡ shown m ∷ onward (childOf m) walk) where
+  pub listing-start : (m : Mos) (xs : List ℕ) (at : ℕ) → isPattern m ≡ true → Listing walk m xs at m xs at
   listing-start m xs at p = record { part = []; wrote = wrote-none xs at; whole = refl; pattern = p; falls = le-refl _ }
 
-  module _ (m : Mos) {xs ys : List ℕ} {at place : ℕ} (q : Mos) (l : Listing walk left m xs at q ys place) where
+  module _ (m : Mos) {xs ys : List ℕ} {at place : ℕ} (q : Mos) (l : Listing walk m xs at q ys place) where
     -- room for the next pattern, where there is room for the whole walk
-    pub listing-room : Room xs at (listed (walk m)) → Room ys place (fields q)
+    pub listing-room : Room xs at (listed (walk m)) → Room ys place (fields (shown q))
     listing-room r =
         omega (
           arith,
@@ -37,28 +46,28 @@ module _ (next : Mos → Option Mos) (walk : Mos → List Mos) (left : Mos → �
           ap length (l .whole),
           length-append (l .part) (listed (walk q)),
           ap (λ (ms : List Mos). length (listed ms)) (follow q),
-          length-append (fields q) (listed (onward (next q) walk)),
+          length-append (fields (shown q)) (listed (onward (childOf q) walk)),
         )
 
     -- one pattern more
-    pub listing-more : (c : Mos) → next q ≡ some c → {zs : List ℕ} {end : ℕ} → Wrote ys place (fields q) zs end → Listing walk left m xs at c zs end
+    pub listing-more : (c : Mos) → childOf q ≡ some c → {zs : List ℕ} {end : ℕ} → Wrote ys place (fields (shown q)) zs end → Listing walk m xs at c zs end
     listing-more c e w = record {
-      part = l .part ++ fields q;
+      part = l .part ++ fields (shown q);
       wrote = then (l .wrote) w;
       whole =
-          append-assoc (l .part) (fields q) (listed (walk c))
+          append-assoc (l .part) (fields (shown q)) (listed (walk c))
           ∙ ap (λ (rest : List ℕ). l .part ++ rest)
-          (sym (ap listed (follow q ∙ ap (λ (o : Option Mos). q ∷ onward o walk) e)))
+          (sym (ap listed (follow q ∙ ap (λ (o : Option Mos). shown q ∷ onward o walk) e)))
           ∙ l .whole;
-      pattern = keeps q c e (l .pattern);
-      falls = omega (arith, l .falls, lessens q c e);
+      pattern = child-keeps-pattern (child-at e) (l .pattern);
+      falls = omega (arith, l .falls, child-falls (child-at e));
     }
 
     -- the last pattern
-    pub listing-end : next q ≡ none → {zs : List ℕ} {end : ℕ} → Wrote ys place (fields q) zs end → Wrote xs at (listed (walk m)) zs end
+    pub listing-end : childOf q ≡ none → {zs : List ℕ} {end : ℕ} → Wrote ys place (fields (shown q)) zs end → Wrote xs at (listed (walk m)) zs end
     listing-end e w =
         wrote-as
-        (ap (λ (rest : List ℕ). l .part ++ rest) (sym (ap listed (follow q ∙ ap (λ (o : Option Mos). q ∷ onward o walk) e)))
+        (ap (λ (rest : List ℕ). l .part ++ rest) (sym (ap listed (follow q ∙ ap (λ (o : Option Mos). shown q ∷ onward o walk) e)))
         ∙ l .whole)
         (then (l .wrote) w)
 

@@ -7,22 +7,12 @@ ghost use mathlib.Core.Path.{_≡_};
 ghost use mathlib.Core.Bool.{true, _&&_};
 ghost use lib.ListN.{length};
 ghost use lib.Dec.{ltb, leb};
+ghost use Rattle.answer.specs.Choice.{pick};
 ghost use Rattle.text.specs.Writing.{Room, Wrote};
-ghost use Rattle.mos.specs.Patterns.{
-  pick,
-  primaries,
-  secondaries,
-  primary,
-  secondary,
-  countOf,
-  stepsOf,
-  isPattern,
-  childOf,
-  parentOf,
-};
+ghost use Rattle.mos.specs.Patterns.{primary, secondary, isPattern, childOf};
 ghost use Rattle.mos.specs.Parts.{isSome};
 ghost use Rattle.mos.specs.Walks.{children, parents, fields, listed};
-ghost use Rattle.mos_listings.specs.Parts.{Leaps, Listing};
+ghost use Rattle.mos_listings.specs.Parts.{Leaps, Listing, dualParents};
 
 // So many patterns further on the walk of children.
 struct Leap {
@@ -143,17 +133,10 @@ fn shortens(m: Mos, of_primary: bool) -> bool
     m.primary_step < m.secondary_step
 }
 
-// Is there a parent, and does it take from the primary count (else the secondary)?
-fn lessens(m: Mos, of_primary: bool) -> bool
-    ensures { λ r. ⌜ r ≡ (isSome (parentOf m) && pick «of_primary» (ltb (secondaries m) (primaries m)) (leb (primaries m) (secondaries m))) ⌝ }
-{
-    shortens(mos::parts::dual_of(m), of_primary)
-}
-
 // The patterns from m on whose children shorten the same step, from a place on.
 fn list_child_run(m: Mos, out: &mut [u16], at: usize) -> Reached
     requires { ⌜ (isPattern m ≡ true) × Room (now out) at (listed (children m)) ⌝ }
-    ensures { λ r. ⌜ Listing children stepsOf m (now (out .entry)) at (r .next) (now (out .exit)) (r .at) ⌝ }
+    ensures { λ r. ⌜ Listing children m (now (out .entry)) at (r .next) (now (out .exit)) (r .at) ⌝ }
 {
     let primary = m.secondary_step < m.primary_step;
     let mut next = m;
@@ -165,17 +148,18 @@ fn list_child_run(m: Mos, out: &mut [u16], at: usize) -> Reached
     Reached { next, at: place }
 }
 
-// The patterns from m on whose parents take from the same count, from a place on.
-fn list_parent_run(m: Mos, out: &mut [u16], at: usize) -> Reached
-    requires { ⌜ (isPattern m ≡ true) × Room (now out) at (listed (parents m)) ⌝ }
-    ensures { λ r. ⌜ Listing parents countOf m (now (out .entry)) at (r .next) (now (out .exit)) (r .at) ⌝ }
+// The patterns from one on whose parents take from the same count, from a place on. It is the dual that is walked: counts and
+// steps change places only as they are written.
+fn list_parent_run(dual: Mos, out: &mut [u16], at: usize) -> Reached
+    requires { ⌜ (isPattern «dual» ≡ true) × Room (now out) at (listed (dualParents «dual»)) ⌝ }
+    ensures { λ r. ⌜ Listing dualParents «dual» (now (out .entry)) at (r .next) (now (out .exit)) (r .at) ⌝ }
 {
-    let primary = m.num_secondary_steps < m.num_primary_steps;
-    let mut next = m;
+    let primary = dual.secondary_step < dual.primary_step;
+    let mut next = dual;
     let mut place = at;
-    while lessens(next, primary) {
-        place = put_pattern(next, out, place);
-        next = mos::parts::parent_of(next);
+    while shortens(next, primary) {
+        place = put_pattern(mos::parts::dual_of(next), out, place);
+        next = mos::parts::child_of(next);
     }
     Reached { next, at: place }
 }
@@ -195,16 +179,24 @@ pub(crate) fn list_children(m: Mos, out: &mut [u16], at: usize) -> usize
     after
 }
 
-// The walk of parents from a place on, in the same way.
+// The walk of parents from a place on, in the same way, given the dual of its first pattern.
+fn list_dual_parents(dual: Mos, out: &mut [u16], at: usize) -> usize
+    requires { ⌜ (isPattern «dual» ≡ true) × Room (now out) at (listed (dualParents «dual»)) ⌝ }
+    ensures { λ r. ⌜ Wrote (now (out .entry)) at (listed (dualParents «dual»)) (now (out .exit)) r ⌝ }
+{
+    let run = list_parent_run(dual, out, at);
+    let last = run.next;
+    let after = put_pattern(mos::parts::dual_of(last), out, run.at);
+    if mos::parts::has_child(last) {
+        return list_dual_parents(mos::parts::child_of(last), out, after);
+    }
+    after
+}
+
+// The walk of parents from a place on; the place after it.
 pub(crate) fn list_parents(m: Mos, out: &mut [u16], at: usize) -> usize
     requires { ⌜ (isPattern m ≡ true) × Room (now out) at (listed (parents m)) ⌝ }
     ensures { λ r. ⌜ Wrote (now (out .entry)) at (listed (parents m)) (now (out .exit)) r ⌝ }
 {
-    let run = list_parent_run(m, out, at);
-    let last = run.next;
-    let after = put_pattern(last, out, run.at);
-    if mos::parts::has_parent(last) {
-        return list_parents(mos::parts::parent_of(last), out, after);
-    }
-    after
+    list_dual_parents(mos::parts::dual_of(m), out, at)
 }

@@ -8,10 +8,10 @@ use mathlib.Core.Bool.{Bool, true, false}
 use mathlib.Core.List.{List, [], _∷_, _++_}
 use lib.Dec.{eqb}
 use lib.ListN.{replicate}
-use Rattle.pergen.specs.Spelling.{pickNumber}
+use Rattle.answer.specs.Choice.{pick}
 use Rattle.notes.specs.Reading.{leading, count}
 
-pick-same : (k : Bool) (n : ℕ) → pickNumber k n n ≡ n
+pick-same : (k : Bool) (n : ℕ) → pick k n n ≡ n
 pick-same true n = refl
 pick-same false n = refl
 
@@ -21,25 +21,25 @@ pub count-append : (b : ℕ) (s t : List ℕ) → count b (s ++ t) ≡ count b s
 unfolding count
 count-append b [] t = sym (zero-add (count b t))
 count-append b (x ∷ s) t =
-    ap (λ (n : ℕ). pickNumber (eqb x b) 1 0 + n) (count-append b s t) ∙ sym (add-assoc (pickNumber (eqb x b) 1 0) (count b s) (count b t))
+    ap (λ (n : ℕ). pick (eqb x b) 1 0 + n) (count-append b s t) ∙ sym (add-assoc (pick (eqb x b) 1 0) (count b s) (count b t))
 
-pick-more : (k : Bool) (n : ℕ) → pickNumber k 1 0 + pickNumber k n 0 ≡ pickNumber k (suc n) 0
+pick-more : (k : Bool) (n : ℕ) → pick k 1 0 + pick k n 0 ≡ pick k (suc n) 0
 pick-more true n = one-add n
 pick-more false n = refl
 
-pub count-run : (b n x : ℕ) → count b (replicate n x) ≡ pickNumber (eqb x b) n 0
+pub count-run : (b n x : ℕ) → count b (replicate n x) ≡ pick (eqb x b) n 0
 unfolding count
 count-run b zero x = sym (pick-same (eqb x b) 0)
-count-run b (suc n) x = ap (λ (k : ℕ). pickNumber (eqb x b) 1 0 + k) (count-run b n x) ∙ pick-more (eqb x b) n
+count-run b (suc n) x = ap (λ (k : ℕ). pick (eqb x b) 1 0 + k) (count-run b n x) ∙ pick-more (eqb x b) n
 
 -- ---- at the front
 
-step : (k : Bool) (n : ℕ) → pickNumber k (suc (pickNumber k n 0)) 0 ≡ pickNumber k (suc n) 0
+step : (k : Bool) (n : ℕ) → pick k (suc (pick k n 0)) 0 ≡ pick k (suc n) 0
 step true n = refl
 step false n = refl
 
-pub leading-run : (b n x : ℕ) (rest : List ℕ) → leading b rest ≡ 0 → leading b (replicate n x ++ rest) ≡ pickNumber (eqb x b) n 0
+pub leading-run : (b n x : ℕ) (rest : List ℕ) → leading b rest ≡ 0 → leading b (replicate n x ++ rest) ≡ pick (eqb x b) n 0
 unfolding leading
 leading-run b zero x rest h = h ∙ sym (pick-same (eqb x b) 0)
 leading-run b (suc n) x rest h =
-    ap (λ (k : ℕ). pickNumber (eqb x b) (suc k) 0) (leading-run b n x rest h) ∙ step (eqb x b) n
+    ap (λ (k : ℕ). pick (eqb x b) (suc k) 0) (leading-run b n x rest h) ∙ step (eqb x b) n

@@ -10,7 +10,7 @@ use Rattle.pergen.specs.declared.Cycle.{Cycle}
 use Rattle.pergen.specs.declared.Cycle.the-variants.{Absent, Number}
 use Rattle.pergen.specs.declared.Accidentals.{Accidentals}
 use Rattle.pergen.specs.declared.Spelling.{Spelling}
-use Rattle.notes.specs.Names.{pickText, letterText, letterAt, sharpSign, flatSign, spellingText, letterAlone, inOrder, printed, inParentheses, spellingsText, nameText}
+use Rattle.notes.specs.Names.{letterText, letterAt, sharpSign, flatSign, spellingText, letterAlone, inOrder, printed, inParentheses, spellingsText, nameText}
 use Rattle.notes.specs.Parts.{markText, twoText, parenthesisText, bracketedText, bodyText, starredText, planText, marked, isPresent, onePlan, twoPlan, LettersOf, ShortLetters, Planned}
 use Rattle.notes.specs.declared.plans.Mark.{Mark}
 use Rattle.notes.specs.declared.plans.NamePlan.{NamePlan}

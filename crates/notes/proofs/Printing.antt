@@ -9,12 +9,13 @@ use native.Mathlib.Omega.{arith}
 use lib.Dec.{eqb, ltb}
 use lib.ListN.{getD}
 use borrow.Author.Tests.{eq-eqb, ne-eqb, lt-ltb, le-ltb}
+use Rattle.answer.specs.Choice.{pick}
 use Rattle.pergen.specs.Spelling.{starsOf, sharpSpelling, flatSpelling}
 use Rattle.pergen.specs.declared.Accidentals.{Accidentals}
 use Rattle.pergen.specs.declared.Signs.{Signs}
 use Rattle.pergen.specs.declared.Signs.the-variants.{Sharps, Flats}
 use Rattle.pergen.specs.declared.Spelling.{Spelling}
-use Rattle.notes.specs.Names.{letterAlone, pickSpellings, inOrder, printed, firstPrinted}
+use Rattle.notes.specs.Names.{letterAlone, inOrder, printed, firstPrinted}
 use Rattle.notes.specs.Theorems.{PrintedSpellings, SpellingsInANameAreTheKeys}
 
 -- ---- a letter alone
@@ -34,7 +35,7 @@ module _ (a : Accidentals) where
 
 -- ---- the list, case by case
 
-pick-same : (b : Bool) (l : List Spelling) → pickSpellings b l l ≡ l
+pick-same : (b : Bool) (l : List Spelling) → pick b l l ≡ l
 pick-same true l = refl
 pick-same false l = refl
 
@@ -77,7 +78,7 @@ unfolding printed
 printed-view sf a = by (letterAlone a) (ltb (a .«sharp_count») (a .«flat_count»)) (ltb (a .«flat_count») (a .«sharp_count»)) sf
   where
     by : (x y z w : Bool)
-        → Printed a (pickSpellings x (sharpSpelling a ∷ []) (pickSpellings y (sharpSpelling a ∷ []) (pickSpellings z (flatSpelling a ∷ []) (inOrder w (sharpSpelling a) (flatSpelling a)))))
+        → Printed a (pick x (sharpSpelling a ∷ []) (pick y (sharpSpelling a ∷ []) (pick z (flatSpelling a ∷ []) (inOrder w (sharpSpelling a) (flatSpelling a)))))
     by true y z w = one (sharpSpelling a) (inl refl)
     by false true z w = one (sharpSpelling a) (inl refl)
     by false false true w = one (flatSpelling a) (inr refl)

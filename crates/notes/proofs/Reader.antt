@@ -12,14 +12,14 @@ use lib.ListN.{length, replicate, getD}
 use borrow.Author.Tests.{eq-eqb, ne-eqb, lt-ltb, le-ltb}
 use Rattle.genchain.specs.Chains.{chainOf}
 use Rattle.genchain.specs.Theorems.{IsLetter}
-use Rattle.pergen.specs.Spelling.{pickNumber, starsOf, sharpSpelling, flatSpelling}
+use Rattle.pergen.specs.Spelling.{starsOf, sharpSpelling, flatSpelling}
 use Rattle.pergen.specs.declared.Cycle.{Cycle}
 use Rattle.pergen.specs.declared.Cycle.the-variants.{Absent, Number}
 use Rattle.pergen.specs.declared.Accidentals.{Accidentals}
 use Rattle.pergen.specs.declared.Signs.{Signs}
 use Rattle.pergen.specs.declared.Signs.the-variants.{Sharps, Flats}
 use Rattle.pergen.specs.declared.Spelling.{Spelling}
-use Rattle.notes.specs.Names.{pickText, sharpSign, flatSign, signsText, letterText, letterAt, spellingText, printed, firstPrinted, inParentheses, spellingsText, nameText}
+use Rattle.notes.specs.Names.{sharpSign, flatSign, signsText, letterText, letterAt, spellingText, printed, firstPrinted, inParentheses, spellingsText, nameText}
 use Rattle.notes.specs.Reading.{Reading, pastParenthesis, readLetter, pastLetter, leading, count, readName, sharpsIn, flatsIn, readingOf}
 use Rattle.notes.specs.Answers.{chainName}
 use Rattle.notes.specs.Theorems.{Lettered, ReadingGivesTheFirstSpelling}

@@ -7,7 +7,8 @@ use native.Mathlib.Omega.{arith}
 use lib.Dec.{ltb}
 use lib.ListN.{length}
 use borrow.Author.Tests.{lt-ltb, le-ltb}
-use Rattle.notes.specs.Names.{pickText, letterText}
+use Rattle.answer.specs.Choice.{pick}
+use Rattle.notes.specs.Names.{letterText}
 
 pub letter-one : (c : ℕ) → c < 128 → letterText c ≡ c ∷ []
 unfolding letterText
@@ -21,7 +22,7 @@ pub length-letter : (c : ℕ) → length (letterText c) ≤ 2
 unfolding letterText
 length-letter c = by (ltb c 128)
   where
-    by : (b : Bool) → length (pickText b (c ∷ []) ((192 + c / 64) ∷ (128 + c % 64) ∷ [])) ≤ 2
+    by : (b : Bool) → length (pick b (c ∷ []) ((192 + c / 64) ∷ (128 + c % 64) ∷ [])) ≤ 2
     by true = omega arith
     by false = omega arith
 
@@ -29,6 +30,6 @@ pub letter-not-empty : (c : ℕ) → 1 ≤ length (letterText c)
 unfolding letterText
 letter-not-empty c = by (ltb c 128)
   where
-    by : (b : Bool) → 1 ≤ length (pickText b (c ∷ []) ((192 + c / 64) ∷ (128 + c % 64) ∷ []))
+    by : (b : Bool) → 1 ≤ length (pick b (c ∷ []) ((192 + c / 64) ∷ (128 + c % 64) ∷ []))
     by true = omega arith
     by false = omega arith

@@ -5,6 +5,7 @@ use mathlib.Core.Bool.{Bool, true, false}
 use mathlib.Core.List.{List, [], _∷_, _++_}
 use lib.ListN.{replicate, getD}
 use lib.Dec.{eqb, ltb}
+use Rattle.answer.specs.Choice.{pick}
 use Rattle.pergen.specs.Spelling.{starsOf, sharpSpelling, flatSpelling}
 use Rattle.pergen.specs.declared.Cycle.{Cycle}
 use Rattle.pergen.specs.declared.Cycle.the-variants.{Absent, Number}
@@ -32,13 +33,9 @@ signsText sharpFirst (Flats count) = replicate count (flatSign sharpFirst)
 
 -- ---- a letter: "Text is UTF-8"
 
-abbrev pub pickText : Bool → List ℕ → List ℕ → List ℕ
-pickText true a b = a
-pickText false a b = b
-
 -- one byte below 128, else two, which hold code points below 2048
 unfoldable pub letterText : ℕ → List ℕ
-letterText c = pickText (ltb c 128) (c ∷ []) ((192 + c / 64) ∷ (128 + c % 64) ∷ [])
+letterText c = pick (ltb c 128) (c ∷ []) ((192 + c / 64) ∷ (128 + c % 64) ∷ [])
 
 -- The letter at an index; past the last a question mark (63), which no layout prints.
 unfoldable pub letterAt : List ℕ → ℕ → ℕ
@@ -59,10 +56,6 @@ and false b = false
 unfoldable pub letterAlone : Accidentals → Bool
 letterAlone a = and (eqb (a .«sharp_count») 0) (and (eqb (a .«flat_count») 0) (eqb (a .«sharp_index») (a .«flat_index»)))
 
-abbrev pub pickSpellings : Bool → List Spelling → List Spelling → List Spelling
-pickSpellings true a b = a
-pickSpellings false a b = b
-
 -- "sharp first", or "flat first"
 abbrev pub inOrder : Bool → Spelling → Spelling → List Spelling
 inOrder true sharp flat = sharp ∷ flat ∷ []
@@ -72,9 +65,9 @@ inOrder false sharp flat = flat ∷ sharp ∷ []
 unfoldable pub printed : Bool → Accidentals → List Spelling
 unfolding letterAlone sharpSpelling flatSpelling
 printed sharpFirst a =
-    pickSpellings (letterAlone a) (sharpSpelling a ∷ [])
-    (pickSpellings (ltb (a .«sharp_count») (a .«flat_count»)) (sharpSpelling a ∷ [])
-    (pickSpellings (ltb (a .«flat_count») (a .«sharp_count»)) (flatSpelling a ∷ [])
+    pick (letterAlone a) (sharpSpelling a ∷ [])
+    (pick (ltb (a .«sharp_count») (a .«flat_count»)) (sharpSpelling a ∷ [])
+    (pick (ltb (a .«flat_count») (a .«sharp_count»)) (flatSpelling a ∷ [])
     (inOrder sharpFirst (sharpSpelling a) (flatSpelling a))))
 
 -- The first of them; the list is never empty.

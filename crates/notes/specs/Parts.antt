@@ -4,11 +4,12 @@ use mathlib.Core.Path.{_≡_}
 use mathlib.Core.Bool.{Bool, true, false}
 use mathlib.Core.List.{List, [], _∷_, _++_}
 use lib.ListN.{length, replicate}
+use Rattle.answer.specs.Choice.{pick}
 use Rattle.pergen.specs.Spelling.{starsOf}
 use Rattle.pergen.specs.declared.Cycle.{Cycle}
 use Rattle.pergen.specs.declared.Cycle.the-variants.{Absent, Number}
 use Rattle.pergen.specs.declared.Accidentals.{Accidentals}
-use Rattle.notes.specs.Names.{pickText, letterText, letterAt, nameText}
+use Rattle.notes.specs.Names.{letterText, letterAt, nameText}
 use Rattle.notes.specs.declared.plans.Mark.{Mark}
 use Rattle.notes.specs.declared.plans.NamePlan.{NamePlan}
 
@@ -22,13 +23,13 @@ twoText p = markText (p .first) ++ (47 ∷ []) ++ markText (p .second)
 
 -- 40 is (, 41 is )
 abbrev pub parenthesisText : Bool → ℕ → List ℕ
-parenthesisText wanted byte = pickText wanted (byte ∷ []) []
+parenthesisText wanted byte = pick wanted (byte ∷ []) []
 
 unfoldable pub bracketedText : NamePlan → List ℕ
 bracketedText p = parenthesisText (p .bracketed) 40 ++ twoText p ++ parenthesisText (p .bracketed) 41
 
 unfoldable pub bodyText : NamePlan → List ℕ
-bodyText p = pickText (p .both) (bracketedText p) (markText (p .first))
+bodyText p = pick (p .both) (bracketedText p) (markText (p .first))
 
 -- With so many stars as a cycle asks for, and with the plan's own.
 unfoldable pub starredText : NamePlan → ℕ → List ℕ

@@ -21,7 +21,7 @@ ghost use Rattle.notes.specs.Answers.{nameLengthOutcome, nameOutcome};
 pub fn name_len(code: u16, accidentals: Accidentals, sharp_first: bool) -> CountAnswer
     ensures { λ r. ⌜ countOutcome r ≡ nameLengthOutcome code «sharp_first» accidentals ⌝ }
 {
-    if 6 <= code {
+    if !genchain::rows::is_chain(code) {
         return CountAnswer::Refused(Refusal::Chain);
     }
     let row = genchain::rows::row(code);
@@ -38,7 +38,7 @@ pub fn write_name(
 ) -> CountAnswer
     ensures { λ r. ⌜ Filled (nameOutcome code «sharp_first» accidentals (length (now (out .entry)))) (countOutcome r) (now (out .entry)) (now (out .exit)) ⌝ }
 {
-    if 6 <= code {
+    if !genchain::rows::is_chain(code) {
         return CountAnswer::Refused(Refusal::Chain);
     }
     let row = genchain::rows::row(code);

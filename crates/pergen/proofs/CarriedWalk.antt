@@ -7,9 +7,10 @@ use borrow.Author.Tests.{ltb-true, ltb-false, lt-ltb, le-ltb}
 use lib.Arith.{digits-div, digits-mod, digits-lt}
 use native.Mathlib.Nat.{mod-lt, mod-add-mod, mod-eq-of-lt, mod-eq-sub-mod, mul-add, mul-one, mul-comm, mul-assoc, zero-div, zero-mod, mul-zero, div-add-mod', mod-mod}
 use native.Mathlib.Omega.{arith}
+use Rattle.answer.specs.Choice.{pick}
 use Rattle.math.proofs.Congruence.{mul-cong}
 use Rattle.pergen.specs.Pergen.{cycles, reduced, inverse, degree, cycle}
-use Rattle.pergen.specs.Parts.{solvedOf, Walkable, At, pickStep, nextStep}
+use Rattle.pergen.specs.Parts.{solvedOf, Walkable, At, nextStep}
 use Rattle.pergen.specs.declared.euclid.Solved.{Solved}
 use Rattle.pergen.specs.declared.stepping.Step.{Step}
 use Rattle.pergen.proofs.Inverse.{Numbers, numbers, cycles-positive, reduced-positive}
@@ -100,7 +101,7 @@ module _ (s : Solved) (w : Walkable s) where
       where
         go : (t : Bool) → ltb (step .cycle + 1) (s .«num_cycles») ≡ t
             → At s (k + 1)
-            (pickStep t (record { degree = step .degree; cycle = step .cycle + 1 })
+            (pick t (record { degree = step .degree; cycle = step .cycle + 1 })
             (record { degree = (step .degree + s .«generator_inverse») % s .«reduced_period»; cycle = 0 }))
         go true e = at-stay (ltb-true _ _ e)
         go false e = at-carry (ltb-false _ _ e) refl
@@ -109,12 +110,12 @@ module _ (s : Solved) (w : Walkable s) where
 module _ (s : Solved) (step : Step) where
   pub next-stays : step .cycle + 1 < s .«num_cycles» → record { degree = step .degree; cycle = step .cycle + 1 } ≡ nextStep s step
   unfolding nextStep
-  next-stays h = rw (lt-ltb (step .cycle + 1) (s .«num_cycles») h, pickStep)
+  next-stays h = rw (lt-ltb (step .cycle + 1) (s .«num_cycles») h, pick)
 
   pub next-carries : s .«num_cycles» ≤ step .cycle + 1 → {d : ℕ} → d ≡ (step .degree + s .«generator_inverse») % s .«reduced_period»
       → record { degree = d; cycle = 0 } ≡ nextStep s step
   unfolding nextStep
-  next-carries h e = rw (le-ltb (step .cycle + 1) (s .«num_cycles») h, pickStep) (ap (λ (x : ℕ). record { degree = x; cycle = 0 }) e)
+  next-carries h e = rw (le-ltb (step .cycle + 1) (s .«num_cycles») h, pick) (ap (λ (x : ℕ). record { degree = x; cycle = 0 }) e)
 
 -- ---- of a period and a generator
 

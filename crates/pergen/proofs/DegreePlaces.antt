@@ -8,6 +8,7 @@ use borrow.Author.Tests.{le-leb, leb-true, leb-false, ltb-false}
 use native.Mathlib.Nat.{mod-lt, mod-eq-of-lt, mod-mod, mod-add-div, add-comm, mul-zero, mul-add, mod-eq-sub-mod, mod-le, add-zero, mod-one}
 use native.Mathlib.Decide.{decLt}
 use native.Mathlib.Omega.{arith}
+use Rattle.answer.specs.Choice.{pick}
 use Rattle.math.specs.Division.{remainder, Apart}
 use Rattle.math.proofs.Congruence.{add-cong, add-cancel, to-cong}
 use Rattle.math.proofs.Integers.{Rep, rep-pos, rep-neg, rep-add, rep-minus, rep-mul}
@@ -18,8 +19,8 @@ use Rattle.pergen.specs.declared.Accidentals.{Accidentals}
 use Rattle.pergen.specs.declared.Signs.{Signs}
 use Rattle.pergen.specs.declared.Signs.the-variants.{Sharps, Flats}
 use Rattle.pergen.specs.declared.Spelling.{Spelling}
-use Rattle.pergen.specs.Pergen.{cycles, reduced, degree, cycle, cycleOf, pickCycle}
-use Rattle.pergen.specs.Spelling.{sharpCoordinate, flatCoordinate, byCoordinates, pickNumber, lowSharpIndex, lowFlatIndex, byIndices, pickAccidentals, accidentalsOf, keyAccidentals, place, sounds, soundedKey, starsOf, sharpSpelling, flatSpelling}
+use Rattle.pergen.specs.Pergen.{cycles, reduced, degree, cycle, cycleOf}
+use Rattle.pergen.specs.Spelling.{sharpCoordinate, flatCoordinate, byCoordinates, lowSharpIndex, lowFlatIndex, byIndices, accidentalsOf, keyAccidentals, place, sounds, soundedKey, starsOf, sharpSpelling, flatSpelling}
 use Rattle.pergen.specs.Theorems.{PlacesOfTheDegree, SoundsOfTheKey, IndicesOfSymbols, AccidentalsSoundTheirKey, OneLetter, LetterWithoutSigns, FewSigns}
 use Rattle.pergen.proofs.Inverse.{cycles-positive, reduced-positive}
 use Rattle.pergen.proofs.Keys.{cycle-below, degree-below, degree-sounds-key}
@@ -102,7 +103,7 @@ module _ (R N o e : ℕ) (c : Cycle) (ho : o < N) (he : e < R) where
   low-congruent : (x : ℕ) → LowIndex R N (o + e) x → x % R ≡ (e + o) % R
   low-congruent x h = by (h .near .0) (h .near .1) (h .near .2) ∙ ap (λ (z : ℕ). z % R) (add-comm o e)
     where
-      by : (b : Bool) → x ≡ pickNumber b (o + e - R) (o + e) → pickNumber b R 0 ≤ o + e → x % R ≡ (o + e) % R
+      by : (b : Bool) → x ≡ pick b (o + e - R) (o + e) → pick b R 0 ≤ o + e → x % R ≡ (o + e) % R
       by true q l = ap (λ (z : ℕ). z % R) q ∙ sym (mod-eq-sub-mod l)
       by false q l = ap (λ (z : ℕ). z % R) q
 
@@ -125,7 +126,7 @@ module _ (R N o e : ℕ) (c : Cycle) (ho : o < N) (he : e < R) where
   good = by (leb N R) refl
     where
       by : (b : Bool) → leb N R ≡ b
-          → Good (pickAccidentals b
+          → Good (pick b
           (byCoordinates c N (sharpCoordinate R (o + e)) (flatCoordinate R N (o + e)))
           (byIndices c (lowSharpIndex R N (o + e)) (lowFlatIndex R (o + e) e)))
       by true q = high
@@ -139,7 +140,7 @@ stars-of-key : (P G i : ℕ) → zero < P → starsOf (cycleOf P G i) ≡ cycle 
 unfolding cycleOf cycle
 stars-of-key P G i hP = by (ltb 1 (cycles P G)) refl
   where
-    by : (b : Bool) → ltb 1 (cycles P G) ≡ b → starsOf (pickCycle b (Number (i % cycles P G)) Absent) ≡ i % cycles P G
+    by : (b : Bool) → ltb 1 (cycles P G) ≡ b → starsOf (pick b (Number (i % cycles P G)) Absent) ≡ i % cycles P G
     by true q = refl
     by false q = sym (ap (λ (n : ℕ). i % n) (one (ltb-false 1 (cycles P G) q)) ∙ mod-one i)
       where
@@ -151,7 +152,7 @@ unfolding accidentalsOf byCoordinates byIndices
 cycle-kept R N o e c = by (leb N R)
   where
     by : (b : Bool)
-        → (pickAccidentals b
+        → (pick b
         (byCoordinates c N (sharpCoordinate R (o + e)) (flatCoordinate R N (o + e)))
         (byIndices c (lowSharpIndex R N (o + e)) (lowFlatIndex R (o + e) e))) .cycle ≡ c
     by true = refl

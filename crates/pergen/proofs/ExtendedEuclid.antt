@@ -4,11 +4,11 @@ use mathlib.Core.Path.{_≡_, refl, sym, ap, ap₂, _∙_, subst}
 use mathlib.Core.Bool.{Bool, true, false, not}
 use native.Mathlib.Nat.{mod-le, mod-self, zero-mod, zero-mul, one-mul, mul-zero, mul-comm, mul-assoc, mul-add, add-mul, div-add-mod', le-mul-of-pos-right, mul-le-mul-right, add-mul-mod-self-right, mod-eq-of-lt, mul-div-cancel}
 use native.Mathlib.Omega.{arith}
+use Rattle.answer.specs.Choice.{pick}
 use Rattle.math.specs.Gcd.{gcd}
 use Rattle.math.proofs.Congruence.{add-cong, add-cancel, mul-cong}
 use Rattle.math.proofs.Gcd.{gcd-zero, gcd-step}
 use Rattle.pergen.specs.Pergen.{cycles, reduced}
-use Rattle.pergen.specs.Spelling.{pickNumber}
 use Rattle.pergen.specs.Parts.{BezoutOf, forward, solvedOf}
 use Rattle.pergen.specs.declared.euclid.Bezout.{Bezout}
 use Rattle.pergen.specs.declared.euclid.Solved.{Solved}
@@ -183,7 +183,7 @@ module _ (P G : ℕ) (hP : 0 < P) (b : Bezout) (f : BezoutOf P G b) where
       ∙ zero-mod P
 
   -- both ways of counting leave the cycles
-  turned : (t : Bool) → b .negative ≡ t → pickNumber t (b .cofactor - b .coefficient) (b .coefficient) * G % P ≡ cycles P G % P
+  turned : (t : Bool) → b .negative ≡ t → pick t (b .cofactor - b .coefficient) (b .coefficient) * G % P ≡ cycles P G % P
   unfolding cycles
   turned false e = f .forward-is e
   turned true e =

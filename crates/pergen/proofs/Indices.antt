@@ -7,12 +7,13 @@ use lib.IntN.{ℤ, pos, negsuc, _-ℤ_}
 use borrow.Author.Tests.{lt-ltb, le-ltb, le-leb, lt-leb, eq-eqb, ne-eqb, eqb-true, ltb-true, ltb-false, leb-true, leb-false}
 use native.Mathlib.Nat.{mod-lt, mod-le, mod-eq-of-lt, mod-eq-sub-mod, div-le-self}
 use native.Mathlib.Omega.{arith}
+use Rattle.answer.specs.Choice.{pick}
 use Rattle.math.specs.Division.{remainder}
 use Rattle.math.proofs.Integers.{Rep, rep-self, rep-pos, rep-minus, rep-agree}
 use Rattle.math.proofs.Division.{remainder-below}
 use Rattle.pergen.specs.declared.Cycle.{Cycle}
 use Rattle.pergen.specs.declared.Accidentals.{Accidentals}
-use Rattle.pergen.specs.Spelling.{sharpCoordinate, flatCoordinate, byCoordinates, pickNumber, lowSharpIndex, lowFlatIndex, byIndices, accidentalsOf}
+use Rattle.pergen.specs.Spelling.{sharpCoordinate, flatCoordinate, byCoordinates, lowSharpIndex, lowFlatIndex, byIndices, accidentalsOf}
 
 -- ---- R at least N
 
@@ -76,14 +77,14 @@ low-flat-less R d e z h = simp (ne-eqb e 0 z, le-ltb d R h)
 
 -- the index is d or d − R, and below N
 pub record LowIndex (R N d x : ℕ) : Type 0 where
-  pub near : (b : Bool) × (x ≡ pickNumber b (d - R) d) × (pickNumber b R 0 ≤ d)
+  pub near : (b : Bool) × (x ≡ pick b (d - R) d) × (pick b R 0 ≤ d)
   pub below : x < N
 
 pub low-sharp : (R N o e : ℕ) → o < N → e < R → R < N → LowIndex R N (o + e) (lowSharpIndex R N (o + e))
 unfolding lowSharpIndex
 low-sharp R N o e ho he h = go (leb N (o + e)) refl
   where
-    go : (b : Bool) → leb N (o + e) ≡ b → LowIndex R N (o + e) (pickNumber b (o + e - R) (o + e))
+    go : (b : Bool) → leb N (o + e) ≡ b → LowIndex R N (o + e) (pick b (o + e - R) (o + e))
     go true q = let l : N ≤ o + e = leb-true N (o + e) q in record { near = (true, refl, omega arith); below = omega arith }
     go false q = let l : o + e < N = leb-false N (o + e) q in record { near = (false, refl, omega arith); below = l }
 
@@ -91,7 +92,7 @@ pub low-flat : (R N o e : ℕ) → o < N → e < R → R < N → LowIndex R N (o
 unfolding lowFlatIndex
 low-flat R N o e ho he h = go (eqb e 0) (ltb (o + e) R) refl refl
   where
-    go : (b b′ : Bool) → eqb e 0 ≡ b → ltb (o + e) R ≡ b′ → LowIndex R N (o + e) (pickNumber b (o + e) (pickNumber b′ (o + e) (o + e - R)))
+    go : (b b′ : Bool) → eqb e 0 ≡ b → ltb (o + e) R ≡ b′ → LowIndex R N (o + e) (pick b (o + e) (pick b′ (o + e) (o + e - R)))
     go true b′ u v = let z : e ≡ 0 = eqb-true e 0 u in record { near = (false, refl, omega arith); below = omega arith }
     go false true u v =
         let z : o + e < R = ltb-true (o + e) R v in record { near = (false, refl, omega arith); below = omega arith }

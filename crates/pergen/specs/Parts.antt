@@ -1,11 +1,11 @@
 -- What the parts behind the calls promise: the definitions of Pergen, by the numbers that the code carries.
 use Prim.Native.Nat.{ℕ, _+_, _*_, _-_, _/_, _%_, _≤_, _<_}
 use mathlib.Core.Path.{_≡_}
-use mathlib.Core.Bool.{Bool, true, false}
+use mathlib.Core.Bool.{true, false}
 use lib.Dec.{ltb}
+use Rattle.answer.specs.Choice.{pick}
 use Rattle.math.specs.Gcd.{gcd}
-use Rattle.pergen.specs.Pergen.{cycles, reduced, inverse, pickCycle}
-use Rattle.pergen.specs.Spelling.{pickNumber}
+use Rattle.pergen.specs.Pergen.{cycles, reduced, inverse}
 use Rattle.pergen.specs.declared.Cycle.the-variants.{Absent, Number}
 use Rattle.pergen.specs.declared.Generation.{Generation}
 use Rattle.pergen.specs.declared.euclid.Bezout.{Bezout}
@@ -22,7 +22,7 @@ pub record BezoutOf (P G : ℕ) (b : Bezout) : Type 0 where
 
 -- The coefficient counted forward: so many keys of a cycle back are the others forward.
 abbrev pub forward : Bezout → ℕ
-forward b = pickNumber (b .negative) (b .cofactor - b .coefficient) (b .coefficient)
+forward b = pick (b .negative) (b .cofactor - b .coefficient) (b .coefficient)
 
 -- The numbers that follow from a period and a generator.
 unfoldable pub solvedOf : ℕ → ℕ → Solved
@@ -32,7 +32,7 @@ solvedOf P G = record { «num_cycles» = cycles P G; «reduced_period» = reduce
 unfoldable pub generationFrom : Solved → ℕ → Generation
 generationFrom s i =
     record {
-      cycle = pickCycle (ltb 1 (s .«num_cycles»)) (Number (i % s .«num_cycles»)) Absent;
+      cycle = pick (ltb 1 (s .«num_cycles»)) (Number (i % s .«num_cycles»)) Absent;
       degree = s .«generator_inverse» * (i / s .«num_cycles») % s .«reduced_period»;
     }
 
@@ -46,13 +46,9 @@ pub record At (s : Solved) (k : ℕ) (step : Step) : Type 0 where
   pub degree-is : step .degree ≡ s .«generator_inverse» * (k / s .«num_cycles») % s .«reduced_period»
   pub cycle-is : step .cycle ≡ k % s .«num_cycles»
 
-abbrev pub pickStep : Bool → Step → Step → Step
-pickStep true x y = x
-pickStep false x y = y
-
 -- The step after: a cycle further with the same degree, or from the last cycle to the first, and on to the next degree.
 unfoldable pub nextStep : Solved → Step → Step
 nextStep s step =
-    pickStep (ltb (step .cycle + 1) (s .«num_cycles»))
+    pick (ltb (step .cycle + 1) (s .«num_cycles»))
     (record { degree = step .degree; cycle = step .cycle + 1 })
     (record { degree = (step .degree + s .«generator_inverse») % s .«reduced_period»; cycle = 0 })

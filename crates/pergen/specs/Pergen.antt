@@ -3,6 +3,7 @@ use Prim.Native.Nat.{ℕ, zero, suc, _*_, _/_, _%_, _<_}
 use mathlib.Core.Bool.{Bool, true, false}
 use mathlib.Core.Path.{_≡_}
 use lib.Dec.{eqb, ltb}
+use Rattle.answer.specs.Choice.{pick}
 use Rattle.math.specs.Gcd.{gcd}
 use Rattle.pergen.specs.declared.Cycle.{Cycle}
 use Rattle.pergen.specs.declared.Cycle.the-variants.{Absent, Number}
@@ -43,14 +44,10 @@ unfoldable pub cycle : ℕ → ℕ → ℕ → ℕ
 unfolding cycles
 cycle P G i = i % cycles P G
 
-abbrev pub pickCycle : Bool → Cycle → Cycle → Cycle
-pickCycle true a b = a
-pickCycle false a b = b
-
 -- "absent when n is 1"
 unfoldable pub cycleOf : ℕ → ℕ → ℕ → Cycle
 unfolding cycle cycles
-cycleOf P G i = pickCycle (ltb 1 (cycles P G)) (Number (cycle P G i)) Absent
+cycleOf P G i = pick (ltb 1 (cycles P G)) (Number (cycle P G i)) Absent
 
 -- Degree and cycle of key i.
 unfoldable pub generationOf : ℕ → ℕ → ℕ → Generation

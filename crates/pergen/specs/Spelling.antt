@@ -1,9 +1,9 @@
 -- The two spellings of a key, the place of any spelling on the chain, and the key that it sounds
 -- (document 01, "Pergen and spelling"). N is the number of symbols, d the origin plus the degree.
 use Prim.Native.Nat.{ℕ, zero, suc, _+_, _*_, _-_, _/_, _%_}
-use mathlib.Core.Bool.{Bool, true, false}
 use lib.Dec.{eqb, ltb, leb}
 use lib.IntN.{ℤ, pos, negsuc, negℤ, _+ℤ_, _-ℤ_, _*ℤ_}
+use Rattle.answer.specs.Choice.{pick}
 use Rattle.math.specs.Division.{remainder}
 use Rattle.pergen.specs.Pergen.{cycles, reduced, degree, cycleOf}
 use Rattle.pergen.specs.declared.Cycle.{Cycle}
@@ -36,17 +36,13 @@ byCoordinates c N sharp flat =
 
 -- ---- R below N
 
-abbrev pub pickNumber : Bool → ℕ → ℕ → ℕ
-pickNumber true a b = a
-pickNumber false a b = b
-
 -- "Sharp index d, less R if d is at least N."
 unfoldable pub lowSharpIndex : ℕ → ℕ → ℕ → ℕ
-lowSharpIndex R N d = pickNumber (leb N d) (d - R) d
+lowSharpIndex R N d = pick (leb N d) (d - R) d
 
 -- "Flat index d − R, or d if that is negative or the degree is 0."
 unfoldable pub lowFlatIndex : ℕ → ℕ → ℕ → ℕ
-lowFlatIndex R d degree = pickNumber (eqb degree 0) d (pickNumber (ltb d R) d (d - R))
+lowFlatIndex R d degree = pick (eqb degree 0) d (pick (ltb d R) d (d - R))
 
 -- "both counts 0"
 unfoldable pub byIndices : Cycle → ℕ → ℕ → Accidentals
@@ -55,16 +51,12 @@ byIndices c sharp flat =
 
 -- ---- both
 
-abbrev pub pickAccidentals : Bool → Accidentals → Accidentals → Accidentals
-pickAccidentals true a b = a
-pickAccidentals false a b = b
-
 -- Of a degree and a cycle, by the reduced period, the number of symbols and the origin.
 unfoldable pub accidentalsOf : ℕ → ℕ → ℕ → ℕ → Cycle → Accidentals
 unfolding sharpCoordinate flatCoordinate byCoordinates lowSharpIndex lowFlatIndex byIndices
 accidentalsOf R N origin degree c =
     let d = origin + degree in
-    pickAccidentals (leb N R)
+    pick (leb N R)
     (byCoordinates c N (sharpCoordinate R d) (flatCoordinate R N d))
     (byIndices c (lowSharpIndex R N d) (lowFlatIndex R d degree))
 

@@ -11,7 +11,8 @@ use lib.Seq.{drop-cons}
 use lib.Dec.{leb, ltb}
 use borrow.Author.Tests.{ltb-true, ltb-false, leb-true, le-leb, lt-leb}
 use Rattle.answer.proofs.Asked.{and-left, and-right}
-use Rattle.text.specs.Decimal.{isDigit, leading, valueFrom, digitsAt, valueAt, endAt, isNumber, digitAt, numberAt, pickReading}
+use Rattle.answer.specs.Choice.{pick}
+use Rattle.text.specs.Decimal.{isDigit, leading, valueFrom, digitsAt, valueAt, endAt, isNumber, digitAt, numberAt}
 use Rattle.text.specs.declared.decimal.Reading.the-variants.{Number, Nothing}
 use Rattle.text.proofs.Digits.{value-rises, leading-digit, leading-other, leading-none, is-digit}
 
@@ -93,11 +94,11 @@ pub record Picked (test : Bool) (value end number next : ℕ) : Type 0 where
   pub is-value : number ≡ value
   pub is-next : next ≡ end
 
-pub picked : (test : Bool) (value end number next : ℕ) → Number number next ≡ pickReading test (Number value end) → Picked test value end number next
+pub picked : (test : Bool) (value end number next : ℕ) → Number number next ≡ pick test (Number value end) Nothing → Picked test value end number next
 picked true value end number next e = record { yes = refl; is-value = cc; is-next = cc }
 picked false value end number next e = let z : _≡_ {A = ℕ} 0 1 = cc in absurd (omega arith)
 
-pub picked-none : (test : Bool) (value end : ℕ) → Nothing ≡ pickReading test (Number value end) → test ≡ false
+pub picked-none : (test : Bool) (value end : ℕ) → Nothing ≡ pick test (Number value end) Nothing → test ≡ false
 picked-none true value end e = let z : _≡_ {A = ℕ} 0 1 = cc in absurd (omega arith)
 picked-none false value end e = refl
 
@@ -126,11 +127,11 @@ module _ (text : List ℕ) (at : ℕ) where
 
   pub no-number : isNumber text at ≡ false → Nothing ≡ numberAt text at
   unfolding numberAt
-  no-number e = sym (ap (λ (test : Bool). pickReading test (Number (valueAt text at) (endAt text at))) e)
+  no-number e = sym (ap (λ (test : Bool). pick test (Number (valueAt text at) (endAt text at)) Nothing) e)
 
   pub a-number : isNumber text at ≡ true → Number (valueAt text at) (endAt text at) ≡ numberAt text at
   unfolding numberAt
-  a-number e = sym (ap (λ (test : Bool). pickReading test (Number (valueAt text at) (endAt text at))) e)
+  a-number e = sym (ap (λ (test : Bool). pick test (Number (valueAt text at) (endAt text at)) Nothing) e)
 
 -- ---- the loop: the digits from `next` on say the rest of the number at `at`
 

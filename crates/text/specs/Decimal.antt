@@ -5,6 +5,7 @@ use mathlib.Core.List.{List, [], _∷_, _++_}
 use mathlib.Core.Path.{_≡_}
 use lib.ListN.{length, getD, drop}
 use lib.Dec.{leb, ltb}
+use Rattle.answer.specs.Choice.{pick}
 use Rattle.text.specs.declared.decimal.Reading.{Reading}
 use Rattle.text.specs.declared.decimal.Reading.the-variants.{Number, Nothing}
 
@@ -47,22 +48,14 @@ unfoldable pub isNumber : List ℕ → ℕ → Bool
 unfolding digitsAt valueAt
 isNumber text at = leb 1 (length (digitsAt text at)) && leb (length (digitsAt text at)) 5 && leb (valueAt text at) 65535
 
-abbrev pub pickReading : Bool → Reading → Reading
-pickReading true reading = reading
-pickReading false reading = Nothing
-
 -- The number at a place, and the place after its digits.
 unfoldable pub numberAt : List ℕ → ℕ → Reading
 unfolding isNumber valueAt endAt
-numberAt text at = pickReading (isNumber text at) (Number (valueAt text at) (endAt text at))
+numberAt text at = pick (isNumber text at) (Number (valueAt text at) (endAt text at)) Nothing
 
 -- What `digit_at` promises: the digit at a place, or 10.
-abbrev pub pickDigit : Bool → ℕ → ℕ
-pickDigit true digit = digit
-pickDigit false digit = 10
-
 unfoldable pub digitAt : List ℕ → ℕ → ℕ
-digitAt text at = pickDigit (isDigit (getD text at 0)) (getD text at 0 - 48)
+digitAt text at = pick (isDigit (getD text at 0)) (getD text at 0 - 48) 10
 
 -- ---- writing
 

@@ -26,7 +26,7 @@ pub extern "C" fn vn_layout(chain: u16, octave: u16, tritave: u16, out: &mut [u1
         octave,
         tritave,
     };
-    match layout::parts::search(layout) {
+    match layout::parts::ask(layout) {
         FoundAnswer::Refused(question) => vetchnoon_codes::refused(question),
         FoundAnswer::Given(found) => {
             let solved = euclid::solve(found.octave, found.generator);

@@ -6,8 +6,8 @@ use borrow.Author.Needs.{needs}
 use Rattle.layout.proofs.create_layout.Statement.{statement}
 use Rattle.layout.proofs.create_layout.Tie as tie
 
-search-requires : tie.Need-search-requires
-search-requires c κs = search needs
+ask-requires : tie.Need-ask-requires
+ask-requires c κs = search needs
 
 enum-known-q : tie.Need-enum-known-q
 enum-known-q c = search needs
@@ -16,10 +16,10 @@ enum-told : tie.Need-enum-told
 enum-told c = search needs
 
 returns : tie.Need-returns
-returns c = create-refused _ _ (sym (ap foundOutcome (c .before .q .given .1)) ∙ c .before .before .before .search .ensures)
+returns c = create-refused _ _ (sym (ap foundOutcome (c .before .q .given .1)) ∙ c .before .before .before .ask .ensures)
 
 returns-2 : tie.Need-returns-2
-returns-2 c = create-given _ _ (sym (ap foundOutcome (c .enum-told .given .1)) ∙ c .before .before .search .ensures)
+returns-2 c = create-given _ _ (sym (ap foundOutcome (c .enum-told .given .1)) ∙ c .before .before .ask .ensures)
 
 pub create-layout-spec : {M : Type 1} → statement M
-create-layout-spec = tie.close (tie.spec search-requires enum-known-q enum-told returns returns-2)
+create-layout-spec = tie.close (tie.spec ask-requires enum-known-q enum-told returns returns-2)

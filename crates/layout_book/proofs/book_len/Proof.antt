@@ -11,8 +11,8 @@ use Rattle.layout_book.proofs.book_len.Tie as tie
 row-requires : tie.Need-row-requires
 row-requires c κs = search needs
 
-find-requires : tie.Need-find-requires
-find-requires c κs = search needs
+ask-with-row-requires : tie.Need-ask-with-row-requires
+ask-with-row-requires c κs = search needs
 
 enum-known-q : tie.Need-enum-known-q
 enum-known-q c = search needs
@@ -22,25 +22,25 @@ enum-known-found c = search needs
 
 speller-of-requires : tie.Need-speller-of-requires
 speller-of-requires c κs =
-    let e = sym (ap foundOutcome (c .before .found .given .1)) ∙ c .before .before .before .find .ensures in
+    let e = sym (ap foundOutcome (c .before .found .given .1)) ∙ c .before .before .before .ask-with-row .ensures in
     (row-found _ _ e _ (c .before .before .before .before .row .ensures), laid-of _ _ e)
 
 book-length-requires : tie.Need-book-length-requires
 book-length-requires c κs = search needs
 
 returns : tie.Need-returns
-returns c = ap counted (book-refused _ _ (sym (ap foundOutcome (c .before .q .given .1)) ∙ c .before .before .before .find .ensures))
+returns c = ap counted (book-refused _ _ (sym (ap foundOutcome (c .before .q .given .1)) ∙ c .before .before .before .ask-with-row .ensures))
 
 returns-2 : tie.Need-returns-2
 returns-2 c =
-    book-count _ _ (sym (ap foundOutcome (c .before .before .before .found .given .1)) ∙ c .before .before .before .before .before .find .ensures) _ (c .before .speller-of .ensures) _ (c .book-length .ensures)
+    book-count _ _ (sym (ap foundOutcome (c .before .before .before .found .given .1)) ∙ c .before .before .before .before .before .ask-with-row .ensures) _ (c .before .speller-of .ensures) _ (c .book-length .ensures)
 
 pub book-len-spec : {M : Type 1} → statement M
 book-len-spec =
     tie.close
     (tie.spec
     row-requires
-    find-requires
+    ask-with-row-requires
     enum-known-q
     enum-known-found
     speller-of-requires

@@ -11,8 +11,8 @@ use Rattle.layout_book.proofs.write_book.Tie as tie
 row-requires : tie.Need-row-requires
 row-requires c κs = search needs
 
-find-requires : tie.Need-find-requires
-find-requires c κs = search needs
+ask-with-row-requires : tie.Need-ask-with-row-requires
+ask-with-row-requires c κs = search needs
 
 enum-known-q : tie.Need-enum-known-q
 enum-known-q c = search needs
@@ -22,7 +22,7 @@ enum-known-found c = search needs
 
 speller-of-requires : tie.Need-speller-of-requires
 speller-of-requires c κs =
-    let e = sym (ap foundOutcome (c .before .found .given .1)) ∙ c .before .before .before .find .ensures in
+    let e = sym (ap foundOutcome (c .before .found .given .1)) ∙ c .before .before .before .ask-with-row .ensures in
     (row-found _ _ e _ (c .before .before .before .before .row .ensures), laid-of _ _ e)
 
 write-names-requires : tie.Need-write-names-requires
@@ -30,7 +30,7 @@ write-names-requires c κs = search needs
 
 returns : tie.Need-returns
 returns c =
-    filled-refused _ _ (refused-in-room _ _ _ (book-refused _ _ (sym (ap foundOutcome (c .before .q .given .1)) ∙ c .before .before .before .find .ensures))) refl
+    filled-refused _ _ (refused-in-room _ _ _ (book-refused _ _ (sym (ap foundOutcome (c .before .q .given .1)) ∙ c .before .before .before .ask-with-row .ensures))) refl
 
 same-length : tie.Need-same-length
 same-length c = search needs
@@ -39,14 +39,14 @@ returns-2 : tie.Need-returns-2
 returns-2 c =
     let w = c .before .before in
     let s = w .before .before in
-    filled-as (book-in-room _ _ (sym (ap foundOutcome (s .before .before .found .given .1)) ∙ s .before .before .before .before .find .ensures) _ (s .speller-of .ensures) _) (w .write-names .ensures)
+    filled-as (book-in-room _ _ (sym (ap foundOutcome (s .before .before .found .given .1)) ∙ s .before .before .before .before .ask-with-row .ensures) _ (s .speller-of .ensures) _) (w .write-names .ensures)
 
 pub write-book-spec : {M : Type 1} → statement M
 write-book-spec =
     tie.close
     (tie.spec
     row-requires
-    find-requires
+    ask-with-row-requires
     enum-known-q
     enum-known-found
     speller-of-requires

@@ -7,8 +7,8 @@ use borrow.Author.Needs.{needs}
 use Rattle.layout_lamps.proofs.lamp_strip.Statement.{statement}
 use Rattle.layout_lamps.proofs.lamp_strip.Tie as tie
 
-search-requires : tie.Need-search-requires
-search-requires c κs = search needs
+ask-requires : tie.Need-ask-requires
+ask-requires c κs = search needs
 
 enum-known-q : tie.Need-enum-known-q
 enum-known-q c = search needs
@@ -17,14 +17,14 @@ enum-known-found : tie.Need-enum-known-found
 enum-known-found c = search needs
 
 plan-of-requires : tie.Need-plan-of-requires
-plan-of-requires c κs = laid-of _ _ (sym (ap foundOutcome (c .before .found .given .1)) ∙ c .before .before .before .search .ensures)
+plan-of-requires c κs = laid-of _ _ (sym (ap foundOutcome (c .before .found .given .1)) ∙ c .before .before .before .ask .ensures)
 
 total-of-requires : tie.Need-total-of-requires
 total-of-requires c κs = c .plan-of .ensures .sound
 
 returns : tie.Need-returns
 returns c =
-    let e = sym (ap foundOutcome (c .before .before .before .before .found .given .1)) ∙ c .before .before .before .before .before .before .search .ensures in
+    let e = sym (ap foundOutcome (c .before .before .before .before .found .given .1)) ∙ c .before .before .before .before .before .before .ask .ensures in
     strip-not-written _ 9 (strip-too-deep _ _ e _ (c .before .before .plan-of .ensures) _ (c .before .total-of .ensures) (c .if1 .taken)) _
 
 write-strip-requires : tie.Need-write-strip-requires
@@ -32,14 +32,14 @@ write-strip-requires c κs = (c .before .before .before .plan-of .ensures .sound
 
 returns-2 : tie.Need-returns-2
 returns-2 c =
-    strip-not-written _ _ (strip-refused _ _ (sym (ap foundOutcome (c .before .q .given .1)) ∙ c .before .before .before .search .ensures)) _
+    strip-not-written _ _ (strip-refused _ _ (sym (ap foundOutcome (c .before .q .given .1)) ∙ c .before .before .before .ask .ensures)) _
 
 same-length : tie.Need-same-length
 same-length c = search needs
 
 returns-3 : tie.Need-returns-3
 returns-3 c =
-    let e = sym (ap foundOutcome (c .before .before .before .before .before .before .before .before .found .given .1)) ∙ c .before .before .before .before .before .before .before .before .before .before .search .ensures in
+    let e = sym (ap foundOutcome (c .before .before .before .before .before .before .before .before .found .given .1)) ∙ c .before .before .before .before .before .before .before .before .before .before .ask .ensures in
     strip-written _ _ e _ (c .before .before .before .before .before .before .plan-of .ensures) _ (c .before .before .before .before .before .total-of .ensures) (c .before .before .before .before .if1 .left)
     (c .before .before .write-strip .ensures)
 
@@ -47,7 +47,7 @@ pub lamp-strip-spec : {M : Type 1} → statement M
 lamp-strip-spec =
     tie.close
     (tie.spec
-    search-requires
+    ask-requires
     enum-known-q
     enum-known-found
     plan-of-requires

@@ -8,8 +8,8 @@ use borrow.Author.Needs.{needs}
 use Rattle.layout_lamps.proofs.strip_len.Statement.{statement}
 use Rattle.layout_lamps.proofs.strip_len.Tie as tie
 
-search-requires : tie.Need-search-requires
-search-requires c κs = search needs
+ask-requires : tie.Need-ask-requires
+ask-requires c κs = search needs
 
 enum-known-q : tie.Need-enum-known-q
 enum-known-q c = search needs
@@ -18,32 +18,32 @@ enum-known-found : tie.Need-enum-known-found
 enum-known-found c = search needs
 
 plan-of-requires : tie.Need-plan-of-requires
-plan-of-requires c κs = laid-of _ _ (sym (ap foundOutcome (c .before .found .given .1)) ∙ c .before .before .before .search .ensures)
+plan-of-requires c κs = laid-of _ _ (sym (ap foundOutcome (c .before .found .given .1)) ∙ c .before .before .before .ask .ensures)
 
 total-of-requires : tie.Need-total-of-requires
 total-of-requires c κs = c .plan-of .ensures .sound
 
 returns : tie.Need-returns
 returns c =
-    let e = sym (ap foundOutcome (c .before .before .before .before .found .given .1)) ∙ c .before .before .before .before .before .before .search .ensures in
+    let e = sym (ap foundOutcome (c .before .before .before .before .found .given .1)) ∙ c .before .before .before .before .before .before .ask .ensures in
     ap counted (strip-too-deep _ _ e _ (c .before .before .plan-of .ensures) _ (c .before .total-of .ensures) (c .if1 .taken))
 
 cast-t10 : tie.Need-cast-t10
 cast-t10 c = search needs
 
 returns-2 : tie.Need-returns-2
-returns-2 c = ap counted (strip-refused _ _ (sym (ap foundOutcome (c .before .q .given .1)) ∙ c .before .before .before .search .ensures))
+returns-2 c = ap counted (strip-refused _ _ (sym (ap foundOutcome (c .before .q .given .1)) ∙ c .before .before .before .ask .ensures))
 
 returns-3 : tie.Need-returns-3
 returns-3 c =
-    let e = sym (ap foundOutcome (c .before .before .before .before .before .found .given .1)) ∙ c .before .before .before .before .before .before .before .search .ensures in
+    let e = sym (ap foundOutcome (c .before .before .before .before .before .found .given .1)) ∙ c .before .before .before .before .before .before .before .ask .ensures in
     strip-counted _ _ e _ (c .before .before .before .plan-of .ensures) _ (c .before .before .total-of .ensures) (c .before .if1 .left)
 
 pub strip-len-spec : {M : Type 1} → statement M
 strip-len-spec =
     tie.close
     (tie.spec
-    search-requires
+    ask-requires
     enum-known-q
     enum-known-found
     plan-of-requires

@@ -12,7 +12,7 @@ use Rattle.layout_table.proofs.respond.Reads as reads
 use Rattle.layout_table.proofs.respond.Lts as lts
 use Rattle.answer.proofs.Refusal.number.Reads as number-reads
 use Rattle.line.proofs.parse.Reads as parse-reads
-use Rattle.layout_table.proofs.parts.ask.Reads as ask-reads
+use Rattle.layout_table.proofs.parts.ask_for_lamps.Reads as ask-for-lamps-reads
 use Rattle.layout_table.proofs.parts.print_table.Reads as print-table-reads
 use Rattle.layout_table.proofs.parts.write_refusal.Reads as write-refusal-reads
 
@@ -37,8 +37,8 @@ enum-known-asked c = search needs
 row-requires : tie.Need-row-requires
 row-requires c κs = search needs
 
-ask-requires : tie.Need-ask-requires
-ask-requires c κs = search needs
+ask-for-lamps-requires : tie.Need-ask-for-lamps-requires
+ask-for-lamps-requires c κs = search needs
 
 enum-known-q-2 : tie.Need-enum-known-q-2
 enum-known-q-2 c = search needs
@@ -58,7 +58,7 @@ enum-known-found c = search needs
 print-table-requires : tie.Need-print-table-requires
 print-table-requires c κs =
     let asked = c .before .before .before .before .before .before .before .asked .given .0 .0 in
-    let ok = subst (Asked (layoutOn asked)) (c .before .before .found .given .1) (c .before .before .before .before .ask .ensures) in
+    let ok = subst (Asked (layoutOn asked)) (c .before .before .found .given .1) (c .before .before .before .before .ask-for-lamps .ensures) in
     (row-found _ _ (sym (ok .accepted)) _ (c .before .before .before .before .before .row .ensures), printable _ _ ok)
 
 same-length : tie.Need-same-length
@@ -78,7 +78,7 @@ returns-2 c =
     let a = q .before .before in
     let g = a .before .before .before in
     let asked = sym (ap lineAnswered (g .asked .given .1)) ∙ g .before .before .parse .ensures in
-    filled-as (output-refused _ _ _ asked _ _ (n .number2 .ensures) (subst (Asked _) (q .q2 .given .1) (a .ask .ensures))) (w .write-refusal2 .ensures)
+    filled-as (output-refused _ _ _ asked _ _ (n .number2 .ensures) (subst (Asked _) (q .q2 .given .1) (a .ask-for-lamps .ensures))) (w .write-refusal2 .ensures)
 
 same-length-3 : tie.Need-same-length-3
 same-length-3 c = search needs
@@ -90,7 +90,7 @@ returns-3 c =
     let a = f .before .before in
     let g = a .before .before .before in
     let asked = sym (ap lineAnswered (g .asked .given .1)) ∙ g .before .before .parse .ensures in
-    filled-as (output-given _ _ _ asked _ (table-given _ _ (subst (Asked _) (f .found .given .1) (a .ask .ensures)))) (t .print-table .ensures)
+    filled-as (output-given _ _ _ asked _ (table-given _ _ (subst (Asked _) (f .found .given .1) (a .ask-for-lamps .ensures)))) (t .print-table .ensures)
 
 pub respond-spec : {M : Type 1} → statement M
 respond-spec =
@@ -103,7 +103,7 @@ respond-spec =
     write-refusal-requires
     enum-known-asked
     row-requires
-    ask-requires
+    ask-for-lamps-requires
     enum-known-q-2
     number-requires-2
     cast-write-refusal-2

@@ -9,14 +9,14 @@ use Rattle.layout_table.proofs.table_len.Statement.{statement}
 use Rattle.layout_table.proofs.table_len.Tie as tie
 use Rattle.layout_table.proofs.table_len.Reads as reads
 use Rattle.layout_table.proofs.table_len.Lts as lts
-use Rattle.layout_table.proofs.parts.ask.Reads as ask-reads
+use Rattle.layout_table.proofs.parts.ask_for_lamps.Reads as ask-for-lamps-reads
 use Rattle.layout_table.proofs.parts.table_length.Reads as table-length-reads
 
 row-requires : tie.Need-row-requires
 row-requires c κs = search needs
 
-ask-requires : tie.Need-ask-requires
-ask-requires c κs = search needs
+ask-for-lamps-requires : tie.Need-ask-for-lamps-requires
+ask-for-lamps-requires c κs = search needs
 
 enum-known-q : tie.Need-enum-known-q
 enum-known-q c = search needs
@@ -26,19 +26,19 @@ enum-known-found c = search needs
 
 table-length-requires : tie.Need-table-length-requires
 table-length-requires c κs =
-    let ok = subst (Asked (c .before .before .before .before .before .args .layout)) (c .before .found .given .1) (c .before .before .before .ask .ensures) in
+    let ok = subst (Asked (c .before .before .before .before .before .args .layout)) (c .before .found .given .1) (c .before .before .before .ask-for-lamps .ensures) in
     (row-found _ _ (sym (ok .accepted)) _ (c .before .before .before .before .row .ensures), printable _ _ ok)
 
 returns : tie.Need-returns
 returns c =
-    ap counted (subst (Asked (c .before .before .before .before .before .args .layout)) (c .before .q .given .1) (c .before .before .before .ask .ensures))
+    ap counted (subst (Asked (c .before .before .before .before .before .args .layout)) (c .before .q .given .1) (c .before .before .before .ask-for-lamps .ensures))
 
 returns-2 : tie.Need-returns-2
 returns-2 c =
     let s = c .before .before .before .before .before .before in
-    table-counted _ _ (subst (Asked (s .args .layout)) (c .before .before .found .given .1) (c .before .before .before .before .ask .ensures)) _ (c .table-length .ensures)
+    table-counted _ _ (subst (Asked (s .args .layout)) (c .before .before .found .given .1) (c .before .before .before .before .ask-for-lamps .ensures)) _ (c .table-length .ensures)
 
 pub table-len-spec : {M : Type 1} → statement M
 table-len-spec =
     tie.close
-    (tie.spec row-requires ask-requires enum-known-q enum-known-found table-length-requires returns returns-2)
+    (tie.spec row-requires ask-for-lamps-requires enum-known-q enum-known-found table-length-requires returns returns-2)

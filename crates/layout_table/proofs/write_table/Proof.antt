@@ -9,14 +9,14 @@ use Rattle.layout_table.proofs.write_table.Statement.{statement}
 use Rattle.layout_table.proofs.write_table.Tie as tie
 use Rattle.layout_table.proofs.write_table.Reads as reads
 use Rattle.layout_table.proofs.write_table.Lts as lts
-use Rattle.layout_table.proofs.parts.ask.Reads as ask-reads
+use Rattle.layout_table.proofs.parts.ask_for_lamps.Reads as ask-for-lamps-reads
 use Rattle.layout_table.proofs.parts.print_table.Reads as print-table-reads
 
 row-requires : tie.Need-row-requires
 row-requires c κs = search needs
 
-ask-requires : tie.Need-ask-requires
-ask-requires c κs = search needs
+ask-for-lamps-requires : tie.Need-ask-for-lamps-requires
+ask-for-lamps-requires c κs = search needs
 
 enum-known-q : tie.Need-enum-known-q
 enum-known-q c = search needs
@@ -27,13 +27,13 @@ enum-known-found c = search needs
 print-table-requires : tie.Need-print-table-requires
 print-table-requires c κs =
     let s = c .before .before .before .before .before .before .before in
-    let ok = subst (Asked (s .args .layout)) (c .before .before .found .given .1) (c .before .before .before .before .ask .ensures) in
+    let ok = subst (Asked (s .args .layout)) (c .before .before .found .given .1) (c .before .before .before .before .ask-for-lamps .ensures) in
     (row-found _ _ (sym (ok .accepted)) _ (c .before .before .before .before .before .row .ensures), printable _ _ ok)
 
 returns : tie.Need-returns
 returns c =
     let s = c .before .before .before .before .before .before in
-    filled-refused _ _ (refused-in-room _ _ _ (subst (Asked (s .args .layout)) (c .before .q .given .1) (c .before .before .before .ask .ensures))) refl
+    filled-refused _ _ (refused-in-room _ _ _ (subst (Asked (s .args .layout)) (c .before .q .given .1) (c .before .before .before .ask-for-lamps .ensures))) refl
 
 same-length : tie.Need-same-length
 same-length c = search needs
@@ -42,14 +42,14 @@ returns-2 : tie.Need-returns-2
 returns-2 c =
     let t = c .before .before in
     let s = t .before .before .before .before .before .before .before .before in
-    filled-as (table-in-room _ _ (subst (Asked (s .args .layout)) (t .before .before .before .found .given .1) (t .before .before .before .before .before .ask .ensures)) _) (t .print-table .ensures)
+    filled-as (table-in-room _ _ (subst (Asked (s .args .layout)) (t .before .before .before .found .given .1) (t .before .before .before .before .before .ask-for-lamps .ensures)) _) (t .print-table .ensures)
 
 pub write-table-spec : {M : Type 1} → statement M
 write-table-spec =
     tie.close
     (tie.spec
     row-requires
-    ask-requires
+    ask-for-lamps-requires
     enum-known-q
     enum-known-found
     print-table-requires

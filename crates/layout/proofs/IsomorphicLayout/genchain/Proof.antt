@@ -6,8 +6,8 @@ use borrow.Author.Needs.{needs}
 use Rattle.layout.proofs.IsomorphicLayout.genchain.Statement.{statement}
 use Rattle.layout.proofs.IsomorphicLayout.genchain.Tie as tie
 
-search-requires : tie.Need-search-requires
-search-requires c κs = search needs
+ask-requires : tie.Need-ask-requires
+ask-requires c κs = search needs
 
 enum-known-q : tie.Need-enum-known-q
 enum-known-q c = search needs
@@ -16,11 +16,11 @@ enum-known-found : tie.Need-enum-known-found
 enum-known-found c = search needs
 
 returns : tie.Need-returns
-returns c = genchain-refused _ _ (sym (ap foundOutcome (c .before .q .given .1)) ∙ c .before .before .before .search .ensures)
+returns c = genchain-refused _ _ (sym (ap foundOutcome (c .before .q .given .1)) ∙ c .before .before .before .ask .ensures)
 
 returns-2 : tie.Need-returns-2
-returns-2 c = genchain-given _ _ (sym (ap foundOutcome (c .before .found .given .1)) ∙ c .before .before .before .search .ensures)
+returns-2 c = genchain-given _ _ (sym (ap foundOutcome (c .before .found .given .1)) ∙ c .before .before .before .ask .ensures)
 
 pub genchain-spec : {M : Type 1} → statement M
 genchain-spec =
-    tie.close (tie.spec search-requires enum-known-q enum-known-found returns returns-2)
+    tie.close (tie.spec ask-requires enum-known-q enum-known-found returns returns-2)

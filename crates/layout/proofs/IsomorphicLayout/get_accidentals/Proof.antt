@@ -6,8 +6,8 @@ use borrow.Author.Needs.{needs}
 use Rattle.layout.proofs.IsomorphicLayout.get_accidentals.Statement.{statement}
 use Rattle.layout.proofs.IsomorphicLayout.get_accidentals.Tie as tie
 
-search-requires : tie.Need-search-requires
-search-requires c κs = search needs
+ask-requires : tie.Need-ask-requires
+ask-requires c κs = search needs
 
 enum-known-q : tie.Need-enum-known-q
 enum-known-q c = search needs
@@ -16,15 +16,15 @@ enum-known-found : tie.Need-enum-known-found
 enum-known-found c = search needs
 
 accidentals-requires : tie.Need-accidentals-requires
-accidentals-requires c κs = laid-of _ _ (sym (ap foundOutcome (c .before .found .given .1)) ∙ c .before .before .before .search .ensures)
+accidentals-requires c κs = laid-of _ _ (sym (ap foundOutcome (c .before .found .given .1)) ∙ c .before .before .before .ask .ensures)
 
 returns : tie.Need-returns
-returns c = accidentals-refused _ _ (sym (ap foundOutcome (c .before .q .given .1)) ∙ c .before .before .before .search .ensures) _
+returns c = accidentals-refused _ _ (sym (ap foundOutcome (c .before .q .given .1)) ∙ c .before .before .before .ask .ensures) _
 
 returns-2 : tie.Need-returns-2
-returns-2 c = accidentals-given _ _ (sym (ap foundOutcome (c .before .before .found .given .1)) ∙ c .before .before .before .before .search .ensures) _ _ (c .accidentals .ensures)
+returns-2 c = accidentals-given _ _ (sym (ap foundOutcome (c .before .before .found .given .1)) ∙ c .before .before .before .before .ask .ensures) _ _ (c .accidentals .ensures)
 
 pub get-accidentals-spec : {M : Type 1} → statement M
 get-accidentals-spec =
     tie.close
-    (tie.spec search-requires enum-known-q enum-known-found accidentals-requires returns returns-2)
+    (tie.spec ask-requires enum-known-q enum-known-found accidentals-requires returns returns-2)

@@ -10,8 +10,8 @@ use Rattle.layout.proofs.IsomorphicLayout.get_note_name.Tie as tie
 row-requires : tie.Need-row-requires
 row-requires c κs = search needs
 
-find-requires : tie.Need-find-requires
-find-requires c κs = search needs
+ask-with-row-requires : tie.Need-ask-with-row-requires
+ask-with-row-requires c κs = search needs
 
 enum-known-q : tie.Need-enum-known-q
 enum-known-q c = search needs
@@ -21,25 +21,25 @@ enum-known-found c = search needs
 
 write-name-requires : tie.Need-write-name-requires
 write-name-requires c κs =
-    let e = sym (ap foundOutcome (c .before .before .found .given .1)) ∙ c .before .before .before .before .find .ensures in
+    let e = sym (ap foundOutcome (c .before .before .found .given .1)) ∙ c .before .before .before .before .ask-with-row .ensures in
     (row-found _ _ e _ (c .before .before .before .before .before .row .ensures), laid-of _ _ e)
 
 returns : tie.Need-returns
-returns c = filled-refused _ _ (refused-in-room _ _ _ (name-refused _ _ (sym (ap foundOutcome (c .before .q .given .1)) ∙ c .before .before .before .find .ensures) _)) refl
+returns c = filled-refused _ _ (refused-in-room _ _ _ (name-refused _ _ (sym (ap foundOutcome (c .before .q .given .1)) ∙ c .before .before .before .ask-with-row .ensures) _)) refl
 
 same-length : tie.Need-same-length
 same-length c = search needs
 
 returns-2 : tie.Need-returns-2
 returns-2 c =
-    filled-as (name-in-room _ _ (sym (ap foundOutcome (c .before .before .before .before .before .found .given .1)) ∙ c .before .before .before .before .before .before .before .find .ensures) _ _) (c .before .before .write-name .ensures)
+    filled-as (name-in-room _ _ (sym (ap foundOutcome (c .before .before .before .before .before .found .given .1)) ∙ c .before .before .before .before .before .before .before .ask-with-row .ensures) _ _) (c .before .before .write-name .ensures)
 
 pub get-note-name-spec : {M : Type 1} → statement M
 get-note-name-spec =
     tie.close
     (tie.spec
     row-requires
-    find-requires
+    ask-with-row-requires
     enum-known-q
     enum-known-found
     write-name-requires

@@ -7,8 +7,8 @@ use borrow.Author.Needs.{needs}
 use Rattle.layout.proofs.IsomorphicLayout.get_sounded_key.Statement.{statement}
 use Rattle.layout.proofs.IsomorphicLayout.get_sounded_key.Tie as tie
 
-search-requires : tie.Need-search-requires
-search-requires c κs = search needs
+ask-requires : tie.Need-ask-requires
+ask-requires c κs = search needs
 
 enum-known-q : tie.Need-enum-known-q
 enum-known-q c = search needs
@@ -17,15 +17,15 @@ enum-known-found : tie.Need-enum-known-found
 enum-known-found c = search needs
 
 sounded-requires : tie.Need-sounded-requires
-sounded-requires c κs = laid-of _ _ (sym (ap foundOutcome (c .before .found .given .1)) ∙ c .before .before .before .search .ensures)
+sounded-requires c κs = laid-of _ _ (sym (ap foundOutcome (c .before .found .given .1)) ∙ c .before .before .before .ask .ensures)
 
 returns : tie.Need-returns
-returns c = sounded-refused _ _ _ (sym (ap foundOutcome (c .before .q .given .1)) ∙ c .before .before .before .search .ensures)
+returns c = sounded-refused _ _ _ (sym (ap foundOutcome (c .before .q .given .1)) ∙ c .before .before .before .ask .ensures)
 
 returns-2 : tie.Need-returns-2
-returns-2 c = sounded-given _ _ _ (sym (ap foundOutcome (c .before .before .found .given .1)) ∙ c .before .before .before .before .search .ensures) _ (c .sounded .ensures)
+returns-2 c = sounded-given _ _ _ (sym (ap foundOutcome (c .before .before .found .given .1)) ∙ c .before .before .before .before .ask .ensures) _ (c .sounded .ensures)
 
 pub get-sounded-key-spec : {M : Type 1} → statement M
 get-sounded-key-spec =
     tie.close
-    (tie.spec search-requires enum-known-q enum-known-found sounded-requires returns returns-2)
+    (tie.spec ask-requires enum-known-q enum-known-found sounded-requires returns returns-2)

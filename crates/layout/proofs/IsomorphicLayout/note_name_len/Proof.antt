@@ -10,8 +10,8 @@ use Rattle.layout.proofs.IsomorphicLayout.note_name_len.Tie as tie
 row-requires : tie.Need-row-requires
 row-requires c κs = search needs
 
-find-requires : tie.Need-find-requires
-find-requires c κs = search needs
+ask-with-row-requires : tie.Need-ask-with-row-requires
+ask-with-row-requires c κs = search needs
 
 enum-known-q : tie.Need-enum-known-q
 enum-known-q c = search needs
@@ -21,18 +21,18 @@ enum-known-found c = search needs
 
 plan-key-requires : tie.Need-plan-key-requires
 plan-key-requires c κs =
-    let e = sym (ap foundOutcome (c .before .found .given .1)) ∙ c .before .before .before .find .ensures in
+    let e = sym (ap foundOutcome (c .before .found .given .1)) ∙ c .before .before .before .ask-with-row .ensures in
     (row-found _ _ e _ (c .before .before .before .before .row .ensures), laid-of _ _ e)
 
 plan-length-requires : tie.Need-plan-length-requires
 plan-length-requires c κs = search needs
 
 returns : tie.Need-returns
-returns c = ap counted (name-refused _ _ (sym (ap foundOutcome (c .before .q .given .1)) ∙ c .before .before .before .find .ensures) _)
+returns c = ap counted (name-refused _ _ (sym (ap foundOutcome (c .before .q .given .1)) ∙ c .before .before .before .ask-with-row .ensures) _)
 
 returns-2 : tie.Need-returns-2
 returns-2 c =
-    name-count _ _ (sym (ap foundOutcome (c .before .before .before .found .given .1)) ∙ c .before .before .before .before .before .find .ensures) _ _
+    name-count _ _ (sym (ap foundOutcome (c .before .before .before .found .given .1)) ∙ c .before .before .before .before .before .ask-with-row .ensures) _ _
     (planned-length _ _ _ (c .before .plan-key .ensures) _ (c .plan-length .ensures))
 
 pub note-name-len-spec : {M : Type 1} → statement M
@@ -40,7 +40,7 @@ note-name-len-spec =
     tie.close
     (tie.spec
     row-requires
-    find-requires
+    ask-with-row-requires
     enum-known-q
     enum-known-found
     plan-key-requires

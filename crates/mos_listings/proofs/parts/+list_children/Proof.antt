@@ -1,17 +1,14 @@
 -- A run, one pattern more, and the walk from what comes next; the sum of the steps falls with each.
 use Prim.Native.Nat.{ℕ, _<_}
-use mathlib.Core.Path.{_≡_, sym, _∙_, subst}
-use mathlib.Core.Bool.{true}
-use mathlib.Core.Option.{some}
+use mathlib.Core.Path.{sym, _∙_, subst}
 use native.Mathlib.Omega.{arith}
 use borrow.Author.Needs.{needs}
 use borrow.Fn.Kinds.{In}
 use borrow.Fn.PlainCycle.{Measures, is, falls, and}
 use Rattle.text.proofs.Writing.{wrote-length}
-use Rattle.mos.specs.declared.Mos.{Mos}
-use Rattle.mos.specs.Patterns.{isPattern, stepsOf, childOf}
+use Rattle.mos.specs.Patterns.{stepsOf}
 use Rattle.mos.specs.Walks.{children}
-use Rattle.mos.proofs.Descent.{child-at, child-falls, child-keeps-pattern}
+use Rattle.mos.proofs.Descent.{child-at, child-falls}
 use Rattle.mos.proofs.Sequences.{children-follow, none-of}
 use Rattle.mos_listings.proofs.Runs.{listing-room, listing-more, listing-end, listing-rest, listing-whole}
 use Rattle.mos_listings.proofs.parts.list_children.Reads as list-children
@@ -23,12 +20,6 @@ use Rattle.mos_listings.proofs.parts.list_child_run.Reads as list-child
 use Rattle.mos_listings.proofs.parts.put_pattern.Reads as put-pattern-reads
 use Rattle.mos_listings.proofs.parts.+list_children.{statement}
 use Rattle.mos_listings.proofs.parts.+list_children.Tie.{close}
-
-keeps : (m c : Mos) → childOf m ≡ some c → isPattern m ≡ true → isPattern c ≡ true
-keeps = λ m c e. child-keeps-pattern (child-at e)
-
-lessens : (m c : Mos) → childOf m ≡ some c → stepsOf c < stepsOf m
-lessens = λ m c e. child-falls (child-at e)
 
 abbrev μ-list-children : Measures 1 list-children-kinds.ps ℕ
 μ-list-children κs a = stepsOf (a .0)
@@ -59,7 +50,7 @@ list-child-run-requires t c κs = c .before .before .pre .1
 
 put-pattern-requires : (t : ℕ) → list-children-lts.Need-put-pattern-requires (calls t) (list-children-at t) list-children.Post
 put-pattern-requires t c κs =
-    listing-room childOf children stepsOf children-follow keeps lessens _ _ (c .before .before .before .before .list-child-run .ensures) (c .before .before .before .before .before .before .before .pre .1 .1)
+    listing-room children (λ m. m) children-follow _ _ (c .before .before .before .before .list-child-run .ensures) (c .before .before .before .before .before .before .before .pre .1 .1)
 
 has-child-requires : (t : ℕ) → list-children-lts.Need-has-child-requires (calls t) (list-children-at t) list-children.Post
 has-child-requires t c κs = search needs
@@ -72,11 +63,11 @@ list-children-requires t c κs =
     let start = c .before .before .before .before .before .before .before .before .before .before .before .before .before .before in
     let run = c .before .before .before .before .before .before .before .before .before .before .before .list-child-run .ensures in
     let there = c .before .child-of .ensures in
-    let more = listing-more childOf children stepsOf children-follow keeps lessens _ _ run _ there (c .before .before .before .before .before .before .put-pattern .ensures) in (
-      subst (λ (j : ℕ). stepsOf (c .before .child-of .result) < j) (start .pre .0) (omega (arith, run .falls, lessens _ _ there)),
+    let more = listing-more children (λ m. m) children-follow _ _ run _ there (c .before .before .before .before .before .before .put-pattern .ensures) in (
+      subst (λ (j : ℕ). stepsOf (c .before .child-of .result) < j) (start .pre .0) (omega (arith, run .falls, child-falls (child-at there))),
       (
         more .pattern,
-        listing-rest childOf children stepsOf children-follow keeps lessens _ _ more (start .pre .1 .1),
+        listing-rest children (λ m. m) children-follow _ _ more (start .pre .1 .1),
       ),
     )
 
@@ -88,8 +79,8 @@ same-length t c =
 
 returns : (t : ℕ) → list-children-lts.Need-returns (calls t) (list-children-at t) list-children.Post
 returns t c =
-    listing-whole childOf children stepsOf children-follow keeps lessens _ _
-    (listing-more childOf children stepsOf children-follow keeps lessens _ _ (c .before .before .before .before .before .before .before .before .before .before .before .before .before .before .list-child-run .ensures) _ (c .before .before .before .before .child-of .ensures) (c .before .before .before .before .before .before .before .before .before .put-pattern .ensures))
+    listing-whole children (λ m. m) children-follow _ _
+    (listing-more children (λ m. m) children-follow _ _ (c .before .before .before .before .before .before .before .before .before .before .before .before .before .before .list-child-run .ensures) _ (c .before .before .before .before .child-of .ensures) (c .before .before .before .before .before .before .before .before .before .put-pattern .ensures))
     (c .before .before .list-children .ensures)
 
 same-length-2 : (t : ℕ) → list-children-lts.Need-same-length-2 (calls t) (list-children-at t) list-children.Post
@@ -97,7 +88,7 @@ same-length-2 t c = wrote-length (c .before .before .before .before .put-pattern
 
 returns-2 : (t : ℕ) → list-children-lts.Need-returns-2 (calls t) (list-children-at t) list-children.Post
 returns-2 t c =
-    listing-end childOf children stepsOf children-follow keeps lessens _ _ (c .before .before .before .before .before .before .before .before .before .list-child-run .ensures) (none-of _ (sym (c .before .has-child .ensures) ∙ c .if1 .left))
+    listing-end children (λ m. m) children-follow _ _ (c .before .before .before .before .before .before .before .before .before .list-child-run .ensures) (none-of _ (sym (c .before .has-child .ensures) ∙ c .if1 .left))
     (c .before .before .before .before .put-pattern .ensures)
 
 pub +list-children-spec : {M : Type 1} → statement M

@@ -8,8 +8,8 @@ use borrow.Author.Needs.{needs}
 use Rattle.vetchnoon.proofs.layouts.vn_layout.Statement.{statement}
 use Rattle.vetchnoon.proofs.layouts.vn_layout.Tie as tie
 
-search-requires : tie.Need-search-requires
-search-requires c κs = search needs
+ask-requires : tie.Need-ask-requires
+ask-requires c κs = search needs
 
 enum-known-question : tie.Need-enum-known-question
 enum-known-question c = search needs
@@ -21,7 +21,7 @@ enum-known-found : tie.Need-enum-known-found
 enum-known-found c = search needs
 
 solve-requires : tie.Need-solve-requires
-solve-requires c κs = parts-of _ _ (sym (ap foundOutcome (c .before .found .given .1)) ∙ c .before .before .before .search .ensures) .positive
+solve-requires c κs = parts-of _ _ (sym (ap foundOutcome (c .before .found .given .1)) ∙ c .before .before .before .ask .ensures) .positive
 
 slice-aggregate-put : tie.Need-slice-aggregate-put
 slice-aggregate-put c = search needs
@@ -31,7 +31,7 @@ put-requires c κs = search needs
 
 returns : tie.Need-returns
 returns c =
-    fills-refused _ _ (layout-refused _ _ (sym (ap foundOutcome (c .before .before .question .given .1)) ∙ c .before .before .before .before .search .ensures))
+    fills-refused _ _ (layout-refused _ _ (sym (ap foundOutcome (c .before .before .question .given .1)) ∙ c .before .before .before .before .ask .ensures))
     (coded (c .refused .ok) (c .refused .ensures))
 
 same-length : tie.Need-same-length
@@ -39,7 +39,7 @@ same-length c = search needs
 
 returns-2 : tie.Need-returns-2
 returns-2 c =
-    fills-as (layout-given _ _ _ (sym (ap foundOutcome (c .before .before .before .before .before .before .before .before .found .given .1)) ∙ c .before .before .before .before .before .before .before .before .before .before .search .ensures) (c .before .before .before .before .before .before .solve .ensures))
+    fills-as (layout-given _ _ _ (sym (ap foundOutcome (c .before .before .before .before .before .before .before .before .found .given .1)) ∙ c .before .before .before .before .before .before .before .before .before .before .ask .ensures) (c .before .before .before .before .before .before .solve .ensures))
     (c .before .before .put .ok)
     (c .before .before .put .ensures)
 
@@ -47,7 +47,7 @@ pub vn-layout-spec : {M : Type 1} → statement M
 vn-layout-spec =
     tie.close
     (tie.spec
-    search-requires
+    ask-requires
     enum-known-question
     refused-requires
     enum-known-found

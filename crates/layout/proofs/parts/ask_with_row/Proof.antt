@@ -1,10 +1,10 @@
 -- Questions 1 to 3 by `generator`, question 4 by the walk.
 use mathlib.Core.Path.{sym, ap, _∙_}
 use Rattle.answer.specs.Refusals.{numberOutcome}
-use Rattle.layout.proofs.Finding.{generated, find-refused, find-given}
+use Rattle.layout.proofs.Finding.{generated, ask-refused, ask-given}
 use borrow.Author.Needs.{needs}
-use Rattle.layout.proofs.parts.find.Statement.{statement}
-use Rattle.layout.proofs.parts.find.Tie as tie
+use Rattle.layout.proofs.parts.ask_with_row.Statement.{statement}
+use Rattle.layout.proofs.parts.ask_with_row.Tie as tie
 
 generator-requires : tie.Need-generator-requires
 generator-requires c κs = search needs
@@ -22,15 +22,15 @@ with-pattern-requires c κs = (
 )
 
 returns : tie.Need-returns
-returns c = find-refused _ _ (sym (ap numberOutcome (c .before .q .given .1)) ∙ c .before .before .before .generator .ensures)
+returns c = ask-refused _ _ (sym (ap numberOutcome (c .before .q .given .1)) ∙ c .before .before .before .generator .ensures)
 
 returns-2 : tie.Need-returns-2
 returns-2 c =
-    find-given _ _ _ (sym (ap numberOutcome (c .before .before .generator2 .given .1)) ∙ c .before .before .before .before .generator .ensures)
+    ask-given _ _ _ (sym (ap numberOutcome (c .before .before .generator2 .given .1)) ∙ c .before .before .before .before .generator .ensures)
     (c .with-pattern .ensures)
 
-pub find-spec : {M : Type 1} → statement M
-find-spec =
+pub ask-with-row-spec : {M : Type 1} → statement M
+ask-with-row-spec =
     tie.close
     (tie.spec
     generator-requires
