@@ -115,8 +115,14 @@ pub fn ask(layout: IsomorphicLayout) -> FoundAnswer
     ask_with_numbers(layout, chain.num_letters, chain.start)
 }
 
-// The two spellings of a key, by the numbers of a layout.
-fn spelled(octave: u16, generator: u16, num_letters: u16, start: u16, key: u16) -> Accidentals
+// The two spellings of a key, by a layout's numbers, which go one by one: a record would be copied.
+pub(crate) fn accidentals(
+    octave: u16,
+    generator: u16,
+    num_letters: u16,
+    start: u16,
+    key: u16,
+) -> Accidentals
     requires { ⌜ (0 < octave) × (start < «num_letters») ⌝ }
     ensures { λ r. ⌜ r ≡ keyAccidentals octave generator «num_letters» start key ⌝ }
 {
@@ -129,20 +135,6 @@ fn spelled(octave: u16, generator: u16, num_letters: u16, start: u16, key: u16) 
     pergen_spelling::parts::accidentals(solved.reduced_period, format, generation)
 }
 
-// The two spellings of a key.
-pub(crate) fn accidentals(found: Found, key: u16) -> Accidentals
-    requires { ⌜ Laid (layoutOf found) ⌝ }
-    ensures { λ r. ⌜ r ≡ accidentalsIn (layoutOf found) key ⌝ }
-{
-    spelled(
-        found.octave,
-        found.generator,
-        found.num_letters,
-        found.start,
-        key,
-    )
-}
-
 // The plan of a key's name, with the letters of the chain's row. The style goes by the steps: sharp first where the primary is at
 // least the secondary.
 pub(crate) fn plan_key(row: ChainRow, found: Found, key: u16) -> NamePlan
@@ -150,7 +142,13 @@ pub(crate) fn plan_key(row: ChainRow, found: Found, key: u16) -> NamePlan
     ensures { λ r. ⌜ Planned (chainOf (found .chain) .letters) (sharpFirst (layoutOf found)) (accidentalsIn (layoutOf found) key) r ⌝ }
 {
     let pattern = found.pattern;
-    let spelled = accidentals(found, key);
+    let spelled = accidentals(
+        found.octave,
+        found.generator,
+        found.num_letters,
+        found.start,
+        key,
+    );
     plans::plan_name(row, spelled, pattern.secondary_step <= pattern.primary_step)
 }
 
