@@ -69,6 +69,29 @@ pub fn row(code: u16) -> ChainRow
     }
 }
 
+// How many letters a chain has, and the place of key 0's letter.
+pub struct ChainNumbers {
+    pub num_letters: u16,
+    pub start: u16,
+}
+
+// The same, read without the letters: a whole row is copied, which costs more than asking a layout's questions.
+pub fn numbers(code: u16) -> ChainNumbers
+    ensures { λ r. ⌜ (r .«num_letters» ≡ length (chainOf code .letters)) × (r .start ≡ chainOf code .start) ⌝ }
+{
+    if is_chain(code) {
+        let at = code as usize;
+        return ChainNumbers {
+            num_letters: CHAINS[at].num_letters,
+            start: CHAINS[at].start,
+        };
+    }
+    ChainNumbers {
+        num_letters: 0,
+        start: 0,
+    }
+}
+
 // The letters of a row at the front of a slice; how many there are.
 pub(crate) fn put_letters(out: &mut [u16], row: ChainRow) -> usize
     requires { ⌜ TableRow row × Room (now out) 0 (lettersIn row) ⌝ }

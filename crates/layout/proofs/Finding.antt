@@ -49,23 +49,20 @@ module _ (r : IsomorphicLayout) where
   unfolding layoutOutcome
   ask-given G x e p = p ∙ ap (λ (o : Outcome ℕ). andThen o (λ (H : ℕ). withPattern r H (walked r H))) e
 
-  -- with the numbers of the chain's row, and the walk from the generator within the octave
-  module _ (row : ChainRow) (is : row ≡ rowOf (chainOf (r .genchain))) (G step : ℕ) (within : step ≡ G % r .octave) where
+  -- with the chain's number of letters N and its start s, and the walk from the generator within the octave
+  module _ (N s : ℕ) (count : N ≡ lettersOf (r .genchain)) (begin : s ≡ chainOf (r .genchain) .start) (G step : ℕ) (within : step ≡ G % r .octave) where
     abbrev walkedFrom : Option Mos
-    walkedFrom = firstWith (row .«num_letters») (children (mos 1 1 step (r .octave - step)))
+    walkedFrom = firstWith N (children (mos 1 1 step (r .octave - step)))
 
-    abbrev madeOf : Mos → ChainRow → Layout
-    madeOf m w =
-        record { chain = r .genchain; octave = r .octave; generator = G; letters = w .«num_letters»; start = w .start; pattern = m }
+    abbrev madeOf : Mos → ℕ → ℕ → Layout
+    madeOf m letters start =
+        record { chain = r .genchain; octave = r .octave; generator = G; letters = letters; start = start; pattern = m }
 
     same-walk : walkedFrom ≡ walked r G
-    unfolding rowOf
-    same-walk =
-        ap₂ (λ (w : ChainRow) (s : ℕ). firstWith (w .«num_letters») (children (mos 1 1 s (r .octave - s)))) is within
+    same-walk = ap₂ (λ (n k : ℕ). firstWith n (children (mos 1 1 k (r .octave - k)))) count within
 
-    pub walk-met : (m : Mos) → some m ≡ walkedFrom → given (madeOf m row) ≡ withPattern r G (walked r G)
-    unfolding rowOf
-    walk-met m e = ap (λ (w : ChainRow). given (madeOf m w)) is ∙ ap (withPattern r G) (e ∙ same-walk)
+    pub walk-met : (m : Mos) → some m ≡ walkedFrom → given (madeOf m N s) ≡ withPattern r G (walked r G)
+    walk-met m e = ap₂ (λ (n k : ℕ). given (madeOf m n k)) count begin ∙ ap (withPattern r G) (e ∙ same-walk)
 
     pub walk-without : none ≡ walkedFrom → refused 4 ≡ withPattern r G (walked r G)
     walk-without e = ap (withPattern r G) (e ∙ same-walk)

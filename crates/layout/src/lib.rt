@@ -106,7 +106,13 @@ impl IsomorphicLayout {
     {
         match parts::ask(self) {
             FoundAnswer::Refused(q) => AccidentalsAnswer::Refused(q),
-            FoundAnswer::Given(found) => AccidentalsAnswer::Given(parts::accidentals(found, key)),
+            FoundAnswer::Given(found) => AccidentalsAnswer::Given(parts::accidentals(
+                found.octave,
+                found.generator,
+                found.num_letters,
+                found.start,
+                key,
+            )),
         }
     }
 

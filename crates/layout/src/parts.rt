@@ -20,6 +20,7 @@ ghost use lib.ListN.{length};
 ghost use Rattle.answer.specs.Lent.{heldIn, Filled};
 ghost use Rattle.answer.specs.Refusals.{numberOutcome, countOutcome};
 ghost use Rattle.genchain.specs.Chains.{chainOf, rowOf};
+ghost use Rattle.pergen.specs.Spelling.{keyAccidentals};
 ghost use Rattle.mos.specs.Patterns.{genesis};
 ghost use Rattle.mos.specs.Walks.{children, firstWith};
 ghost use Rattle.notes.specs.Parts.{Planned};
@@ -61,12 +62,16 @@ pub fn within_octave(octave: u16, generator: u16) -> u16
 }
 
 // The layout with this generator, and the pattern that the walk from its genesis meets (4).
-fn with_pattern(layout: IsomorphicLayout, row: ChainRow, generator: u16) -> FoundAnswer
-    requires { ⌜ (row ≡ rowOf (chainOf (layout .genchain))) × (0 < layout .octave) ⌝ }
+fn with_pattern(
+    layout: IsomorphicLayout,
+    num_letters: u16,
+    start: u16,
+    generator: u16,
+) -> FoundAnswer
+    requires { ⌜ («num_letters» ≡ lettersOf (layout .genchain)) × (start ≡ chainOf (layout .genchain) .start) × (0 < layout .octave) ⌝ }
     ensures { λ r. ⌜ foundOutcome r ≡ withPattern layout generator (firstWith (lettersOf (layout .genchain)) (children (genesis (layout .octave) generator))) ⌝ }
 {
     let octave = layout.octave;
-    let num_letters = row.num_letters;
     let step = within_octave(octave, generator);
     let mut found: [u16; 4] = [0, 0, 0, 0];
     // from the genesis: both counts 1, and the steps
@@ -76,11 +81,22 @@ fn with_pattern(layout: IsomorphicLayout, row: ChainRow, generator: u16) -> Foun
             octave,
             generator,
             num_letters,
-            start: row.start,
+            start,
             pattern: mos::parts::pattern_of(found),
         });
     }
     FoundAnswer::Refused(Refusal::Pattern)
+}
+
+// Questions 1 to 4, of a layout whose chain has so many letters and this start. Two numbers, and no row: they stay in registers.
+fn ask_with_numbers(layout: IsomorphicLayout, num_letters: u16, start: u16) -> FoundAnswer
+    requires { ⌜ («num_letters» ≡ lettersOf (layout .genchain)) × (start ≡ chainOf (layout .genchain) .start) ⌝ }
+    ensures { λ r. ⌜ foundOutcome r ≡ layoutOutcome layout ⌝ }
+{
+    match genchain_generators::generator(layout.genchain, layout.octave, layout.tritave) {
+        NumberAnswer::Refused(q) => FoundAnswer::Refused(q),
+        NumberAnswer::Given(generator) => with_pattern(layout, num_letters, start, generator),
+    }
 }
 
 // Questions 1 to 4, of a layout whose chain has this row.
@@ -88,29 +104,33 @@ pub fn ask_with_row(layout: IsomorphicLayout, row: ChainRow) -> FoundAnswer
     requires { ⌜ row ≡ rowOf (chainOf (layout .genchain)) ⌝ }
     ensures { λ r. ⌜ foundOutcome r ≡ layoutOutcome layout ⌝ }
 {
-    match genchain_generators::generator(layout.genchain, layout.octave, layout.tritave) {
-        NumberAnswer::Refused(q) => FoundAnswer::Refused(q),
-        NumberAnswer::Given(generator) => with_pattern(layout, row, generator),
-    }
+    ask_with_numbers(layout, row.num_letters, row.start)
 }
 
 // Questions 1 to 4.
 pub fn ask(layout: IsomorphicLayout) -> FoundAnswer
     ensures { λ r. ⌜ foundOutcome r ≡ layoutOutcome layout ⌝ }
 {
-    ask_with_row(layout, rows::row(layout.genchain))
+    let chain = rows::numbers(layout.genchain);
+    ask_with_numbers(layout, chain.num_letters, chain.start)
 }
 
-// The two spellings of a key.
-pub(crate) fn accidentals(found: Found, key: u16) -> Accidentals
-    requires { ⌜ Laid (layoutOf found) ⌝ }
-    ensures { λ r. ⌜ r ≡ accidentalsIn (layoutOf found) key ⌝ }
+// The two spellings of a key, by a layout's numbers, which go one by one: a record would be copied.
+pub(crate) fn accidentals(
+    octave: u16,
+    generator: u16,
+    num_letters: u16,
+    start: u16,
+    key: u16,
+) -> Accidentals
+    requires { ⌜ (0 < octave) × (start < «num_letters») ⌝ }
+    ensures { λ r. ⌜ r ≡ keyAccidentals octave generator «num_letters» start key ⌝ }
 {
-    let solved = euclid::solve(found.octave, found.generator);
+    let solved = euclid::solve(octave, generator);
     let generation = euclid::generation(solved, key);
     let format = AccidentalsFormat {
-        num_symbols: found.num_letters,
-        genchain_origin: found.start,
+        num_symbols: num_letters,
+        genchain_origin: start,
     };
     pergen_spelling::parts::accidentals(solved.reduced_period, format, generation)
 }
@@ -122,7 +142,13 @@ pub(crate) fn plan_key(row: ChainRow, found: Found, key: u16) -> NamePlan
     ensures { λ r. ⌜ Planned (chainOf (found .chain) .letters) (sharpFirst (layoutOf found)) (accidentalsIn (layoutOf found) key) r ⌝ }
 {
     let pattern = found.pattern;
-    let spelled = accidentals(found, key);
+    let spelled = accidentals(
+        found.octave,
+        found.generator,
+        found.num_letters,
+        found.start,
+        key,
+    );
     plans::plan_name(row, spelled, pattern.secondary_step <= pattern.primary_step)
 }
 

@@ -1,7 +1,8 @@
 -- Questions 1 to 4, then the two spellings.
 use mathlib.Core.Path.{sym, ap, _∙_}
+use Rattle.layout.specs.Layouts.{accidentalsIn}
 use Rattle.layout.specs.Parts.{foundOutcome}
-use Rattle.layout.proofs.Calls.{accidentals-refused, accidentals-given, laid-of}
+use Rattle.layout.proofs.Calls.{accidentals-refused, accidentals-given, parts-of}
 use borrow.Author.Needs.{needs}
 use Rattle.layout.proofs.IsomorphicLayout.get_accidentals.Statement.{statement}
 use Rattle.layout.proofs.IsomorphicLayout.get_accidentals.Tie as tie
@@ -16,12 +17,15 @@ enum-known-found : tie.Need-enum-known-found
 enum-known-found c = search needs
 
 accidentals-requires : tie.Need-accidentals-requires
-accidentals-requires c κs = laid-of _ _ (sym (ap foundOutcome (c .before .found .given .1)) ∙ c .before .before .before .ask .ensures)
+accidentals-requires c κs =
+    let p = parts-of _ _ (sym (ap foundOutcome (c .before .found .given .1)) ∙ c .before .before .before .ask .ensures) in
+    (p .positive, p .start-below)
 
 returns : tie.Need-returns
 returns c = accidentals-refused _ _ (sym (ap foundOutcome (c .before .q .given .1)) ∙ c .before .before .before .ask .ensures) _
 
 returns-2 : tie.Need-returns-2
+unfolding accidentalsIn
 returns-2 c = accidentals-given _ _ (sym (ap foundOutcome (c .before .before .found .given .1)) ∙ c .before .before .before .before .ask .ensures) _ _ (c .accidentals .ensures)
 
 pub get-accidentals-spec : {M : Type 1} → statement M

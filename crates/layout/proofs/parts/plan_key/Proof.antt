@@ -1,16 +1,19 @@
 -- The plan of the key's spellings, in the style that the steps give.
+use Rattle.layout.specs.Layouts.{accidentalsIn}
+use Rattle.layout.proofs.Finding.{laid}
 use Rattle.layout.proofs.Calls.{row-of-layout, plan-of-layout}
 use borrow.Author.Needs.{needs}
 use Rattle.layout.proofs.parts.plan_key.Statement.{statement}
 use Rattle.layout.proofs.parts.plan_key.Tie as tie
 
 accidentals-requires : tie.Need-accidentals-requires
-accidentals-requires c κs = search needs
+accidentals-requires c κs = let p = laid _ (c .before .pre .1) in (p .positive, p .start-below)
 
 plan-name-requires : tie.Need-plan-name-requires
 plan-name-requires c κs = row-of-layout _ (c .before .before .before .pre .1) _ (c .before .before .before .pre .0)
 
 returns : tie.Need-returns
+unfolding accidentalsIn
 returns c =
     plan-of-layout _ (c .before .before .before .before .pre .1) _ (c .before .before .before .before .pre .0) _ _ (c .before .before .accidentals .ensures) _ (c .plan-name .ensures)
 

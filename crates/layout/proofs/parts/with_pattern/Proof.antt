@@ -14,25 +14,22 @@ within-octave-requires : tie.Need-within-octave-requires
 within-octave-requires c κs = search needs
 
 sub-seek : tie.Need-sub-seek
-sub-seek c = omega (arith, c .within-octave .ensures, mod-lt (c .before .args .generator) (c .before .pre .1))
-
-cast-seek : tie.Need-cast-seek
-cast-seek c = search needs
+sub-seek c = omega (arith, c .within-octave .ensures, mod-lt (c .before .args .generator) (c .before .pre .2))
 
 seek-requires : tie.Need-seek-requires
-seek-requires c κs = rw (c .before .within-octave .ensures) (made-patterns .of-genesis _ _ (c .before .before .pre .1) (search needs))
+seek-requires c κs = rw (c .before .within-octave .ensures) (made-patterns .of-genesis _ _ (c .before .before .pre .2) (search needs))
 
 pattern-of-requires : tie.Need-pattern-of-requires
 pattern-of-requires c κs = search needs
 
 returns : tie.Need-returns
 returns c =
-    walk-met _ _ (c .before .before .before .before .before .pre .0) _ _ (c .before .before .before .before .within-octave .ensures) _
+    walk-met _ _ _ (c .before .before .before .before .before .pre .0) (c .before .before .before .before .before .pre .1) _ _ (c .before .before .before .before .within-octave .ensures) _
     (ap some (c .pattern-of .ensures) ∙ meets-found _ _ (c .before .before .seek .ensures) (c .before .if1 .taken))
 
 returns-2 : tie.Need-returns-2
 returns-2 c =
-    walk-without _ _ (c .before .before .before .before .pre .0) _ _ (c .before .before .before .within-octave .ensures)
+    walk-without _ _ _ (c .before .before .before .before .pre .0) (c .before .before .before .before .pre .1) _ _ (c .before .before .before .within-octave .ensures)
     (meets-nothing _ _ (c .before .seek .ensures) (c .if1 .left))
 
 pub with-pattern-spec : {M : Type 1} → statement M
@@ -41,7 +38,6 @@ with-pattern-spec =
     (tie.spec
     within-octave-requires
     sub-seek
-    cast-seek
     seek-requires
     pattern-of-requires
     returns
