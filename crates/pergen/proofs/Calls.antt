@@ -1,7 +1,7 @@
 -- From the parts to what the calls answer: one law for each way in which a call ends.
 use Prim.Native.Nat.{ℕ, zero, _*_, _/_, _%_, _≤_, _<_}
 use mathlib.Core.Path.{_≡_, sym, ap, ap₂, _∙_}
-use lib.IntN.{ℤ}
+use lib.IntN.{ℤ, pos}
 use borrow.Author.Tests.{lt-ltb, le-ltb}
 use native.Mathlib.Nat.{pos-of-ne-zero, div-one, div-le-self, mod-lt, mul-le-mul}
 use native.Mathlib.Omega.{arith}
@@ -23,6 +23,7 @@ use Rattle.pergen.specs.declared.Accidentals.{Accidentals}
 use Rattle.pergen.specs.declared.Spelling.{Spelling}
 use Rattle.pergen.specs.declared.euclid.Solved.{Solved}
 use Rattle.pergen.proofs.Inverse.{cycles-positive, reduced-positive}
+use Rattle.pergen.proofs.Keys.{keys-from-zero-on}
 
 -- ---- question 2, for each call
 
@@ -164,6 +165,16 @@ module _ (P G : ℕ) (s : Solved) (is : s ≡ solvedOf P G) where
   pub degree-small : (i : ℕ) (g : Generation) → zero < P → g ≡ generationFrom s i → g .degree < s .«reduced_period»
   unfolding generationFrom
   degree-small i g hP e = rw e (mod-lt _ (solved-keys hP))
+
+  -- of a key from 0 on, in any octave
+  pub accidentals-from-zero : (N o i : ℕ) (g : Generation) (a : Accidentals) → zero < P → g ≡ generationFrom s i
+      → a ≡ accidentalsOf (s .«reduced_period») N o (g .degree) (g .cycle) → a ≡ keyAccidentals P G N o (pos i)
+  unfolding solvedOf generationFrom degree cycle
+  accidentals-from-zero N o i g a hP e q =
+      q
+      ∙ ap₂ (λ (x : Solved) (y : Generation). accidentalsOf (x .«reduced_period») N o (y .degree) (y .cycle)) is
+      (e ∙ ap (λ (x : Solved). generationFrom x i) is)
+      ∙ sym (keys-from-zero-on P G hP i .spellings-stay N o)
 
   -- of a key that was brought round the period
   module _ (key : ℤ) (i : ℕ) (round : i ≡ remainder key P) where

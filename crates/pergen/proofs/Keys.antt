@@ -147,6 +147,13 @@ module _ (P G : ℕ) (hP : zero < P) where
         h .0,
       )
 
+  -- a key that was brought round the period has the spellings of the key
+  pub key-round : (N o : ℕ) (key : ℤ) (i : ℕ) → i ≡ remainder key P → keyAccidentals P G N o (pos i) ≡ keyAccidentals P G N o key
+  unfolding keyAccidentals cycleOf keyDegree keyCycle
+  key-round N o key i e =
+      ap (λ (j : ℕ). accidentalsOf (reduced P G) N o (degree P G j) (shown (cycles P G) (cycle P G j)))
+      (ap (λ (j : ℕ). j % P) e ∙ mod-eq-of-lt (remainder-below key P hP))
+
 pub keys-from-zero-on : KeysFromZeroOn
 unfolding keyDegree keyCycle cycleOf keyAccidentals
 keys-from-zero-on P G hP i =
