@@ -136,7 +136,7 @@ module _ (P G : ℕ) (hP : zero < P) where
   key-degree-sounds key = degree-sounds (remainder key P) ∙ mod-eq-of-lt (remainder-below key P hP)
 
   -- the formulas of two numbers agree where the keys that they sound do
-  formulas-agree : (i j : ℕ) → i % P ≡ j % P → (degree P G i ≡ degree P G j) × (cycle P G i ≡ cycle P G j)
+  pub formulas-agree : (i j : ℕ) → i % P ≡ j % P → (degree P G i ≡ degree P G j) × (cycle P G i ≡ cycle P G j)
   formulas-agree i j e =
       let h : (cycle P G i ≡ cycle P G j) × Apart (reduced P G) (pos (degree P G i)) (pos (degree P G j))
       = spellings-of-one-key P G hP (pos (degree P G i)) (pos (degree P G j)) (cycle P G i) (cycle P G j)
