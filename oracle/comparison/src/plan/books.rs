@@ -151,16 +151,21 @@ fn put_number(book: &mut [u8], place: usize, number: u32) {
     book[place..place + 4].copy_from_slice(&number.to_le_bytes());
 }
 
+/// A key that such bytes may have, or one that no book has.
+fn any_key(randoms: &mut Randoms) -> i32 {
+    randoms.of(&[0, 1, 2, 3, -1, -2, i32::MIN, i32::MAX])
+}
+
 /// Random bytes; and small numbers, which come closer to a book.
 fn any_bytes(tally: &mut Tally, mut randoms: Randoms) {
     for _ in 0..2_000 {
         let length = randoms.below(64) as usize;
         let mut bytes = randoms.bytes(length);
-        subject::find(tally, &bytes, randoms.below(6) as i32 - 2);
+        subject::find(tally, &bytes, any_key(&mut randoms));
         for (place, byte) in bytes.iter_mut().enumerate() {
             *byte = if place % 4 == 0 { *byte % 40 } else { 0 };
         }
-        subject::find(tally, &bytes, randoms.below(6) as i32 - 2);
+        subject::find(tally, &bytes, any_key(&mut randoms));
     }
 }
 
