@@ -1,7 +1,7 @@
 -- The names of a layout's keys, and the key of the octave that a spelling in a layout sounds (document 01, "Pergen and spelling").
 use Prim.Native.Nat.{ℕ, _<_}
 use mathlib.Core.List.{List}
-use lib.IntN.{ℤ}
+use lib.IntN.{ℤ, pos}
 use Rattle.genchain.specs.Chains.{chainOf}
 use Rattle.notes.specs.Names.{printed, printedText, nameText}
 use Rattle.pergen.specs.declared.Cycle.{Cycle}
@@ -43,3 +43,7 @@ textIn l c spellings = printedText (chainOf (l .chain) .letters) (sharpFirst l) 
 unfoldable pub nameIn : Layout → ℤ → List ℕ
 unfolding nameText accidentalsIn
 nameIn l key = nameText (chainOf (l .chain) .letters) (sharpFirst l) (accidentalsIn l key)
+
+-- The names of the keys from 0 on, as books and tables list them.
+abbrev pub listedName : Layout → ℕ → List ℕ
+listedName l key = nameIn l (pos key)
