@@ -2,6 +2,7 @@
 use Prim.Native.Nat.{ℕ, _+_}
 use mathlib.Core.List.{List}
 use mathlib.Core.Path.{_≡_}
+use lib.IntN.{ℤ}
 use lib.ListN.{take, drop}
 use denote.Ref.{RefT}
 use Rattle.answer.specs.Outcome.{Outcome, given, refused}
@@ -28,7 +29,7 @@ partAt (given place) book = part book (place .offset) (place .length)
 partAt (refused n) book = part book 0 0
 
 -- "A lookup hands back the part of the caller's book that holds the name."
-unfoldable pub namePart : Slice → ℕ → Slice
+unfoldable pub namePart : Slice → ℤ → Slice
 unfolding findOutcome
 namePart book key = partAt (findOutcome (book .bytes) key) book
 
@@ -37,11 +38,11 @@ abbrev pub numberAt : Outcome Place → ℕ
 numberAt (given place) = 0
 numberAt (refused n) = n
 
-unfoldable pub nameRefusal : List ℕ → ℕ → ℕ
+unfoldable pub nameRefusal : List ℕ → ℤ → ℕ
 unfolding findOutcome
 nameRefusal book key = numberAt (findOutcome book key)
 
 -- The promise of a lookup: the part that it hands back, and the number that it leaves in the caller's `refusal`.
-pub record LookedUp (book : Slice) (key : ℕ) (name : Slice) (refusal : ℕ) : Type 0 where
+pub record LookedUp (book : Slice) (key : ℤ) (name : Slice) (refusal : ℕ) : Type 0 where
   pub is-part : name ≡ namePart book key
   pub is-number : refusal ≡ nameRefusal (book .bytes) key

@@ -73,16 +73,20 @@ pub fn count(book: &[u8]) -> KeysAnswer
     KeysAnswer::Refused(Refusal::BookCover)
 }
 
-// Where the key's name stands in the book: 11, 12, 13.
-pub fn find(book: &[u8], key: u32) -> FindAnswer
+// Where the key's name stands in the book: 11, 12, 13. A book's keys begin at 0, so 13 refuses a key below 0 too.
+pub fn find(book: &[u8], key: i32) -> FindAnswer
     ensures { λ r. ⌜ findAnswered r ≡ findOutcome (now (book .entry)) key ⌝ }
 {
     match count(book) {
         KeysAnswer::Given(keys) => {
-            if keys <= key {
+            if key < 0 {
                 return FindAnswer::Refused(Refusal::BookKey);
             }
-            let pair = 4 + 8 * (key as usize);
+            let index = key as u32;
+            if keys <= index {
+                return FindAnswer::Refused(Refusal::BookKey);
+            }
+            let pair = 4 + 8 * (index as usize);
             let offset = read_u32(book, pair);
             let length = read_u32(book, pair + 4);
             FindAnswer::Found(Place { offset, length })
@@ -94,7 +98,7 @@ pub fn find(book: &[u8], key: u32) -> FindAnswer
 // The key's name, as the part of the caller's book that holds it: 11, 12, 13.
 // An enum cannot hold the part, so the refusal's number stands beside it in `refusal`: 0 where a name is found.
 // A refusal hands back the empty part at the book's front.
-pub fn name<'a>(book: &'a [u8], key: u32, refusal: &mut u8) -> &'a [u8]
+pub fn name<'a>(book: &'a [u8], key: i32, refusal: &mut u8) -> &'a [u8]
     ensures { λ r. ⌜ LookedUp (slice (book .entry)) key (slice r) (now (refusal .exit)) ⌝ }
 {
     match find(book, key) {

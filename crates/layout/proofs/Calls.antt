@@ -2,15 +2,19 @@
 use Prim.Native.Nat.{ℕ}
 use mathlib.Core.Path.{_≡_, sym, ap, _∙_, subst}
 use mathlib.Core.List.{List}
+use lib.IntN.{ℤ, pos}
 use lib.ListN.{length}
 use Rattle.answer.specs.Outcome.{Outcome, given, refused, andThen}
 use Rattle.answer.specs.Lent.{heldIn, counted, Filled}
 use Rattle.genchain.specs.declared.rows.ChainRow.{ChainRow}
 use Rattle.genchain.specs.Chains.{chainOf, rowOf, TableRow, lettersIn}
 use Rattle.genchain.proofs.TableRows.{table-row, row-letters}
+use Rattle.math.specs.Division.{remainder}
+use Rattle.notes.specs.Names.{nameText}
 use Rattle.notes.specs.Parts.{planText, Planned, Measured}
 use Rattle.notes.specs.declared.plans.NamePlan.{NamePlan}
 use Rattle.pergen.specs.declared.Accidentals.{Accidentals}
+use Rattle.pergen.proofs.Keys.{key-round}
 use Rattle.layout.specs.Layouts.{Layout, layoutOutcome, accidentalsIn, sharpFirst}
 use Rattle.layout.specs.ScaleNames.{scaleName}
 use Rattle.layout.specs.Names.{nameIn}
@@ -57,7 +61,7 @@ module _ (r : IsomorphicLayout) (n : ℕ) (e : refused n ≡ layoutOutcome r) wh
   unfolding getMos
   mos-refused = of-refused r _ n e
 
-  pub accidentals-refused : (key : ℕ) → refused n ≡ getAccidentals r key
+  pub accidentals-refused : (key : ℤ) → refused n ≡ getAccidentals r key
   unfolding getAccidentals
   accidentals-refused key = of-refused r _ n e
 
@@ -65,7 +69,7 @@ module _ (r : IsomorphicLayout) (n : ℕ) (e : refused n ≡ layoutOutcome r) wh
   unfolding getScaleName
   scale-refused = of-refused r _ n e
 
-  pub name-refused : (key : ℕ) → refused n ≡ getNoteName r key
+  pub name-refused : (key : ℤ) → refused n ≡ getNoteName r key
   unfolding getNoteName
   name-refused key = of-refused r _ n e
 
@@ -86,23 +90,35 @@ module _ (r : IsomorphicLayout) (l : Layout) (e : given l ≡ layoutOutcome r) w
   unfolding getMos
   mos-given = of-given r _ l e
 
-  pub accidentals-given : (key : ℕ) (a : Accidentals) → a ≡ accidentalsIn l key → given a ≡ getAccidentals r key
-  unfolding getAccidentals
-  accidentals-given key a q = ap given q ∙ of-given r _ l e
+  -- of a key that was brought round the octave
+  module _ (key : ℤ) (i : ℕ) (round : i ≡ remainder key (l .octave)) where
+    same-spellings : accidentalsIn l (pos i) ≡ accidentalsIn l key
+    unfolding accidentalsIn
+    same-spellings = key-round (l .octave) (l .generator) (parts-of r l e .positive) (l .letters) (l .start) key i round
+
+    pub same-name : nameIn l (pos i) ≡ nameIn l key
+    unfolding nameIn
+    same-name = ap (nameText (chainOf (l .chain) .letters) (sharpFirst l)) same-spellings
+
+    pub accidentals-given : (a : Accidentals) → a ≡ accidentalsIn l (pos i) → given a ≡ getAccidentals r key
+    unfolding getAccidentals
+    accidentals-given a q = ap given (q ∙ same-spellings) ∙ of-given r _ l e
 
   pub scale-given : given (scaleName (l .chain) (l .pattern)) ≡ getScaleName r
   unfolding getScaleName
   scale-given = of-given r _ l e
 
-  pub name-given : (key : ℕ) → given (nameIn l key) ≡ getNoteName r key
+  pub name-given : (key : ℤ) → given (nameIn l key) ≡ getNoteName r key
   unfolding getNoteName
   name-given key = of-given r _ l e
 
-  pub name-in-room : (key room : ℕ) → heldIn room (nameIn l key) ≡ inRoom room (getNoteName r key)
-  name-in-room key room = ap (λ (o : Outcome (List ℕ)). andThen o (heldIn room)) (name-given key)
+  module _ (key : ℤ) (i : ℕ) (round : i ≡ remainder key (l .octave)) where
+    pub name-in-room : (room : ℕ) → heldIn room (nameIn l (pos i)) ≡ inRoom room (getNoteName r key)
+    name-in-room room =
+        ap (heldIn room) (same-name key i round) ∙ ap (λ (o : Outcome (List ℕ)). andThen o (heldIn room)) (name-given key)
 
-  pub name-count : (key n : ℕ) → n ≡ length (nameIn l key) → given n ≡ counted (getNoteName r key)
-  name-count key n q = ap given q ∙ ap counted (name-given key)
+    pub name-count : (n : ℕ) → n ≡ length (nameIn l (pos i)) → given n ≡ counted (getNoteName r key)
+    name-count n q = ap given (q ∙ ap length (same-name key i round)) ∙ ap counted (name-given key)
 
 -- ---- names along the letters of the chain's row
 
@@ -111,14 +127,14 @@ module _ (l : Layout) (h : Laid l) (row : ChainRow) (is : row ≡ rowOf (chainOf
   row-of-layout = table-row (l .chain) row (laid l h .chain) is
 
   -- the plan of a key's spellings is that of the layout's
-  pub plan-of-layout : (key : ℕ) (a : Accidentals) → a ≡ accidentalsIn l key → (p : NamePlan) → Planned (lettersIn row) (sharpFirst l) a p
+  pub plan-of-layout : (key : ℤ) (a : Accidentals) → a ≡ accidentalsIn l key → (p : NamePlan) → Planned (lettersIn row) (sharpFirst l) a p
       → Planned (chainOf (l .chain) .letters) (sharpFirst l) (accidentalsIn l key) p
   plan-of-layout key a q p planned =
       subst (λ (x : List ℕ). Planned x (sharpFirst l) (accidentalsIn l key) p) (row-letters row (table-row (l .chain) row (laid l h .chain) is))
       (subst (λ (x : Accidentals). Planned (lettersIn row) (sharpFirst l) x p) q planned)
 
 -- a planned name is the key's, and has the length that was measured
-module _ (l : Layout) (key : ℕ) (p : NamePlan) (q : Planned (chainOf (l .chain) .letters) (sharpFirst l) (accidentalsIn l key) p) where
+module _ (l : Layout) (key : ℤ) (p : NamePlan) (q : Planned (chainOf (l .chain) .letters) (sharpFirst l) (accidentalsIn l key) p) where
   pub planned-text : planText p ≡ nameIn l key
   unfolding nameIn
   planned-text = q .text

@@ -1,16 +1,16 @@
 -- Which keys spellings and names mean, in an accepted layout: pergen's theorems for its period and generator, and the reading of names.
-use Prim.Native.Nat.{ℕ, _%_, _<_}
+use Prim.Native.Nat.{ℕ, _<_}
 use mathlib.Core.Path.{_≡_, sym, ap, ap₂, _∙_, subst}
 use mathlib.Core.Logic.{_⊎_, inl, inr}
 use mathlib.Core.List.{List, [], _∷_, List·Memᴰ, List·Memᴰ·not-nil}
 use native.Mathlib.Omega.{arith}
-use lib.IntN.{ℤ, pos}
+use lib.IntN.{ℤ}
 use lib.ListN.{length}
 use Rattle.answer.specs.Outcome.{given}
 use Rattle.answer.proofs.Asked.{given-same}
 use Rattle.genchain.specs.Chains.{chainOf}
-use Rattle.math.specs.Division.{Apart}
-use Rattle.math.proofs.Division.{apart→remainder, remainder→apart}
+use Rattle.math.specs.Division.{remainder, Apart}
+use Rattle.math.proofs.Division.{remainder→apart}
 use Rattle.notes.specs.Names.{printed, firstPrinted, nameText}
 use Rattle.notes.specs.Answers.{chainName}
 use Rattle.notes.specs.Theorems.{Lettered, SameSpelling}
@@ -19,9 +19,9 @@ use Rattle.notes.proofs.OneSpelling.{equal-names-have-one-first-spelling}
 use Rattle.pergen.specs.declared.Cycle.{Cycle}
 use Rattle.pergen.specs.declared.Accidentals.{Accidentals}
 use Rattle.pergen.specs.declared.Spelling.{Spelling}
-use Rattle.pergen.specs.Pergen.{degree, cycle, cycleOf}
+use Rattle.pergen.specs.Pergen.{cycles, shown, keyDegree, keyCycle, cycleOf}
 use Rattle.pergen.specs.Spelling.{accidentalsOf, keyAccidentals, place, sounds, soundedKey, starsOf, sharpSpelling, flatSpelling}
-use Rattle.pergen.proofs.Keys.{spellings-of-one-key, degree-and-cycle-tell-keys-apart, cycle-below}
+use Rattle.pergen.proofs.Keys.{spellings-of-one-key, degree-and-cycle-tell-keys-apart, key-cycle-below}
 use Rattle.pergen.proofs.DegreePlaces.{accidentals-sound-their-key, cycle-kept, stars-are}
 use Rattle.layout.specs.Layouts.{Layout, cyclesIn, reducedIn, accidentalsIn, sharpFirst}
 use Rattle.layout.specs.Names.{placeIn, keyOf, printedIn, cycleIn, textIn, nameIn}
@@ -42,14 +42,14 @@ spellings-sound-one-key r l e x y hx hy =
 
 -- ---- the spellings in a name
 
-module _ (l : Layout) (a : Parts l) (i : ℕ) where
-  stars-below : (s : ℕ) → s ≡ cycle (l .octave) (l .generator) i → s < cyclesIn l
-  stars-below s e = subst (λ (n : ℕ). n < cyclesIn l) (sym e) (cycle-below (l .octave) (l .generator) (a .positive) i)
+module _ (l : Layout) (a : Parts l) (i : ℤ) where
+  stars-below : (s : ℕ) → s ≡ keyCycle (l .octave) (l .generator) i → s < cyclesIn l
+  stars-below s e = subst (λ (n : ℕ). n < cyclesIn l) (sym e) (key-cycle-below (l .octave) (l .generator) (a .positive) i)
 
   -- the cycle that the accidentals hold is the key's
   cycle-is : (accidentalsIn l i) .cycle ≡ cycleIn l i
   unfolding accidentalsIn keyAccidentals
-  cycle-is = cycle-kept (reducedIn l) (l .letters) (l .start) (degree (l .octave) (l .generator) i) (cycleIn l i)
+  cycle-is = cycle-kept (reducedIn l) (l .letters) (l .start) (keyDegree (l .octave) (l .generator) i) (cycleIn l i)
 
   -- both spellings of the key: letters of the chain, its stars, and they sound it
   sharp-sound : SoundsKey l i (sharpSpelling (accidentalsIn l i))
@@ -122,14 +122,11 @@ unfolding keyOf soundedKey
 same-sound l x y s =
     ap₂ (λ (p : ℤ) (k : ℕ). sounds (l .octave) (l .generator) p k) (s .place (l .letters) (l .start)) (s .stars)
 
-same-accidentals : (l : Layout) → Parts l → (i j : ℕ) → i % l .octave ≡ j % l .octave → accidentalsIn l i ≡ accidentalsIn l j
+same-accidentals : (l : Layout) → Parts l → (x y : ℤ) → Apart (l .octave) x y → accidentalsIn l x ≡ accidentalsIn l y
 unfolding accidentalsIn keyAccidentals cycleOf
-same-accidentals l a i j e =
-    let h = degree-and-cycle-tell-keys-apart (l .octave) (l .generator) (a .positive) i j .0 e in
-    ap₂ (λ (d : ℕ) (c : Cycle). accidentalsOf (reducedIn l) (l .letters) (l .start) d c) (h .0) (same-cycle (h .1))
-  where
-    same-cycle : cycle (l .octave) (l .generator) i ≡ cycle (l .octave) (l .generator) j → cycleIn l i ≡ cycleIn l j
-    same-cycle q = rw q
+same-accidentals l a x y apart =
+    let h = degree-and-cycle-tell-keys-apart (l .octave) (l .generator) (a .positive) x y .0 apart in
+    ap₂ (λ (d c : ℕ). accidentalsOf (reducedIn l) (l .letters) (l .start) d (shown (cyclesIn l) c)) (h .0) (h .1)
 
 pub names-tell-keys-apart : NamesTellKeysApart
 unfolding nameIn chainName
@@ -138,17 +135,17 @@ names-tell-keys-apart r l e i j = (there, back)
     a : Parts l
     a = accepted r l e
 
-    there : getNoteName r i ≡ getNoteName r j → Apart (l .octave) (pos i) (pos j)
+    there : getNoteName r i ≡ getNoteName r j → Apart (l .octave) i j
     there q =
         let names = given-same (name-given r l (sym e) i ∙ q ∙ sym (name-given r l (sym e) j)) in
         let same = equal-names-have-one-first-spelling (l .chain) (a .chain) (sharpFirst l) (accidentalsIn l i) (accidentalsIn l j)
         (lettered l a i) (lettered l a j) names in
-        remainder→apart (l .octave) (a .positive) (pos i) (pos j)
+        remainder→apart (l .octave) (a .positive) i j
         (sym (first-sound l a i .sounds) ∙ same-sound l _ _ same ∙ first-sound l a j .sounds)
 
-    back : Apart (l .octave) (pos i) (pos j) → getNoteName r i ≡ getNoteName r j
+    back : Apart (l .octave) i j → getNoteName r i ≡ getNoteName r j
     back q =
         sym (name-given r l (sym e) i)
         ∙ ap (λ (x : Accidentals). given (nameText (chainOf (l .chain) .letters) (sharpFirst l) x))
-        (same-accidentals l a i j (apart→remainder (l .octave) (a .positive) (pos i) (pos j) q))
+        (same-accidentals l a i j q)
         ∙ name-given r l (sym e) j

@@ -2,6 +2,7 @@
 use Prim.Native.Nat.{ℕ}
 use mathlib.Core.List.{List}
 use lib.Dec.{ltb}
+use lib.IntN.{ℤ}
 use Rattle.answer.specs.Outcome.{Outcome, given, refused, ask, andThen}
 use Rattle.answer.specs.Refusals.{numberOf}
 use Rattle.answer.specs.Lent.{heldIn}
@@ -37,7 +38,7 @@ unfoldable pub getMos : IsomorphicLayout → Outcome Mos
 unfolding layoutOutcome
 getMos r = ofLayout r (λ (l : Layout). given (l .pattern))
 
-unfoldable pub getAccidentals : IsomorphicLayout → ℕ → Outcome Accidentals
+unfoldable pub getAccidentals : IsomorphicLayout → ℤ → Outcome Accidentals
 unfolding layoutOutcome accidentalsIn
 getAccidentals r key = ofLayout r (λ (l : Layout). given (accidentalsIn l key))
 
@@ -47,7 +48,7 @@ unfolding layoutOutcome scaleName
 getScaleName r = ofLayout r (λ (l : Layout). given (scaleName (l .chain) (l .pattern)))
 
 -- Questions 1 to 4, then the key's name.
-unfoldable pub getNoteName : IsomorphicLayout → ℕ → Outcome (List ℕ)
+unfoldable pub getNoteName : IsomorphicLayout → ℤ → Outcome (List ℕ)
 unfolding layoutOutcome nameIn
 getNoteName r key = ofLayout r (λ (l : Layout). given (nameIn l key))
 

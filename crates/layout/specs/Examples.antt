@@ -48,17 +48,25 @@ scaleExamples =
 
 pub record NameExample : Type 0 where
   pub layout : IsomorphicLayout
-  pub key : ℕ
+  pub key : ℤ
   pub name : Outcome (List ℕ)
 
 -- D+/E-, flats first where the primary step is the shorter; β in two bytes; parentheses and stars, in the next octave too.
 abbrev pub nameExamples : List NameExample
 nameExamples =
-    record { layout = layout 1 16 25; key = 1; name = given (68 ∷ 43 ∷ 47 ∷ 69 ∷ 45 ∷ []) }
-    ∷ record { layout = layout 0 16 25; key = 12; name = given (206 ∷ 178 ∷ []) }
-    ∷ record { layout = layout 1 24 38; key = 8; name = given (40 ∷ 70 ∷ 35 ∷ 47 ∷ 71 ∷ 98 ∷ 41 ∷ []) }
-    ∷ record { layout = layout 1 24 38; key = 33; name = given (40 ∷ 70 ∷ 35 ∷ 47 ∷ 71 ∷ 98 ∷ 41 ∷ 42 ∷ []) }
-    ∷ record { layout = layout 2 4 6; key = 0; name = refused 4 }
+    record { layout = layout 1 16 25; key = pos 1; name = given (68 ∷ 43 ∷ 47 ∷ 69 ∷ 45 ∷ []) }
+    ∷ record { layout = layout 0 16 25; key = pos 12; name = given (206 ∷ 178 ∷ []) }
+    ∷ record { layout = layout 1 24 38; key = pos 8; name = given (40 ∷ 70 ∷ 35 ∷ 47 ∷ 71 ∷ 98 ∷ 41 ∷ []) }
+    ∷ record { layout = layout 1 24 38; key = pos 33; name = given (40 ∷ 70 ∷ 35 ∷ 47 ∷ 71 ∷ 98 ∷ 41 ∷ 42 ∷ []) }
+    -- below 0 (`negsuc k` is −1 − k): −1 is C#/Db, −12 is D as 0 is; −1 of two cycles is (C#/Db)*; both ends of 32 signed bits, F#/Gb and A
+    ∷ record { layout = layout 1 12 19; key = negsuc 0; name = given (67 ∷ 35 ∷ 47 ∷ 68 ∷ 98 ∷ []) }
+    ∷ record { layout = layout 1 12 19; key = negsuc 11; name = given (68 ∷ []) }
+    ∷ record { layout = layout 1 12 19; key = pos 0; name = given (68 ∷ []) }
+    ∷ record { layout = layout 1 24 38; key = negsuc 0; name = given (40 ∷ 67 ∷ 35 ∷ 47 ∷ 68 ∷ 98 ∷ 41 ∷ 42 ∷ []) }
+    ∷ record { layout = layout 1 12 19; key = negsuc 2147483647; name = given (70 ∷ 35 ∷ 47 ∷ 71 ∷ 98 ∷ []) }
+    ∷ record { layout = layout 1 12 19; key = pos 2147483647; name = given (65 ∷ []) }
+    ∷ record { layout = layout 2 4 6; key = negsuc 0; name = refused 4 }
+    ∷ record { layout = layout 2 4 6; key = pos 0; name = refused 4 }
     ∷ []
 
 -- ---- spellings
@@ -110,21 +118,23 @@ refusedSpellings =
 
 pub record PrintedExample : Type 0 where
   pub layout : IsomorphicLayout
-  pub key : ℕ
+  pub key : ℤ
   pub spellings : Outcome (List Spelling)
 
 abbrev pub printedExamples : List PrintedExample
 printedExamples =
     -- D; D#/Eb; Ebb
-    record { layout = layout 1 12 19; key = 0; spellings = given (spelt 3 (Sharps 0) 0 ∷ []) }
-    ∷ record { layout = layout 1 12 19; key = 1; spellings = given (spelt 3 (Sharps 1) 0 ∷ spelt 5 (Flats 1) 0 ∷ []) }
-    ∷ record { layout = layout 1 31 49; key = 1; spellings = given (spelt 5 (Flats 2) 0 ∷ []) }
+    record { layout = layout 1 12 19; key = pos 0; spellings = given (spelt 3 (Sharps 0) 0 ∷ []) }
+    ∷ record { layout = layout 1 12 19; key = pos 1; spellings = given (spelt 3 (Sharps 1) 0 ∷ spelt 5 (Flats 1) 0 ∷ []) }
+    ∷ record { layout = layout 1 31 49; key = pos 1; spellings = given (spelt 5 (Flats 2) 0 ∷ []) }
     -- (D#/Eb)*, in the next octave too
-    ∷ record { layout = layout 1 24 38; key = 3; spellings = given (spelt 3 (Sharps 1) 1 ∷ spelt 5 (Flats 1) 1 ∷ []) }
-    ∷ record { layout = layout 1 24 38; key = 27; spellings = given (spelt 3 (Sharps 1) 1 ∷ spelt 5 (Flats 1) 1 ∷ []) }
+    ∷ record { layout = layout 1 24 38; key = pos 3; spellings = given (spelt 3 (Sharps 1) 1 ∷ spelt 5 (Flats 1) 1 ∷ []) }
+    ∷ record { layout = layout 1 24 38; key = pos 27; spellings = given (spelt 3 (Sharps 1) 1 ∷ spelt 5 (Flats 1) 1 ∷ []) }
+    -- (D#/Eb)* again, an octave below: key −21
+    ∷ record { layout = layout 1 24 38; key = negsuc 20; spellings = given (spelt 3 (Sharps 1) 1 ∷ spelt 5 (Flats 1) 1 ∷ []) }
     -- D+/E-
-    ∷ record { layout = layout 1 16 25; key = 1; spellings = given (spelt 3 (Flats 1) 0 ∷ spelt 5 (Sharps 1) 0 ∷ []) }
-    ∷ record { layout = layout 2 4 6; key = 0; spellings = refused 4 }
+    ∷ record { layout = layout 1 16 25; key = pos 1; spellings = given (spelt 3 (Flats 1) 0 ∷ spelt 5 (Sharps 1) 0 ∷ []) }
+    ∷ record { layout = layout 2 4 6; key = pos 0; spellings = refused 4 }
     ∷ []
 
 -- Code 1, 24, 38: seven letters and two cycles.

@@ -5,6 +5,7 @@ use mathlib.Core.Option.{Option, none, some}
 use mathlib.Core.Path.{_≡_}
 use lib.ListN.{length}
 use lib.Dec.{leb}
+use lib.IntN.{ℤ}
 use Rattle.answer.specs.Outcome.{Outcome, given, refused, andThen}
 use Rattle.genchain.specs.Chains.{chainOf}
 use Rattle.genchain.specs.Answers.{generatorOutcome}
@@ -69,8 +70,8 @@ cyclesIn l = cycles (l .octave) (l .generator)
 abbrev pub reducedIn : Layout → ℕ
 reducedIn l = reduced (l .octave) (l .generator)
 
--- The spellings of a key.
-unfoldable pub accidentalsIn : Layout → ℕ → Accidentals
+-- The spellings of a key: any number, "round the octave with the remainder that is never negative" (document 02, W-201).
+unfoldable pub accidentalsIn : Layout → ℤ → Accidentals
 unfolding keyAccidentals
 accidentalsIn l key = keyAccidentals (l .octave) (l .generator) (l .letters) (l .start) key
 

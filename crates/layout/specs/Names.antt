@@ -1,7 +1,7 @@
 -- The names of a layout's keys, and the key of the octave that a spelling in a layout sounds (document 01, "Pergen and spelling").
 use Prim.Native.Nat.{ℕ, _<_}
 use mathlib.Core.List.{List}
-use lib.IntN.{ℤ}
+use lib.IntN.{ℤ, pos}
 use Rattle.genchain.specs.Chains.{chainOf}
 use Rattle.notes.specs.Names.{printed, printedText, nameText}
 use Rattle.pergen.specs.declared.Cycle.{Cycle}
@@ -27,12 +27,12 @@ unfolding soundedKey placeIn
 keyOf l x = sounds (l .octave) (l .generator) (placeIn l x) (x .stars)
 
 -- "The spellings in a name are the ones printed"
-unfoldable pub printedIn : Layout → ℕ → List Spelling
+unfoldable pub printedIn : Layout → ℤ → List Spelling
 unfolding printed accidentalsIn
 printedIn l key = printed (sharpFirst l) (accidentalsIn l key)
 
 -- The key's cycle: "i mod n, absent when n is 1". Its number is how many stars the name has.
-abbrev pub cycleIn : Layout → ℕ → Cycle
+abbrev pub cycleIn : Layout → ℤ → Cycle
 cycleIn l key = cycleOf (l .octave) (l .generator) key
 
 -- The text of a name that holds these spellings: one alone, or two with / between, in parentheses if a cycle is present; then the stars.
@@ -40,6 +40,10 @@ abbrev pub textIn : Layout → Cycle → List Spelling → List ℕ
 textIn l c spellings = printedText (chainOf (l .chain) .letters) (sharpFirst l) c spellings
 
 -- The name of a key, as bytes.
-unfoldable pub nameIn : Layout → ℕ → List ℕ
+unfoldable pub nameIn : Layout → ℤ → List ℕ
 unfolding nameText accidentalsIn
 nameIn l key = nameText (chainOf (l .chain) .letters) (sharpFirst l) (accidentalsIn l key)
+
+-- The names of the keys from 0 on, as books and tables list them.
+abbrev pub listedName : Layout → ℕ → List ℕ
+listedName l key = nameIn l (pos key)

@@ -1,13 +1,13 @@
 -- What a reader of key names may rely on, for every accepted layout: every chain code, octave and tritave that questions 1 to 4
 -- let through. `Apart d x y` says that x and y differ by a multiple of d; "whole octaves" are multiples of the octave. Proofs: proofs/.
-use Prim.Native.Nat.{ℕ, _%_, _≤_, _<_}
+use Prim.Native.Nat.{ℕ, _≤_, _<_}
 use mathlib.Core.Path.{_≡_}
 use mathlib.Core.Logic.{_↔_}
 use mathlib.Core.List.{List·Memᴰ}
-use lib.IntN.{pos}
+use lib.IntN.{ℤ}
 use lib.ListN.{length}
 use Rattle.answer.specs.Outcome.{given}
-use Rattle.math.specs.Division.{Apart}
+use Rattle.math.specs.Division.{remainder, Apart}
 use Rattle.pergen.specs.declared.Spelling.{Spelling}
 use Rattle.pergen.specs.Spelling.{starsOf}
 use Rattle.layout.specs.Layouts.{Layout, Accepted, reducedIn}
@@ -24,17 +24,17 @@ SpellingsSoundOneKey =
     → (x y : Spelling) → IsSpelling l x → IsSpelling l y
     → (keyOf l x ≡ keyOf l y) ↔ ((x .stars ≡ y .stars) × Apart (reducedIn l) (placeIn l x) (placeIn l y))
 
--- Of a spelling, and a key by its number:
-pub record SoundsKey (l : Layout) (key : ℕ) (x : Spelling) : Type 0 where
+-- Of a spelling, and a key by its number, which may be below 0:
+pub record SoundsKey (l : Layout) (key : ℤ) (x : Spelling) : Type 0 where
   -- it is one of the layout's,
   pub spelling : IsSpelling l x
   -- it has the stars of the key's name,
   pub stars : x .stars ≡ starsOf (cycleIn l key)
   -- and it sounds that very key, in each octave.
-  pub sounds : keyOf l x ≡ key % l .octave
+  pub sounds : keyOf l x ≡ remainder key (l .octave)
 
 -- Of the name of a key, as the naming call writes it:
-pub record NameSoundsKey (r : IsomorphicLayout) (l : Layout) (key : ℕ) : Type 0 where
+pub record NameSoundsKey (r : IsomorphicLayout) (l : Layout) (key : ℤ) : Type 0 where
   -- its bytes are the text of the printed spellings, of all of them in their order and of no others, and then the key's stars;
   pub bytes : getNoteName r key ≡ given (textIn l (cycleIn l key) (printedIn l key))
   -- there is at least one;
@@ -44,14 +44,14 @@ pub record NameSoundsKey (r : IsomorphicLayout) (l : Layout) (key : ℕ) : Type 
 
 -- Every spelling that stands in a key's name, as the naming call writes it, is one that can be played, and it sounds that very key.
 abbrev pub NamesSoundTheirKey : Type 0
-NamesSoundTheirKey = (r : IsomorphicLayout) (l : Layout) → Accepted r l → (key : ℕ) → NameSoundsKey r l key
+NamesSoundTheirKey = (r : IsomorphicLayout) (l : Layout) → Accepted r l → (key : ℤ) → NameSoundsKey r l key
 
 -- No two keys of an octave have the same name, and the same key of another octave has the same name: the bytes that
--- `get_note_name` writes for two key numbers are equal exactly when the numbers differ by whole octaves.
+-- `get_note_name` writes for two key numbers, of any sign, are equal exactly when the numbers differ by whole octaves.
 abbrev pub NamesTellKeysApart : Type 0
 NamesTellKeysApart =
     (r : IsomorphicLayout) (l : Layout) → Accepted r l
-    → (i j : ℕ) → (getNoteName r i ≡ getNoteName r j) ↔ Apart (l .octave) (pos i) (pos j)
+    → (x y : ℤ) → (getNoteName r x ≡ getNoteName r y) ↔ Apart (l .octave) x y
 
 -- An accepted layout has at least as many keys in a cycle as letters: the branch "R below N" is never reached.
 abbrev pub EnoughKeys : Type 0

@@ -100,8 +100,8 @@ impl IsomorphicLayout {
         }
     }
 
-    // The sharp and the flat spelling of a key (1, 2, 3, 4).
-    pub fn get_accidentals(self, key: u16) -> AccidentalsAnswer
+    // The sharp and the flat spelling of a key; a number below 0 is brought round the octave, as in all calls here (1, 2, 3, 4).
+    pub fn get_accidentals(self, key: i32) -> AccidentalsAnswer
         ensures { λ r. ⌜ accidentalsOutcome r ≡ getAccidentals self key ⌝ }
     {
         match parts::ask(self) {
@@ -111,13 +111,13 @@ impl IsomorphicLayout {
                 found.generator,
                 found.num_letters,
                 found.start,
-                key,
+                math::parts::rem_u16(key, found.octave),
             )),
         }
     }
 
     // How many bytes a key's name has (1, 2, 3, 4).
-    pub fn note_name_len(self, key: u16) -> CountAnswer
+    pub fn note_name_len(self, key: i32) -> CountAnswer
         ensures { λ r. ⌜ countOutcome r ≡ counted (getNoteName self key) ⌝ }
     {
         let row = rows::row(self.genchain);
@@ -126,19 +126,22 @@ impl IsomorphicLayout {
             FoundAnswer::Given(found) => CountAnswer::Given(plans::plan_length(parts::plan_key(
                 row,
                 found,
-                key,
+                math::parts::rem_u16(key, found.octave),
             ))),
         }
     }
 
     // The name of a key, as an engraver cuts it (1, 2, 3, 4, 10).
-    pub fn get_note_name(self, key: u16, out: &mut [u8]) -> CountAnswer
+    pub fn get_note_name(self, key: i32, out: &mut [u8]) -> CountAnswer
         ensures { λ r. ⌜ Filled (inRoom (length (now (out .entry))) (getNoteName self key)) (countOutcome r) (now (out .entry)) (now (out .exit)) ⌝ }
     {
         let row = rows::row(self.genchain);
         match parts::ask_with_row(self, row) {
             FoundAnswer::Refused(q) => CountAnswer::Refused(q),
-            FoundAnswer::Given(found) => parts::write_name(row, found, key, out),
+            FoundAnswer::Given(found) => {
+                let index = math::parts::rem_u16(key, found.octave);
+                parts::write_name(row, found, index, out)
+            }
         }
     }
 

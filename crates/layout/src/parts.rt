@@ -16,6 +16,7 @@ use pergen::Spelling;
 use pergen::euclid;
 ghost use mathlib.Core.Path.{_≡_};
 ghost use Prim.Native.Nat.{_<_, _%_};
+ghost use lib.IntN.{pos};
 ghost use lib.ListN.{length};
 ghost use Rattle.answer.specs.Lent.{heldIn, Filled};
 ghost use Rattle.answer.specs.Refusals.{numberOutcome, countOutcome};
@@ -124,7 +125,7 @@ pub(crate) fn accidentals(
     key: u16,
 ) -> Accidentals
     requires { ⌜ (0 < octave) × (start < «num_letters») ⌝ }
-    ensures { λ r. ⌜ r ≡ keyAccidentals octave generator «num_letters» start key ⌝ }
+    ensures { λ r. ⌜ r ≡ keyAccidentals octave generator «num_letters» start (pos key) ⌝ }
 {
     let solved = euclid::solve(octave, generator);
     let generation = euclid::generation(solved, key);
@@ -139,7 +140,7 @@ pub(crate) fn accidentals(
 // least the secondary.
 pub(crate) fn plan_key(row: ChainRow, found: Found, key: u16) -> NamePlan
     requires { ⌜ (row ≡ rowOf (chainOf (found .chain))) × Laid (layoutOf found) ⌝ }
-    ensures { λ r. ⌜ Planned (chainOf (found .chain) .letters) (sharpFirst (layoutOf found)) (accidentalsIn (layoutOf found) key) r ⌝ }
+    ensures { λ r. ⌜ Planned (chainOf (found .chain) .letters) (sharpFirst (layoutOf found)) (accidentalsIn (layoutOf found) (pos key)) r ⌝ }
 {
     let pattern = found.pattern;
     let spelled = accidentals(
@@ -155,7 +156,7 @@ pub(crate) fn plan_key(row: ChainRow, found: Found, key: u16) -> NamePlan
 // A key's name at the front of a slice that holds it (10).
 pub(crate) fn write_name(row: ChainRow, found: Found, key: u16, out: &mut [u8]) -> CountAnswer
     requires { ⌜ (row ≡ rowOf (chainOf (found .chain))) × Laid (layoutOf found) ⌝ }
-    ensures { λ r. ⌜ Filled (heldIn (length (now (out .entry))) (nameIn (layoutOf found) key)) (countOutcome r) (now (out .entry)) (now (out .exit)) ⌝ }
+    ensures { λ r. ⌜ Filled (heldIn (length (now (out .entry))) (nameIn (layoutOf found) (pos key))) (countOutcome r) (now (out .entry)) (now (out .exit)) ⌝ }
 {
     let plan = plan_key(row, found, key);
     let bytes = plans::plan_length(plan);

@@ -11,7 +11,7 @@ use Rattle.text.specs.LittleEndian.{le32}
 use Rattle.book.proofs.Written.{pair-is, book-is}
 use Rattle.layout.specs.declared.IsomorphicLayout.{IsomorphicLayout}
 use Rattle.layout.specs.Layouts.{Layout, layoutOutcome}
-use Rattle.layout.specs.Names.{nameIn}
+use Rattle.layout.specs.Names.{listedName}
 use Rattle.layout.specs.Answers.{inRoom}
 use Rattle.layout.proofs.Calls.{of-refused, of-given}
 use Rattle.layout_book.specs.LayoutBooks.{bookIn, getBook}
@@ -45,7 +45,7 @@ module _ (r : IsomorphicLayout) (l : Layout) (e : given l ≡ layoutOutcome r) w
   module _ (s : Speller) (w : SpellerOf l s) where
     spelled-book : bookText (nameOf s) (l .octave) ≡ bookIn l
     unfolding bookIn
-    spelled-book = same-book (nameOf s) (nameIn l) (w .names) (l .octave)
+    spelled-book = same-book (nameOf s) (listedName l) (w .names) (l .octave)
 
     pub book-count : (n : ℕ) → n ≡ length (bookText (nameOf s) (l .octave)) → given n ≡ counted (getBook r)
     book-count n q = ap given (q ∙ ap length spelled-book) ∙ ap counted book-given

@@ -11,7 +11,7 @@ use Rattle.book.proofs.Written.{length-book, books-read-back}
 use Rattle.genchain.specs.Chains.{chainOf, rowOf}
 use Rattle.layout.specs.declared.IsomorphicLayout.{IsomorphicLayout}
 use Rattle.layout.specs.Layouts.{Layout, Accepted}
-use Rattle.layout.specs.Names.{nameIn}
+use Rattle.layout.specs.Names.{listedName}
 use Rattle.layout.proofs.Finding.{accepted}
 use Rattle.pergen.specs.Parts.{solvedOf}
 use Rattle.layout_speller.proofs.Rounds.{short-texts}
@@ -22,7 +22,7 @@ use Rattle.layout_book.specs.Theorems.{OffsetsFit, WrittenBookIsRead}
 
 module _ (r : IsomorphicLayout) (l : Layout) (e : Accepted r l) (small : l .octave ≤ 65535) where
   abbrev name : ℕ → List ℕ
-  name = nameIn l
+  name = listedName l
 
   writable : Writable name (l .octave)
   writable =
@@ -45,12 +45,12 @@ offsets-fit r l e small =
       ends = λ k h. omega (
         arith,
         book-length-is r l e small,
-        length-joined-more (nameIn l) k,
-        length-joined-le (nameIn l) (k + 1) (l .octave) (omega arith),
+        length-joined-more (listedName l) k,
+        length-joined-le (listedName l) (k + 1) (l .octave) (omega arith),
       );
     }
 
 pub written-book-is-read : WrittenBookIsRead
 unfolding bookIn
 written-book-is-read r l e small =
-    books-read-back (nameIn l) (l .octave) (writable r l e small)
+    books-read-back (listedName l) (l .octave) (writable r l e small)

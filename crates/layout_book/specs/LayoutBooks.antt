@@ -5,13 +5,13 @@ use Rattle.answer.specs.Outcome.{Outcome, given}
 use Rattle.book.specs.Books.{bookText}
 use Rattle.layout.specs.declared.IsomorphicLayout.{IsomorphicLayout}
 use Rattle.layout.specs.Layouts.{Layout, layoutOutcome}
-use Rattle.layout.specs.Names.{nameIn}
+use Rattle.layout.specs.Names.{nameIn, listedName}
 use Rattle.layout.specs.Answers.{ofLayout}
 
 -- "Writing a layout's book has count P": the names of the keys 0 to octave − 1.
 unfoldable pub bookIn : Layout → List ℕ
 unfolding bookText nameIn
-bookIn l = bookText (nameIn l) (l .octave)
+bookIn l = bookText (listedName l) (l .octave)
 
 -- Questions 1 to 4, then the book: what `write_book` writes, where there is room for it (10).
 unfoldable pub getBook : IsomorphicLayout → Outcome (List ℕ)

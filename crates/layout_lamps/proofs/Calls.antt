@@ -1,14 +1,16 @@
 -- From the plan to what the calls answer: one law for each way in which a call ends.
-use Prim.Native.Nat.{ℕ, _%_, _≤_, _<_}
+use Prim.Native.Nat.{ℕ, _≤_, _<_}
 use mathlib.Core.Path.{_≡_, refl, sym, ap, _∙_}
 use mathlib.Core.Bool.{Bool, true, false}
 use mathlib.Core.List.{List}
+use lib.IntN.{ℤ}
 use lib.ListN.{length}
 use lib.Dec.{leb}
 use borrow.Author.Tests.{le-leb, lt-leb}
 use Rattle.answer.specs.Outcome.{Outcome, given, refused, ask, andThen}
 use Rattle.answer.specs.Lent.{heldIn, counted, Filled}
 use Rattle.answer.proofs.Lent.{filled-refused}
+use Rattle.math.specs.Division.{remainder}
 use Rattle.layout.specs.declared.IsomorphicLayout.{IsomorphicLayout}
 use Rattle.layout.specs.Layouts.{Layout, layoutOutcome}
 use Rattle.layout.specs.Answers.{inRoom}
@@ -28,7 +30,7 @@ module _ (r : IsomorphicLayout) (n : ℕ) (e : refused n ≡ layoutOutcome r) wh
   unfolding getStrip
   strip-refused = of-refused r _ n e
 
-  pub lamp-refused : (key : ℕ) → refused n ≡ getLamp r key
+  pub lamp-refused : (key : ℤ) → refused n ≡ getLamp r key
   unfolding getLamp
   lamp-refused key = of-refused r _ n e
 
@@ -53,10 +55,10 @@ module _ (r : IsomorphicLayout) (l : Layout) (e : given l ≡ layoutOutcome r) (
     unfolding getStrip
     strip-too-deep = ap (λ (b : Bool). ask 9 b (given (stripIn l))) (sym no) ∙ of-given r _ l e
 
-    pub lamp-too-deep : (key : ℕ) → refused 9 ≡ getLamp r key
+    pub lamp-too-deep : (key : ℤ) → refused 9 ≡ getLamp r key
     unfolding getLamp
     lamp-too-deep key =
-        ap (λ (b : Bool). ask 9 b (given (lampIn l (key % l .octave)))) (sym no) ∙ of-given r _ l e
+        ap (λ (b : Bool). ask 9 b (given (lampIn l (remainder key (l .octave))))) (sym no) ∙ of-given r _ l e
 
   module _ (few : T ≤ 202) where
     yes : hasLampsIn l ≡ true
@@ -77,16 +79,17 @@ module _ (r : IsomorphicLayout) (l : Layout) (e : given l ≡ layoutOutcome r) (
         → Filled (inRoom (length xs) (getStrip r)) a xs ys
     strip-written {xs = xs} f = filled-as (ap (λ (o : Outcome (List ℕ)). andThen o (heldIn (length xs))) strip-given) f
 
-    lamp-of-layout : (key : ℕ) → given (lampIn l (key % l .octave)) ≡ getLamp r key
+    lamp-of-layout : (key : ℤ) → given (lampIn l (remainder key (l .octave))) ≡ getLamp r key
     unfolding getLamp
     lamp-of-layout key =
-        ap (λ (b : Bool). ask 9 b (given (lampIn l (key % l .octave)))) (sym yes) ∙ of-given r _ l e
+        ap (λ (b : Bool). ask 9 b (given (lampIn l (remainder key (l .octave))))) (sym yes) ∙ of-given r _ l e
 
-    pub lamp-at-home : (key : ℕ) → key % l .octave ≡ 0 → given 0 ≡ getLamp r key
-    lamp-at-home key h = ap given (lamp-home l (key % l .octave) h) ∙ lamp-of-layout key
+    module _ (key : ℤ) (place : ℕ) (round : place ≡ remainder key (l .octave)) where
+      pub lamp-at-home : place ≡ 0 → given 0 ≡ getLamp r key
+      lamp-at-home h = ap given (lamp-home l place h ∙ ap (lampIn l) round) ∙ lamp-of-layout key
 
-    pub lamp-given : (key j c : ℕ) → (key % l .octave ≡ 0 → ⊥) → j ≡ planNumber p (key % l .octave) → c ≡ codeOf T j → given c ≡ getLamp r key
-    lamp-given key j c h number q =
-        ap given
-        (q ∙ ap (codeOf T) number ∙ lamp-is l p k (parts-of r l e .positive) T total (key % l .octave) h)
-        ∙ lamp-of-layout key
+      pub lamp-given : (j c : ℕ) → (place ≡ 0 → ⊥) → j ≡ planNumber p place → c ≡ codeOf T j → given c ≡ getLamp r key
+      lamp-given j c h number q =
+          ap given
+          (q ∙ ap (codeOf T) number ∙ lamp-is l p k (parts-of r l e .positive) T total place h ∙ ap (lampIn l) round)
+          ∙ lamp-of-layout key

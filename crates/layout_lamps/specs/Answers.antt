@@ -1,7 +1,9 @@
 -- What the calls answer: questions 1 to 4 of the layout, question 9, then the value; a strip goes through question 10 too.
-use Prim.Native.Nat.{ℕ, _%_}
+use Prim.Native.Nat.{ℕ}
 use mathlib.Core.List.{List}
+use lib.IntN.{ℤ}
 use Rattle.answer.specs.Outcome.{Outcome, given, ask}
+use Rattle.math.specs.Division.{remainder}
 use Rattle.layout.specs.declared.IsomorphicLayout.{IsomorphicLayout}
 use Rattle.layout.specs.Layouts.{Layout, layoutOutcome}
 use Rattle.layout.specs.Answers.{ofLayout}
@@ -11,7 +13,7 @@ unfoldable pub getStrip : IsomorphicLayout → Outcome (List ℕ)
 unfolding layoutOutcome hasLamps stripOf
 getStrip r = ofLayout r (λ (l : Layout). ask 9 (hasLampsIn l) (given (stripIn l)))
 
--- "The board repeats the strip each octave": a key's code is that of its place in the octave.
-unfoldable pub getLamp : IsomorphicLayout → ℕ → Outcome ℕ
+-- "The board repeats the strip each octave": a key's code, below 0 too, is that of its place in the octave.
+unfoldable pub getLamp : IsomorphicLayout → ℤ → Outcome ℕ
 unfolding layoutOutcome hasLamps lampOf
-getLamp r key = ofLayout r (λ (l : Layout). ask 9 (hasLampsIn l) (given (lampIn l (key % l .octave))))
+getLamp r key = ofLayout r (λ (l : Layout). ask 9 (hasLampsIn l) (given (lampIn l (remainder key (l .octave)))))

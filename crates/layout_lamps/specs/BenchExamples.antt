@@ -1,4 +1,5 @@
 -- Document 01's bench examples that are marked P: one list of data, in the document's order, and one theorem that each holds.
+use lib.IntN.{pos}
 use Prim.Native.Nat.{ℕ}
 use mathlib.Core.List.{List, [], _∷_}
 use mathlib.Core.Path.{_≡_}
@@ -60,10 +61,10 @@ abbrev pub Holds : Example → Type 0
 Holds (pattern code octave tritave m) = getMos (layout code octave tritave) ≡ m
 Holds (sizes code octave tritave s) = andThen (getMos (layout code octave tritave)) (λ (m : Mos). given (layerSizes m)) ≡ given s
 Holds (scale code octave tritave text) = getScaleName (layout code octave tritave) ≡ given text
-Holds (name code octave tritave key text) = getNoteName (layout code octave tritave) key ≡ given text
+Holds (name code octave tritave key text) = getNoteName (layout code octave tritave) (pos key) ≡ given text
 Holds (strip code octave tritave codes) = getStrip (layout code octave tritave) ≡ given codes
 Holds (indices P G N origin key both) =
-    andThen (Pergen.getAccidentals (pergen P G) (format N origin) key)
+    andThen (Pergen.getAccidentals (pergen P G) (format N origin) (pos key))
     (λ (a : Accidentals). given (a .«sharp_index», a .«flat_index»)) ≡ given both
 
 abbrev pub All : List Example → Type 0

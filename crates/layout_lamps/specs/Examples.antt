@@ -1,4 +1,5 @@
 -- Worked examples of strips beside document 01's marked one (BenchExamples), and one theorem that the definitions give them.
+use lib.IntN.{ℤ, pos, negsuc}
 use mathlib.Core.Path.{_≡_}
 use mathlib.Core.List.{List, [], _∷_, map}
 use Prim.Native.Nat.{ℕ}
@@ -45,19 +46,25 @@ stripExamples =
 
 pub record LampExample : Type 0 where
   pub layout : IsomorphicLayout
-  pub key : ℕ
+  pub key : ℤ
   pub code : Outcome ℕ
 
 -- 101 cycles of an equalized scale have sharp layers up to 99 and a strip; with 102 there is none. The board repeats the strip each octave.
 abbrev pub lampExamples : List LampExample
 lampExamples =
-    record { layout = layout 2 7 8; key = 3; code = given 2 }
-    ∷ record { layout = layout 1 7 11; key = 0; code = given 0 }
-    ∷ record { layout = layout 1 7 11; key = 7; code = given 0 }
-    ∷ record { layout = layout 1 7 11; key = 9; code = given 255 }
-    ∷ record { layout = layout 1 707 1111; key = 100; code = given 101 }
-    ∷ record { layout = layout 1 714 1122; key = 0; code = refused 9 }
-    ∷ record { layout = layout 0 12 19; key = 0; code = refused 4 }
+    record { layout = layout 2 7 8; key = pos 3; code = given 2 }
+    ∷ record { layout = layout 1 7 11; key = pos 0; code = given 0 }
+    ∷ record { layout = layout 1 7 11; key = pos 7; code = given 0 }
+    ∷ record { layout = layout 1 7 11; key = pos 9; code = given 255 }
+    ∷ record { layout = layout 1 707 1111; key = pos 100; code = given 101 }
+    ∷ record { layout = layout 1 714 1122; key = pos 0; code = refused 9 }
+    -- below 0 (`negsuc k` is −1 − k): the last key of the octave, home an octave below, both ends of 32 signed bits
+    ∷ record { layout = layout 1 12 19; key = negsuc 0; code = given 255 }
+    ∷ record { layout = layout 1 12 19; key = negsuc 11; code = given 0 }
+    ∷ record { layout = layout 1 12 19; key = negsuc 2147483647; code = given 255 }
+    ∷ record { layout = layout 1 12 19; key = pos 2147483647; code = given 1 }
+    ∷ record { layout = layout 0 12 19; key = negsuc 0; code = refused 4 }
+    ∷ record { layout = layout 0 12 19; key = pos 0; code = refused 4 }
     ∷ []
 
 -- Theorem: the definitions give what the examples say.

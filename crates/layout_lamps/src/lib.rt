@@ -53,8 +53,8 @@ pub fn strip_len(layout: IsomorphicLayout) -> CountAnswer
     }
 }
 
-// The lamp code of one key, whatever its octave (1, 2, 3, 4, 9).
-pub fn lamp(layout: IsomorphicLayout, key: u16) -> NumberAnswer
+// The lamp code of one key, whatever its octave, below 0 too (1, 2, 3, 4, 9).
+pub fn lamp(layout: IsomorphicLayout, key: i32) -> NumberAnswer
     ensures { λ r. ⌜ numberOutcome r ≡ getLamp layout key ⌝ }
 {
     match layout::parts::ask(layout) {
@@ -65,12 +65,16 @@ pub fn lamp(layout: IsomorphicLayout, key: u16) -> NumberAnswer
             if 202 < total {
                 return NumberAnswer::Refused(Refusal::LampLayer);
             }
-            let place = key % found.octave;
+            let place = math::parts::rem_u16(key, found.octave);
             if place == 0 {
                 return NumberAnswer::Given(0);
             }
             let solved = euclid::solve(found.octave, found.generator);
-            let number = layout_layers::parts::number_of(plan, solved.generator_inverse, place);
+            let number = layout_layers::parts::number_of(
+                plan,
+                solved.generator_inverse,
+                place as u32,
+            );
             NumberAnswer::Given(parts::code(total, number) as u16)
         }
     }

@@ -1,12 +1,16 @@
 -- From the plan to what the calls answer: one law for each way in which a call ends.
-use Prim.Native.Nat.{ℕ, _≤_, _<_}
+use Prim.Native.Nat.{ℕ, _*_, _≤_, _<_}
 use mathlib.Core.Path.{_≡_, refl, sym, ap, _∙_}
+use mathlib.Core.Bool.{Bool}
 use mathlib.Core.List.{List}
 use native.Mathlib.Omega.{arith}
+use lib.IntN.{ℤ}
 use lib.ListN.{length}
+use Rattle.answer.specs.Choice.{pick}
 use Rattle.answer.specs.Outcome.{Outcome, given, refused, andThen}
 use Rattle.answer.specs.Lent.{heldIn, counted, written, Filled}
 use Rattle.answer.proofs.Lent.{held, not-held, filled-refused}
+use Rattle.math.specs.Division.{remainder}
 use Rattle.pergen.specs.declared.euclid.Solved.{Solved}
 use Rattle.pergen.specs.Parts.{solvedOf}
 use Rattle.layout.specs.declared.IsomorphicLayout.{IsomorphicLayout}
@@ -14,6 +18,7 @@ use Rattle.layout.specs.Layouts.{Layout, layoutOutcome}
 use Rattle.layout.specs.Answers.{inRoom}
 use Rattle.layout.proofs.Calls.{of-refused, of-given, parts-of, filled-as, refused-in-room}
 use Rattle.layout_layers.specs.declared.parts.Plan.{Plan}
+use Rattle.layout_layers.specs.KeyLayers.{numberIn}
 use Rattle.layout_layers.specs.Answers.{getLayers, getLayerCount, getLayer}
 use Rattle.layout_layers.specs.Parts.{PlanOf, inverseOf, planNumber, totalOf, Fronted, planLayers}
 use Rattle.layout_layers.proofs.PlanLaws.{number-is, count-is, layers-are}
@@ -27,7 +32,7 @@ module _ (r : IsomorphicLayout) (n : ℕ) (e : refused n ≡ layoutOutcome r) wh
   unfolding getLayerCount
   count-refused = of-refused r _ n e
 
-  pub layer-refused : (key : ℕ) → refused n ≡ getLayer r key
+  pub layer-refused : (key : ℤ) → refused n ≡ getLayer r key
   unfolding getLayer
   layer-refused key = of-refused r _ n e
 
@@ -43,9 +48,16 @@ module _ (r : IsomorphicLayout) (l : Layout) (e : given l ≡ layoutOutcome r) (
   unfolding getLayerCount
   count-given T q = ap given (q ∙ count-is l p k) ∙ of-given r _ l e
 
-  pub layer-given : (key j : ℕ) → j ≡ planNumber p key → given j ≡ getLayer r key
+  pub layer-given : (key : ℤ) (entry count j : ℕ) → entry ≡ remainder key count → count ≡ pick (p .equalized) (2 * l .octave) (l .octave)
+      → j ≡ planNumber p entry → given j ≡ getLayer r key
   unfolding getLayer
-  layer-given key j q = ap given (q ∙ number-is l p k key) ∙ of-given r _ l e
+  layer-given key entry count j round many q =
+      ap given
+      (q
+      ∙ number-is l p k entry
+      ∙ ap (numberIn l)
+      (round ∙ ap (remainder key) (many ∙ ap (λ (b : Bool). pick b (2 * l .octave) (l .octave)) (k .equalized-is))))
+      ∙ of-given r _ l e
 
   pub inverse-given : (s : Solved) → s ≡ solvedOf (l .octave) (l .generator) → s .«generator_inverse» ≡ inverseOf (p .chain)
   unfolding solvedOf

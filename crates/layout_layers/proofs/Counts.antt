@@ -12,7 +12,8 @@ use Rattle.mos.specs.declared.Mos.{Mos}
 use Rattle.pergen.specs.Pergen.{cycles, reduced}
 use Rattle.pergen.specs.Spelling.{starsOf}
 use Rattle.pergen.proofs.Inverse.{period-is, cycles-positive}
-use Rattle.pergen.proofs.Keys.{cycle-below}
+use lib.IntN.{ℤ}
+use Rattle.pergen.proofs.Keys.{key-cycle-below}
 use Rattle.pergen.proofs.DegreePlaces.{stars-are, few-signs}
 use Rattle.mos_layers.specs.Layers.{layerSizes}
 use Rattle.mos_layers.proofs.Theorems.{enough-layers}
@@ -82,7 +83,7 @@ module _ (r : IsomorphicLayout) (l : Layout) (ok : Accepted r l) where
       by (yes more) = absurd (let z : ⊥ = omega (arith, layers-cover, mul-le-mul-left N more, mul-suc N layers) in z)
       by (no few) = omega arith
 
-  signs-most : (key : ℕ) → (accidentalsIn l key) .«sharp_count» + (accidentalsIn l key) .«flat_count» + starsOf ((accidentalsIn l key) .cycle)
+  signs-most : (key : ℤ) → (accidentalsIn l key) .«sharp_count» + (accidentalsIn l key) .«flat_count» + starsOf ((accidentalsIn l key) .cycle)
       ≤ countIn l
   unfolding accidentalsIn layerCount
   signs-most key =
@@ -90,7 +91,7 @@ module _ (r : IsomorphicLayout) (l : Layout) (ok : Accepted r l) where
         arith,
         signs-few _ (few-signs P G N (l .start) key (parts .positive) (shape .start-below) (shape .enough-keys)),
         stars-are P G N (l .start) key (parts .positive) (shape .start-below),
-        cycle-below P G (parts .positive) key,
+        key-cycle-below P G (parts .positive) key,
         sum-by-product layers (cycles P G) some-layers (cycles-positive P G (parts .positive)),
       )
 

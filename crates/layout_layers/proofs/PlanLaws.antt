@@ -119,6 +119,19 @@ module _ (p : Plan) where
   pub turns-single : p .equalized ≡ false → p .chain .«reduced_period» ≡ turnsOf p
   turns-single t = simp t
 
+  pub entries-double : (P : ℕ) → p .equalized ≡ true → 2 * P ≡ pick (p .equalized) (2 * P) P
+  entries-double P t = simp t
+
+  pub entries-single : (P : ℕ) → p .equalized ≡ false → P ≡ pick (p .equalized) (2 * P) P
+  entries-single P t = simp t
+
+  pub entries-some : (P count : ℕ) → 0 < P → count ≡ pick (p .equalized) (2 * P) P → 0 < count
+  entries-some P count h e = go (p .equalized) e
+    where
+      go : (b : Bool) → count ≡ pick b (2 * P) P → 0 < count
+      go true q = omega arith
+      go false q = omega arith
+
 pub listed-most : (p : Plan) {T : ℕ} → p .equalized ≡ false → T ≡ totalOf p → length (dropEmpty (runSizes (p .runs))) * p .chain .«num_cycles» ≤ T
 listed-most p t e = omega (arith, ap (λ (k : ℕ). k * p .chain .«num_cycles») (count-listed p t))
 

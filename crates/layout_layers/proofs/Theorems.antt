@@ -4,7 +4,7 @@ use Prim.Native.Nat.{ℕ, zero, suc, _+_, _*_, _-_, _/_, _%_, _≤_, _<_, _∣_}
 use mathlib.Core.Path.{_≡_, refl, sym, ap, ap₂, subst, _∙_}
 use mathlib.Core.Bool.{Bool, true, false}
 use mathlib.Core.List.{List, [], _∷_, _++_, reverse}
-use native.Mathlib.Nat.{mod-lt, mod-eq-of-lt, add-mod-mod, add-mod-right, add-zero, zero-div, zero-mod, zero-add, mul-zero, zero-mul, one-mul, div-add-mod', div-lt-iff-lt-mul, mul-le-mul-right, le-div-iff-mul-le, le-of-dvd, dvd-refl, dvd-antisymm, add-mul, mul-assoc, mul-comm, mul-div-cancel, add-mul-div-right, add-mul-mod-self-right, add-mul-mod-self-left}
+use native.Mathlib.Nat.{mod-lt, mod-eq-of-lt, add-mod-mod, add-mod-right, add-zero, add-comm, suc-mul, zero-div, zero-mod, zero-add, mul-zero, zero-mul, one-mul, div-add-mod', div-lt-iff-lt-mul, mul-le-mul-right, le-div-iff-mul-le, le-of-dvd, dvd-refl, dvd-antisymm, add-mul, mul-assoc, mul-comm, mul-div-cancel, add-mul-div-right, add-mul-mod-self-right, add-mul-mod-self-left}
 use native.Mathlib.Omega.{arith}
 use lib.ListN.{length, getD, replicate, length-replicate, getD-replicate, List·getD-append}
 use Rattle.answer.specs.Choice.{pick}
@@ -17,7 +17,7 @@ use Rattle.mos.specs.declared.Mos.{Mos}
 use Rattle.mos.specs.Patterns.{primaries, secondaries, primary, secondary, countOf, sizeOf, cyclesOf, reducedSizeOf}
 use Rattle.pergen.specs.Pergen.{cycles, reduced, degree, cycle, inverse}
 use Rattle.pergen.proofs.Inverse.{period-is, cycles-positive, reduced-positive}
-use Rattle.pergen.proofs.Keys.{cycle-below, degree-and-cycle-tell-keys-apart}
+use Rattle.pergen.proofs.Keys.{cycle-below, formulas-agree}
 use Rattle.pergen.proofs.CarriedWalk.{keyWith, key-with-below, key-with-cycle, key-with-degree}
 use Rattle.mos_layers.specs.Layers.{holding, sharps, allSizes, dropEmpty, numbered, layerSizes, layersOf}
 use Rattle.mos_layers.specs.Theorems.{sum}
@@ -29,7 +29,7 @@ use Rattle.layout.specs.Layouts.{Layout, Accepted}
 use Rattle.layout.proofs.Finding.{Parts, accepted}
 use Rattle.layout.proofs.PatternShape.{PatternShape, pattern-shape}
 use Rattle.layout_layers.specs.KeyLayers.{equalized, entryCount, listedLayer, alternating, alternateLayer, layerOf, layerNumber, keyLayers, layerCount, numberIn, layersIn, countIn}
-use Rattle.layout_layers.specs.Theorems.{CountsFit, NumbersAreBelow, KeyZeroIsNatural, EachNumberIsMet, EntriesAreCounted, NumbersRepeat}
+use Rattle.layout_layers.specs.Theorems.{CountsFit, NumbersAreBelow, KeyZeroIsNatural, EachNumberIsMet, EntriesAreCounted, NumbersRepeat, LayersFromZeroOn}
 use Rattle.layout_layers.proofs.RunPlaces.{numbered-below, numbered-met}
 use Rattle.layout_layers.proofs.PlanLaws.{alternating-below, alternating-same, pick-below, pick-most, block-fits}
 
@@ -210,14 +210,14 @@ module _ (r : IsomorphicLayout) (l : Layout) (ok : Accepted r l) where
   again-by : (b : Bool) → equalized m ≡ b → (i : ℕ) → numberIn l (i + pick b (2 * P) P) ≡ numberIn l i
   unfolding layerNumber layerOf listedLayer
   again-by true t i =
-      let keys = degree-and-cycle-tell-keys-apart P G (parts .positive) (i + 2 * P) i .0 (same-key i 2) in
+      let keys = formulas-agree P G (parts .positive) (i + 2 * P) i (same-key i 2) in
       ap₂ (λ (x y : ℕ). x * cycles P G + y)
       (ap (λ (b : Bool). pick b (alternateLayer P G (l .letters) (l .start) (secondaries m) (i + 2 * P)) (listedLayer P G (l .start) m (i + 2 * P))) t
       ∙ alternate-again t i
       ∙ ap (λ (b : Bool). pick b (alternateLayer P G (l .letters) (l .start) (secondaries m) i) (listedLayer P G (l .start) m i)) (sym t))
       (keys .1)
   again-by false t i =
-      let keys = degree-and-cycle-tell-keys-apart P G (parts .positive) (i + P) i .0 (add-mod-right i P) in
+      let keys = formulas-agree P G (parts .positive) (i + P) i (add-mod-right i P) in
       ap₂ (λ (x y : ℕ). x * cycles P G + y)
       (ap (λ (b : Bool). pick b (alternateLayer P G (l .letters) (l .start) (secondaries m) (i + P)) (listedLayer P G (l .start) m (i + P))) t
       ∙ ap (λ (d : ℕ). getD (layersOf m) ((l .start + d) % reduced P G) 0) (keys .0)
@@ -300,3 +300,17 @@ each-number-is-met r l ok other j h = met r l ok other j h
 
 pub numbers-repeat : NumbersRepeat
 numbers-repeat r l ok key = again-by r l ok (equalized (l .pattern)) refl key
+
+pub layers-from-zero-on : LayersFromZeroOn
+layers-from-zero-on r l ok key =
+    sym (rounds (key / count) (key % count)) ∙ ap (numberIn l) (add-comm (key % count) (key / count * count) ∙ div-add-mod' key count)
+  where
+    count : ℕ
+    count = entryCount (l .octave) (l .pattern)
+
+    rounds : (turns i : ℕ) → numberIn l (i + turns * count) ≡ numberIn l i
+    rounds zero i = ap (λ (k : ℕ). numberIn l (i + k)) (zero-mul count) ∙ ap (numberIn l) (add-zero i)
+    rounds (suc turns) i =
+        ap (numberIn l) (let e : i + suc turns * count ≡ i + turns * count + count = omega (arith, suc-mul turns count) in e)
+        ∙ numbers-repeat r l ok (i + turns * count)
+        ∙ rounds turns i

@@ -1,11 +1,12 @@
 -- What the calls answer: questions 1 to 4 of the layout, then the value; a list goes through question 10 too.
 use Prim.Native.Nat.{ℕ}
 use mathlib.Core.List.{List}
+use lib.IntN.{ℤ}
 use Rattle.answer.specs.Outcome.{Outcome, given}
 use Rattle.layout.specs.declared.IsomorphicLayout.{IsomorphicLayout}
 use Rattle.layout.specs.Layouts.{Layout, layoutOutcome}
 use Rattle.layout.specs.Answers.{ofLayout}
-use Rattle.layout_layers.specs.KeyLayers.{keyLayers, layerCount, layerNumber, numberIn, layersIn, countIn}
+use Rattle.layout_layers.specs.KeyLayers.{keyLayers, layerCount, layerNumber, keyNumberIn, layersIn, countIn}
 
 unfoldable pub getLayers : IsomorphicLayout → Outcome (List ℕ)
 unfolding layoutOutcome keyLayers
@@ -16,6 +17,6 @@ unfolding layoutOutcome layerCount
 getLayerCount r = ofLayout r (λ (l : Layout). given (countIn l))
 
 -- One key's number, for every key.
-unfoldable pub getLayer : IsomorphicLayout → ℕ → Outcome ℕ
+unfoldable pub getLayer : IsomorphicLayout → ℤ → Outcome ℕ
 unfolding layoutOutcome layerNumber
-getLayer r key = ofLayout r (λ (l : Layout). given (numberIn l key))
+getLayer r key = ofLayout r (λ (l : Layout). given (keyNumberIn l key))

@@ -2,6 +2,7 @@
 use mathlib.Core.Path.{_≡_}
 use mathlib.Core.List.{List, [], _∷_, map}
 use Prim.Native.Nat.{ℕ}
+use lib.IntN.{ℤ, pos, negsuc}
 use Rattle.answer.specs.Outcome.{Outcome, given, refused, andThen}
 use Rattle.layout.specs.declared.IsomorphicLayout.{IsomorphicLayout}
 use Rattle.layout.specs.Examples.{layout}
@@ -80,20 +81,29 @@ kindsExamples =
     }
     ∷ []
 
--- ---- one key, in a far octave too
+-- ---- one key, in a far octave and below 0 too
 
 pub record KeyExample : Type 0 where
   pub layout : IsomorphicLayout
-  pub key : ℕ
+  pub key : ℤ
   pub number : Outcome ℕ
 
 abbrev pub keyExamples : List KeyExample
 keyExamples =
-    record { layout = layout 1 12 19; key = 65535; number = given 0 }
-    ∷ record { layout = layout 1 7 11; key = 65535; number = given 0 }
-    ∷ record { layout = layout 1 31 49; key = 33; number = given 1 }
-    ∷ record { layout = layout 2 7 8; key = 3; number = given 1 }
-    ∷ record { layout = layout 0 12 19; key = 0; number = refused 4 }
+    record { layout = layout 1 12 19; key = pos 65535; number = given 0 }
+    ∷ record { layout = layout 1 7 11; key = pos 65535; number = given 0 }
+    ∷ record { layout = layout 1 31 49; key = pos 33; number = given 1 }
+    ∷ record { layout = layout 2 7 8; key = pos 3; number = given 1 }
+    -- below 0 (`negsuc k` is −1 − k): −1 is the last of the 12 entries, or of the 14; key 7 of 1 7 11 has the layer of −7, of the second octave
+    ∷ record { layout = layout 1 12 19; key = negsuc 0; number = given 1 }
+    ∷ record { layout = layout 1 7 11; key = negsuc 0; number = given 0 }
+    ∷ record { layout = layout 1 7 11; key = negsuc 1; number = given 1 }
+    ∷ record { layout = layout 1 7 11; key = negsuc 7; number = given 0 }
+    ∷ record { layout = layout 1 7 11; key = negsuc 13; number = given 0 }
+    -- both ends of 32 signed bits: entries 4 and 7 of 12
+    ∷ record { layout = layout 1 12 19; key = negsuc 2147483647; number = given 1 }
+    ∷ record { layout = layout 1 12 19; key = pos 2147483647; number = given 0 }
+    ∷ record { layout = layout 0 12 19; key = pos 0; number = refused 4 }
     ∷ []
 
 -- Theorem: the definitions give what the examples say. A number from T on counts as flat 0.

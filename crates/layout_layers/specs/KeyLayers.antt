@@ -5,7 +5,9 @@ use mathlib.Core.Bool.{Bool}
 use mathlib.Core.List.{List, [], _∷_}
 use lib.ListN.{length, getD}
 use lib.Dec.{eqb, ltb}
+use lib.IntN.{ℤ}
 use Rattle.answer.specs.Choice.{pick}
+use Rattle.math.specs.Division.{remainder}
 use Rattle.text.specs.Writing.{joined}
 use Rattle.mos.specs.declared.Mos.{Mos}
 use Rattle.mos.specs.Patterns.{primary, secondary, secondaries}
@@ -42,7 +44,7 @@ unfoldable pub layerOf : (P G N start : ℕ) → Mos → ℕ → ℕ
 unfolding alternateLayer listedLayer
 layerOf P G N start m i = pick (equalized m) (alternateLayer P G N start (secondaries m) i) (listedLayer P G start m i)
 
--- "Entry i has the number a × n + i mod n." It is the number of key i too, for every key: the entries repeat.
+-- "Entry i has the number a × n + i mod n."
 unfoldable pub layerNumber : (P G N start : ℕ) → Mos → ℕ → ℕ
 unfolding layerOf cycles cycle
 layerNumber P G N start m i = layerOf P G N start m i * cycles P G + cycle P G i
@@ -68,6 +70,10 @@ kindOf T j =
 
 abbrev pub numberIn : Layout → ℕ → ℕ
 numberIn l i = layerNumber (l .octave) (l .generator) (l .letters) (l .start) (l .pattern) i
+
+-- One key's number, below 0 too: the entries repeat, so it is that of the entry at the remainder, never negative, by their number.
+abbrev pub keyNumberIn : Layout → ℤ → ℕ
+keyNumberIn l key = numberIn l (remainder key (entryCount (l .octave) (l .pattern)))
 
 abbrev pub layersIn : Layout → List ℕ
 layersIn l = keyLayers (l .octave) (l .generator) (l .letters) (l .start) (l .pattern)

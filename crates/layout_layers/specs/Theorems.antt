@@ -2,12 +2,13 @@
 use Prim.Native.Nat.{ℕ, _+_, _*_, _/_, _%_, _≤_, _<_}
 use mathlib.Core.Path.{_≡_}
 use mathlib.Core.Bool.{false}
+use lib.IntN.{ℤ, pos}
 use lib.ListN.{length}
 use Rattle.pergen.specs.Spelling.{starsOf}
 use Rattle.pergen.specs.declared.Accidentals.{Accidentals}
 use Rattle.layout.specs.declared.IsomorphicLayout.{IsomorphicLayout}
 use Rattle.layout.specs.Layouts.{Layout, Accepted, accidentalsIn}
-use Rattle.layout_layers.specs.KeyLayers.{equalized, entryCount, numberIn, layersIn, countIn}
+use Rattle.layout_layers.specs.KeyLayers.{equalized, entryCount, numberIn, keyNumberIn, layersIn, countIn}
 
 -- Theorem: T is at most the octave's number of keys.
 abbrev pub CountsFit : Type 0
@@ -20,7 +21,7 @@ KeysByCount = (r : IsomorphicLayout) (l : Layout) → Accepted r l → l .octave
 -- Theorem: the signs of a key's two spellings and its stars are together at most T.
 abbrev pub SignsByCount : Type 0
 SignsByCount =
-    (r : IsomorphicLayout) (l : Layout) → Accepted r l → (key : ℕ)
+    (r : IsomorphicLayout) (l : Layout) → Accepted r l → (key : ℤ)
     → (accidentalsIn l key) .«sharp_count» + (accidentalsIn l key) .«flat_count» + starsOf ((accidentalsIn l key) .cycle) ≤ countIn l
 
 -- Theorem: "Of T numbers": every key's number is below T.
@@ -46,3 +47,9 @@ abbrev pub NumbersRepeat : Type 0
 NumbersRepeat =
     (r : IsomorphicLayout) (l : Layout) → Accepted r l → (key : ℕ)
     → numberIn l (key + entryCount (l .octave) (l .pattern)) ≡ numberIn l key
+
+-- Theorem: "Answers for 0 and up are the old ones" (document 02, W-201): of a key number from 0 on, the layer is that of document 01's
+-- formula, without a remainder first.
+abbrev pub LayersFromZeroOn : Type 0
+LayersFromZeroOn =
+    (r : IsomorphicLayout) (l : Layout) → Accepted r l → (key : ℕ) → keyNumberIn l (pos key) ≡ numberIn l key

@@ -59,8 +59,8 @@ pub fn layer_count(layout: IsomorphicLayout) -> NumberAnswer
     }
 }
 
-// The layer number of one key, whatever its octave (1, 2, 3, 4).
-pub fn get_layer(layout: IsomorphicLayout, key: u16) -> NumberAnswer
+// The layer number of one key, whatever its octave, below 0 too: what `get_layers` writes repeats (1, 2, 3, 4).
+pub fn get_layer(layout: IsomorphicLayout, key: i32) -> NumberAnswer
     ensures { λ r. ⌜ numberOutcome r ≡ getLayer layout key ⌝ }
 {
     match layout::parts::ask(layout) {
@@ -68,7 +68,8 @@ pub fn get_layer(layout: IsomorphicLayout, key: u16) -> NumberAnswer
         FoundAnswer::Given(found) => {
             let solved = euclid::solve(found.octave, found.generator);
             let plan = parts::plan_of(found);
-            NumberAnswer::Given(parts::number_of(plan, solved.generator_inverse, key))
+            let entry = math::parts::rem_u32(key, parts::entry_count(plan, found.octave));
+            NumberAnswer::Given(parts::number_of(plan, solved.generator_inverse, entry))
         }
     }
 }

@@ -14,6 +14,7 @@ ghost use mathlib.Core.Path.{_≡_};
 ghost use mathlib.Core.Bool.{true, false};
 ghost use Prim.Native.Nat.{_+_, _*_, _/_, _%_, _<_, _≤_};
 ghost use lib.ListN.{length, replicate};
+ghost use Rattle.answer.specs.Choice.{pick};
 ghost use Rattle.answer.specs.Lent.{heldIn, Filled};
 ghost use Rattle.answer.specs.Refusals.{countOutcome};
 ghost use Rattle.mos_layers.specs.Parts.{runSizes};
@@ -156,30 +157,31 @@ fn chain_place(start: u16, degree: u16, reduced_period: u16) -> u16
 }
 
 // The layer of a scale degree.
-fn layer_of(plan: Plan, inverse: u16, turn: u16) -> u16
-    requires { ⌜ Sound plan × (inverse ≡ inverseOf (plan .chain)) ⌝ }
+fn layer_of(plan: Plan, inverse: u16, turn: u32) -> u16
+    requires { ⌜ Sound plan × (inverse ≡ inverseOf (plan .chain)) × (turn ≤ 131070) ⌝ }
     ensures { λ r. ⌜ r ≡ turnLayer plan turn ⌝ }
 {
     if plan.equalized {
-        return alternate(plan.letters, plan.secondaries, plan.offset, turn as u32);
+        return alternate(plan.letters, plan.secondaries, plan.offset, turn);
     }
     let chain = plan.chain;
     let runs = plan.runs;
-    let degree = (inverse as u32) * (turn as u32) % (chain.reduced_period as u32);
+    let degree = (inverse as u64) * (turn as u64) % (chain.reduced_period as u64);
     layer_at(
         runs,
         chain_place(chain.start, degree as u16, chain.reduced_period),
     )
 }
 
-// A key's number, with the inverse that no whole-octave work needs.
-pub fn number_of(plan: Plan, inverse: u16, key: u16) -> u16
-    requires { ⌜ Sound plan × (inverse ≡ inverseOf (plan .chain)) ⌝ }
-    ensures { λ r. ⌜ r ≡ planNumber plan key ⌝ }
+// An entry's number, with the inverse that no whole-octave work needs.
+pub fn number_of(plan: Plan, inverse: u16, entry: u32) -> u16
+    requires { ⌜ Sound plan × (inverse ≡ inverseOf (plan .chain)) × (entry ≤ 131070) ⌝ }
+    ensures { λ r. ⌜ r ≡ planNumber plan entry ⌝ }
 {
     let chain = plan.chain;
-    let layer = layer_of(plan, inverse, key / chain.num_cycles);
-    layer * chain.num_cycles + key % chain.num_cycles
+    let cycles = chain.num_cycles as u32;
+    let layer = layer_of(plan, inverse, entry / cycles);
+    layer * chain.num_cycles + (entry % cycles) as u16
 }
 
 // How many numbers there are.
@@ -204,6 +206,16 @@ fn turns_of(plan: Plan) -> u32
         return 2 * (chain.reduced_period as u32);
     }
     chain.reduced_period as u32
+}
+
+// How many entries there are, by the octave.
+pub(crate) fn entry_count(plan: Plan, octave: u16) -> u32
+    ensures { λ r. ⌜ (r ≡ pick (plan .equalized) (2 * octave) octave) × (r ≤ 131070) ⌝ }
+{
+    if plan.equalized {
+        return 2 * (octave as u32);
+    }
+    octave as u32
 }
 
 // How many entries there are.

@@ -3,20 +3,23 @@ use Prim.Native.Nat.{ℕ, _*_, _/_, _≤_}
 use native.Mathlib.Omega.{arith}
 use mathlib.Core.Path.{_≡_, refl, sym, ap, _∙_}
 use mathlib.Core.List.{List}
+use lib.IntN.{pos}
 use Rattle.genchain.specs.declared.rows.ChainRow.{ChainRow}
 use Rattle.genchain.specs.Chains.{chainOf, rowOf, lettersIn}
 use Rattle.genchain.proofs.TableRows.{table-row, letters-in-row}
 use Rattle.genchain.proofs.GoodChains.{chains-are-good}
 use Rattle.layout.specs.Layouts.{Layout, lettersOf, accidentalsIn, sharpFirst}
-use Rattle.layout.specs.Names.{nameIn}
+use Rattle.layout.specs.Names.{nameIn, listedName}
 use Rattle.layout.proofs.Finding.{Parts}
 use Rattle.layout.proofs.PatternShape.{pattern-shape}
 use Rattle.notes.specs.Names.{nameText}
 use Rattle.pergen.specs.declared.euclid.Solved.{Solved}
-use Rattle.pergen.specs.Pergen.{cycles, degree, cycle, cycleOf}
-use Rattle.pergen.specs.Spelling.{keyAccidentals}
+use Rattle.pergen.specs.declared.Accidentals.{Accidentals}
+use Rattle.pergen.specs.Pergen.{cycles, reduced, degree, cycle, shown}
+use Rattle.pergen.specs.Spelling.{accidentalsOf}
 use Rattle.pergen.specs.Parts.{solvedOf}
 use Rattle.pergen.proofs.Inverse.{numbers}
+use Rattle.pergen.proofs.Keys.{keys-from-zero-on}
 use Rattle.pergen.proofs.CarriedWalk.{walkable}
 use Rattle.layout_speller.specs.Parts.{cycleAt, spelledAt, nameOf, Sound, SpellerOf}
 use Rattle.layout_speller.specs.declared.speller.Speller.{Speller}
@@ -25,22 +28,30 @@ module _ (l : Layout) (a : Parts l) where
   abbrev made : ChainRow → Solved → Speller
   made row solved = record { row = row; start = l .start; solved = solved; «sharp_first» = sharpFirst l }
 
+  -- the spellings of key k by document 01's formulas, with so many letters
+  abbrev spelledFrom : ℕ → ℕ → Accidentals
+  spelledFrom letters k =
+      let P = l .octave in
+      let G = l .generator in
+      accidentalsOf (reduced P G) letters (l .start) (degree P G k) (shown (cycles P G) (cycle P G k))
+
   module _ (row : ChainRow) (solved : Solved) (is : row ≡ rowOf (chainOf (l .chain))) (by : solved ≡ solvedOf (l .octave) (l .generator)) where
     whole-name : (k : ℕ)
         → nameOf (made (rowOf (chainOf (l .chain))) (solvedOf (l .octave) (l .generator))) k
-        ≡ nameText (lettersIn (rowOf (chainOf (l .chain)))) (sharpFirst l) (keyAccidentals (l .octave) (l .generator) (lettersOf (l .chain)) (l .start) k)
-    unfolding nameOf spelledAt cycleAt rowOf solvedOf keyAccidentals degree cycleOf cycle
+        ≡ nameText (lettersIn (rowOf (chainOf (l .chain)))) (sharpFirst l) (spelledFrom (lettersOf (l .chain)) k)
+    unfolding nameOf spelledAt cycleAt rowOf solvedOf degree cycle
     whole-name k = refl
 
-    speller-names : (k : ℕ) → nameOf (made row solved) k ≡ nameIn l k
+    speller-names : (k : ℕ) → nameOf (made row solved) k ≡ listedName l k
     unfolding nameIn accidentalsIn
     speller-names k =
         ap (λ (r : ChainRow). nameOf (made r solved) k) is
         ∙ ap (λ (x : Solved). nameOf (made (rowOf (chainOf (l .chain))) x) k) by
         ∙ whole-name k
-        ∙ ap (λ (n : ℕ). nameText (lettersIn (rowOf (chainOf (l .chain)))) (sharpFirst l) (keyAccidentals (l .octave) (l .generator) n (l .start) k))
-        (sym (a .letters-are))
-        ∙ ap (λ (x : List ℕ). nameText x (sharpFirst l) (accidentalsIn l k))
+        ∙ ap (λ (n : ℕ). nameText (lettersIn (rowOf (chainOf (l .chain)))) (sharpFirst l) (spelledFrom n k)) (sym (a .letters-are))
+        ∙ ap (nameText (lettersIn (rowOf (chainOf (l .chain)))) (sharpFirst l))
+        (sym (keys-from-zero-on (l .octave) (l .generator) (a .positive) k .spellings-stay (l .letters) (l .start)))
+        ∙ ap (λ (x : List ℕ). nameText x (sharpFirst l) (accidentalsIn l (pos k)))
         (letters-in-row (chainOf (l .chain)) (chains-are-good (l .chain) (a .chain) .at-most-nine))
 
     -- as many letters as the layout has

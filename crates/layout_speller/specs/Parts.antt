@@ -9,19 +9,19 @@ use Rattle.text.specs.Writing.{joined}
 use Rattle.genchain.specs.Chains.{TableRow, lettersIn}
 use Rattle.genchain.specs.declared.rows.ChainRow.{ChainRow}
 use Rattle.layout.specs.Layouts.{Layout}
-use Rattle.layout.specs.Names.{nameIn}
+use Rattle.layout.specs.Names.{listedName}
 use Rattle.notes.specs.Names.{letterText, letterAt, nameText}
 use Rattle.pergen.specs.declared.Accidentals.{Accidentals}
 use Rattle.pergen.specs.declared.Cycle.{Cycle}
-use Rattle.pergen.specs.declared.Cycle.the-variants.{Absent, Number}
 use Rattle.pergen.specs.declared.stepping.Step.{Step}
+use Rattle.pergen.specs.Pergen.{shown}
 use Rattle.pergen.specs.Spelling.{byCoordinates, accidentalsOf}
 use Rattle.pergen.specs.Parts.{Walkable}
 use Rattle.layout_speller.specs.declared.speller.Speller.{Speller}
 
 -- "cycle i mod n, absent when n is 1"
 unfoldable pub cycleAt : ℕ → ℕ → Cycle
-cycleAt n c = pick (ltb 1 n) (Number c) Absent
+cycleAt n c = shown n c
 
 -- The spellings of a degree and a cycle.
 unfoldable pub spelledAt : Speller → Step → Accidentals
@@ -88,7 +88,7 @@ pub record OnWalk (s : Speller) (step : Step) : Type 0 where
 pub record SpellerOf (l : Layout) (s : Speller) : Type 0 where
   pub sound : Sound s
   pub octave-is : l .octave ≡ s .solved .«reduced_period» * s .solved .«num_cycles»
-  pub names : (k : ℕ) → nameOf s k ≡ nameIn l k
+  pub names : (k : ℕ) → nameOf s k ≡ listedName l k
 
 -- A stretch of the chain, from the first letter with so many sharps on: past the letters alone, and inside the chain.
 pub record Stretch (s : Speller) (sharps end : ℕ) : Type 0 where

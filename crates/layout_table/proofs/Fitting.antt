@@ -15,7 +15,8 @@ use Rattle.notes.proofs.ShortNames.{names-are-short}
 use Rattle.layout.specs.declared.IsomorphicLayout.{IsomorphicLayout}
 use Rattle.layout.specs.Layouts.{Layout, withPattern, layoutOutcome, Accepted, accidentalsIn, sharpFirst}
 use Rattle.layout.proofs.Finding.{generatorOf, walked}
-use Rattle.layout.specs.Names.{nameIn}
+use lib.IntN.{pos}
+use Rattle.layout.specs.Names.{nameIn, listedName}
 use Rattle.layout_layers.proofs.Counts.{signs-by-count}
 use Rattle.layout_lamps.specs.Lamps.{lampIn, hasLampsIn}
 use Rattle.layout_lamps.proofs.Theorems.{few-numbers, lamps-bound-the-octave, codes-fit-bytes}
@@ -31,7 +32,7 @@ use Rattle.layout_table.proofs.Lines.{length-line, length-refusal}
 
 module _ (r : IsomorphicLayout) (l : Layout) (ok : Accepted r l) (has : hasLampsIn l ≡ true) where
   abbrev name : ℕ → List ℕ
-  name = nameIn l
+  name = listedName l
 
   abbrev lamp : ℕ → ℕ
   lamp = lampIn l
@@ -42,8 +43,8 @@ module _ (r : IsomorphicLayout) (l : Layout) (ok : Accepted r l) (has : hasLamps
   name-most key =
       omega (
         arith,
-        names-are-short (chainOf (l .chain) .letters) (sharpFirst l) (accidentalsIn l key),
-        signs-by-count r l ok key,
+        names-are-short (chainOf (l .chain) .letters) (sharpFirst l) (accidentalsIn l (pos key)),
+        signs-by-count r l ok (pos key),
         few-numbers r l ok has,
       )
 

@@ -6,7 +6,7 @@ use Rattle.text.specs.Writing.{joined}
 use Rattle.layout_lamps.specs.Lamps.{lampOf, hasLamps, lampIn, hasLampsIn}
 use Rattle.layout.specs.declared.IsomorphicLayout.{IsomorphicLayout}
 use Rattle.layout.specs.Layouts.{Layout, layoutOutcome}
-use Rattle.layout.specs.Names.{nameIn}
+use Rattle.layout.specs.Names.{nameIn, listedName}
 use Rattle.layout.specs.Answers.{ofLayout}
 use Rattle.text.specs.Decimal.{digits}
 use Rattle.line.specs.Lines.{space, lineFeed, lineOutcome}
@@ -20,7 +20,7 @@ keyLine key name lamp = digits key ++ (space ∷ []) ++ name ++ (space ∷ []) +
 -- "a line per key from 0 to octave − 1 .. No header."
 unfoldable pub tableIn : Layout → List ℕ
 unfolding joined keyLine nameIn lampOf
-tableIn l = joined (λ key. keyLine key (nameIn l key) (lampIn l key)) (l .octave)
+tableIn l = joined (λ key. keyLine key (listedName l key) (lampIn l key)) (l .octave)
 
 -- Questions 1 to 4, question 9, then the table.
 unfoldable pub getTable : IsomorphicLayout → Outcome (List ℕ)

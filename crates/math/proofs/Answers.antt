@@ -23,19 +23,27 @@ pub rem-refused : (z : ℤ) (d : ℕ) → d ≡ 0 → refused 2 ≡ remOutcome z
 unfolding remOutcome
 rem-refused z d e = sym (ask-none 2 d _ e)
 
+pub rem-given : (z : ℤ) (d r : ℕ) → (d ≡ 0 → ⊥) → r ≡ remainder z d → given r ≡ remOutcome z d
+unfolding remOutcome
+rem-given z d r some e = ap given e ∙ sym (ask-some 2 d _ some)
+
 -- z as the code reads it, at any width
-module _ (w : Width) (z : ℤ) (f : SFits w z) (d : ℕ) (some : d ≡ 0 → ⊥) (q : ℤ) (r : ℕ) (v : Divided (toZ w (ofZ w z)) d q r) where
-  only : (q ≡ quotient z d) × (r ≡ remainder z d)
-  only = remainder-law .only z d q r (subst (λ (y : ℤ). Divided y d q r) (read-back w z f) v)
+module _ (w : Width) (z : ℤ) (f : SFits w z) (d : ℕ) where
+  only : (q : ℤ) (r : ℕ) → Divided (toZ w (ofZ w z)) d q r → (q ≡ quotient z d) × (r ≡ remainder z d)
+  only q r v = remainder-law .only z d q r (subst (λ (y : ℤ). Divided y d q r) (read-back w z f) v)
 
-  pub divide-given : given (q, r) ≡ divideOutcome z d
-  unfolding divideOutcome
-  divide-given = ap₂ (λ (x : ℤ) (y : ℕ). given (x, y)) (only .0) (only .1) ∙ sym (ask-some 2 d _ some)
+  pub remainder-found : (q : ℤ) (r : ℕ) → Divided (toZ w (ofZ w z)) d q r → r ≡ remainder z d
+  remainder-found q r v = only q r v .1
 
-  pub div-given : given q ≡ divOutcome z d
-  unfolding divOutcome
-  div-given = ap given (only .0) ∙ sym (ask-some 2 d _ some)
+  -- a remainder that a callee found of it
+  pub remainder-read : (r : ℕ) → r ≡ remainder (toZ w (ofZ w z)) d → r ≡ remainder z d
+  remainder-read r e = e ∙ ap (λ (y : ℤ). remainder y d) (read-back w z f)
 
-  pub rem-given : given r ≡ remOutcome z d
-  unfolding remOutcome
-  rem-given = ap given (only .1) ∙ sym (ask-some 2 d _ some)
+  module _ (some : d ≡ 0 → ⊥) (q : ℤ) (r : ℕ) (v : Divided (toZ w (ofZ w z)) d q r) where
+    pub divide-given : given (q, r) ≡ divideOutcome z d
+    unfolding divideOutcome
+    divide-given = ap₂ (λ (x : ℤ) (y : ℕ). given (x, y)) (only q r v .0) (only q r v .1) ∙ sym (ask-some 2 d _ some)
+
+    pub div-given : given q ≡ divOutcome z d
+    unfolding divOutcome
+    div-given = ap given (only q r v .0) ∙ sym (ask-some 2 d _ some)

@@ -14,6 +14,13 @@ pub remainder-below : (z : ℤ) (d : ℕ) → zero < d → remainder z d < d
 remainder-below (pos a) d h = mod-lt a h
 remainder-below (negsuc a) d h = omega (arith, mod-lt a h)
 
+-- of a number that is not negative
+pub remainder-cast : (z : ℤ) (a d : ℕ) → z ≡ pos a → a % d ≡ remainder z d
+remainder-cast z a d e = ap (λ (y : ℤ). remainder y d) (sym e)
+
+pub remainder-kept : (z : ℤ) (a d : ℕ) → z ≡ pos a → a < d → a ≡ remainder z d
+remainder-kept z a d e h = sym (mod-eq-of-lt h) ∙ remainder-cast z a d e
+
 sum-is : (z : ℤ) (d : ℕ) → zero < d → z ≡ pos d *ℤ quotient z d +ℤ pos (remainder z d)
 sum-is (pos a) d h = ap pos (sym (ap (λ (x : ℕ). x + a % d) (mul-comm d (a / d)) ∙ div-add-mod' a d))
 sum-is (negsuc a) d h =

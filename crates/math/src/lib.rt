@@ -3,7 +3,10 @@
 // Holds the greatest common divisor, division with a remainder that is never negative (at two widths of the
 // denominator), fractions in lowest terms, and a number without its factors of two.
 // specs/: Gcd, Division and OddFactors define them and state their theorems; Answers says what each call answers.
-// Every public function answers every input; a denominator of 0 is refused as a period below 1 is (2). Nothing is assumed.
+// Every entry point answers every input; a denominator of 0 is refused as a period below 1 is (2). `parts` holds remainders for
+// callers that know theirs to be above 0. Nothing is assumed.
+pub mod parts;
+
 use answer::NumberAnswer;
 use answer::Refusal;
 ghost use mathlib.Core.Path.{_≡_};
@@ -100,7 +103,7 @@ pub enum RemainderU32Answer {
 }
 
 // The division behind all of them. A negative number is -1 - mirror: its quotient and remainder are mirrored too.
-fn divide(numer: i32, denom: u32) -> DividedU32
+pub(crate) fn divide(numer: i32, denom: u32) -> DividedU32
     requires { ⌜ 0 < denom ⌝ }
     ensures { λ r. ⌜ Divided numer denom (r .quotient) (r .remainder) ⌝ }
 {
@@ -168,8 +171,7 @@ pub fn i32_rem_u32(numer: i32, denom: u32) -> RemainderU32Answer
     if denom == 0 {
         return RemainderU32Answer::Refused(Refusal::Period);
     }
-    let divided = divide(numer, denom);
-    RemainderU32Answer::Given(divided.remainder)
+    RemainderU32Answer::Given(parts::rem_u32(numer, denom))
 }
 
 // The remainder, never negative (2).
@@ -179,6 +181,5 @@ pub fn i32_rem_u16(numer: i32, denom: u16) -> NumberAnswer
     if denom == 0 {
         return NumberAnswer::Refused(Refusal::Period);
     }
-    let divided = divide(numer, denom as u32);
-    NumberAnswer::Given(divided.remainder as u16)
+    NumberAnswer::Given(parts::rem_u16(numer, denom))
 }

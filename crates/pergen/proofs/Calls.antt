@@ -1,7 +1,7 @@
 -- From the parts to what the calls answer: one law for each way in which a call ends.
 use Prim.Native.Nat.{ℕ, zero, _*_, _/_, _%_, _≤_, _<_}
-use mathlib.Core.Path.{_≡_, sym, ap, _∙_}
-use lib.IntN.{ℤ}
+use mathlib.Core.Path.{_≡_, sym, ap, ap₂, _∙_}
+use lib.IntN.{ℤ, pos}
 use borrow.Author.Tests.{lt-ltb, le-ltb}
 use native.Mathlib.Nat.{pos-of-ne-zero, div-one, div-le-self, mod-lt, mul-le-mul}
 use native.Mathlib.Omega.{arith}
@@ -9,7 +9,8 @@ use Rattle.answer.specs.Outcome.{Outcome, given, refused}
 use Rattle.answer.proofs.Questions.{ask-none, ask-some, ask-above, ask-below}
 use Rattle.math.specs.Gcd.{gcdOrOne}
 use Rattle.math.proofs.Gcd.{gcd-or-one, gcd-positive}
-use Rattle.pergen.specs.Pergen.{cycles, reduced, inverse, degree, cycle, cycleOf, generationOf}
+use Rattle.math.specs.Division.{remainder}
+use Rattle.pergen.specs.Pergen.{cycles, reduced, inverse, degree, cycle, keyDegree, keyCycle, cycleOf, generationOf}
 use Rattle.pergen.specs.Spelling.{accidentalsOf, keyAccidentals, place, soundedKey}
 use Rattle.pergen.specs.Answers.{askFormat, ofPergen, newOutcome, getGeneration, getAccidentals, getPlace, getSoundedKey}
 use Rattle.pergen.specs.Parts.{solvedOf, generationFrom}
@@ -22,6 +23,7 @@ use Rattle.pergen.specs.declared.Accidentals.{Accidentals}
 use Rattle.pergen.specs.declared.Spelling.{Spelling}
 use Rattle.pergen.specs.declared.euclid.Solved.{Solved}
 use Rattle.pergen.proofs.Inverse.{cycles-positive, reduced-positive}
+use Rattle.pergen.proofs.Keys.{keys-from-zero-on}
 
 -- ---- question 2, for each call
 
@@ -31,13 +33,13 @@ module _ (p : PerGen) where
     unfolding ofPergen
     no-number number = sym (ask-none 2 (p .period) _ none)
 
-    pub no-generation : (i : ℕ) → refused 2 ≡ getGeneration p i
+    pub no-generation : (key : ℤ) → refused 2 ≡ getGeneration p key
     unfolding getGeneration
-    no-generation i = sym (ask-none 2 (p .period) _ none)
+    no-generation key = sym (ask-none 2 (p .period) _ none)
 
-    pub no-accidentals : (f : AccidentalsFormat) (i : ℕ) → refused 2 ≡ getAccidentals p f i
+    pub no-accidentals : (f : AccidentalsFormat) (key : ℤ) → refused 2 ≡ getAccidentals p f key
     unfolding getAccidentals
-    no-accidentals f i = sym (ask-none 2 (p .period) _ none)
+    no-accidentals f key = sym (ask-none 2 (p .period) _ none)
 
     pub no-key : (f : AccidentalsFormat) (s : Spelling) → refused 2 ≡ getSoundedKey p f s
     unfolding getSoundedKey
@@ -48,9 +50,9 @@ module _ (p : PerGen) where
     unfolding ofPergen
     number-given number m e = ap given e ∙ sym (ask-some 2 (p .period) _ some)
 
-    pub generation-given : (i : ℕ) (g : Generation) → g ≡ generationOf (p .period) (p .generator) i → given g ≡ getGeneration p i
+    pub generation-given : (key : ℤ) (g : Generation) → g ≡ generationOf (p .period) (p .generator) key → given g ≡ getGeneration p key
     unfolding getGeneration
-    generation-given i g e = ap given e ∙ sym (ask-some 2 (p .period) _ some)
+    generation-given key g e = ap given e ∙ sym (ask-some 2 (p .period) _ some)
 
 pub new-refused : (period generator : ℕ) → period ≡ 0 → refused 2 ≡ newOutcome period generator
 unfolding newOutcome
@@ -72,28 +74,28 @@ good-format : {A : Type 0} (f : AccidentalsFormat) (rest : Outcome A) → (f .«
 good-format f rest some h = ask-some 5 (f .«num_symbols») _ some ∙ ask-below 6 _ _ rest h
 
 module _ (p : PerGen) (f : AccidentalsFormat) (some : p .period ≡ 0 → ⊥) where
-  pub accidentals-no-symbols : (i : ℕ) → f .«num_symbols» ≡ 0 → refused 5 ≡ getAccidentals p f i
+  pub accidentals-no-symbols : (key : ℤ) → f .«num_symbols» ≡ 0 → refused 5 ≡ getAccidentals p f key
   unfolding getAccidentals
-  accidentals-no-symbols i none = sym (ask-some 2 (p .period) _ some ∙ no-symbols f _ none)
+  accidentals-no-symbols key none = sym (ask-some 2 (p .period) _ some ∙ no-symbols f _ none)
 
   pub key-no-symbols : (s : Spelling) → f .«num_symbols» ≡ 0 → refused 5 ≡ getSoundedKey p f s
   unfolding getSoundedKey
   key-no-symbols s none = sym (ask-some 2 (p .period) _ some ∙ no-symbols f _ none)
 
   module _ (symbols : f .«num_symbols» ≡ 0 → ⊥) where
-    pub accidentals-no-origin : (i : ℕ) → f .«num_symbols» ≤ f .«genchain_origin» → refused 6 ≡ getAccidentals p f i
+    pub accidentals-no-origin : (key : ℤ) → f .«num_symbols» ≤ f .«genchain_origin» → refused 6 ≡ getAccidentals p f key
     unfolding getAccidentals
-    accidentals-no-origin i h = sym (ask-some 2 (p .period) _ some ∙ no-origin f _ symbols h)
+    accidentals-no-origin key h = sym (ask-some 2 (p .period) _ some ∙ no-origin f _ symbols h)
 
     pub key-no-origin : (s : Spelling) → f .«num_symbols» ≤ f .«genchain_origin» → refused 6 ≡ getSoundedKey p f s
     unfolding getSoundedKey
     key-no-origin s h = sym (ask-some 2 (p .period) _ some ∙ no-origin f _ symbols h)
 
     module _ (origin : f .«genchain_origin» < f .«num_symbols») where
-      pub accidentals-given : (i : ℕ) (a : Accidentals) → a ≡ keyAccidentals (p .period) (p .generator) (f .«num_symbols») (f .«genchain_origin») i
-          → given a ≡ getAccidentals p f i
+      pub accidentals-given : (key : ℤ) (a : Accidentals)
+          → a ≡ keyAccidentals (p .period) (p .generator) (f .«num_symbols») (f .«genchain_origin») key → given a ≡ getAccidentals p f key
       unfolding getAccidentals
-      accidentals-given i a e = ap given e ∙ sym (ask-some 2 (p .period) _ some ∙ good-format f _ symbols origin)
+      accidentals-given key a e = ap given e ∙ sym (ask-some 2 (p .period) _ some ∙ good-format f _ symbols origin)
 
       pub key-given : (s : Spelling) (k : ℕ) → k ≡ soundedKey (p .period) (p .generator) (f .«num_symbols») (f .«genchain_origin») s
           → given k ≡ getSoundedKey p f s
@@ -159,19 +161,31 @@ module _ (P G : ℕ) (s : Solved) (is : s ≡ solvedOf P G) where
   unfolding solvedOf
   solved-inverse = ap (λ (x : Solved). x .«generator_inverse») is
 
-  pub generation-is : (i : ℕ) (g : Generation) → g ≡ generationFrom s i → g ≡ generationOf P G i
-  unfolding solvedOf generationFrom generationOf cycleOf cycle degree
-  generation-is i g e = e ∙ ap (λ (x : Solved). generationFrom x i) is
-
   -- the degree is below the reduced period, as `accidentals` asks
   pub degree-small : (i : ℕ) (g : Generation) → zero < P → g ≡ generationFrom s i → g .degree < s .«reduced_period»
   unfolding generationFrom
   degree-small i g hP e = rw e (mod-lt _ (solved-keys hP))
 
-  pub accidentals-are : (N o i : ℕ) (g : Generation) (a : Accidentals) → g ≡ generationFrom s i
-      → a ≡ accidentalsOf (s .«reduced_period») N o (g .degree) (g .cycle) → a ≡ keyAccidentals P G N o i
-  unfolding keyAccidentals solvedOf generationOf
-  accidentals-are N o i g a e q =
+  -- of a key from 0 on, in any octave
+  pub accidentals-from-zero : (N o i : ℕ) (g : Generation) (a : Accidentals) → zero < P → g ≡ generationFrom s i
+      → a ≡ accidentalsOf (s .«reduced_period») N o (g .degree) (g .cycle) → a ≡ keyAccidentals P G N o (pos i)
+  unfolding solvedOf generationFrom degree cycle
+  accidentals-from-zero N o i g a hP e q =
       q
-      ∙ ap (λ (x : ℕ). accidentalsOf x N o (g .degree) (g .cycle)) (ap (λ (x : Solved). x .«reduced_period») is)
-      ∙ ap (λ (x : Generation). accidentalsOf (reduced P G) N o (x .degree) (x .cycle)) (generation-is i g e)
+      ∙ ap₂ (λ (x : Solved) (y : Generation). accidentalsOf (x .«reduced_period») N o (y .degree) (y .cycle)) is
+      (e ∙ ap (λ (x : Solved). generationFrom x i) is)
+      ∙ sym (keys-from-zero-on P G hP i .spellings-stay N o)
+
+  -- of a key that was brought round the period
+  module _ (key : ℤ) (i : ℕ) (round : i ≡ remainder key P) where
+    pub generation-is : (g : Generation) → g ≡ generationFrom s i → g ≡ generationOf P G key
+    unfolding solvedOf generationFrom generationOf cycleOf keyCycle keyDegree cycle degree
+    generation-is g e = e ∙ ap₂ (λ (x : Solved) (j : ℕ). generationFrom x j) is round
+
+    pub accidentals-are : (N o : ℕ) (g : Generation) (a : Accidentals) → g ≡ generationFrom s i
+        → a ≡ accidentalsOf (s .«reduced_period») N o (g .degree) (g .cycle) → a ≡ keyAccidentals P G N o key
+    unfolding keyAccidentals solvedOf generationOf
+    accidentals-are N o g a e q =
+        q
+        ∙ ap (λ (x : ℕ). accidentalsOf x N o (g .degree) (g .cycle)) (ap (λ (x : Solved). x .«reduced_period») is)
+        ∙ ap (λ (x : Generation). accidentalsOf (reduced P G) N o (x .degree) (x .cycle)) (generation-is g e)

@@ -19,11 +19,11 @@ use Rattle.pergen.specs.declared.Accidentals.{Accidentals}
 use Rattle.pergen.specs.declared.Signs.{Signs}
 use Rattle.pergen.specs.declared.Signs.the-variants.{Sharps, Flats}
 use Rattle.pergen.specs.declared.Spelling.{Spelling}
-use Rattle.pergen.specs.Pergen.{cycles, reduced, degree, cycle, cycleOf}
+use Rattle.pergen.specs.Pergen.{cycles, reduced, cycle, keyDegree, keyCycle, cycleOf}
 use Rattle.pergen.specs.Spelling.{sharpCoordinate, flatCoordinate, byCoordinates, lowSharpIndex, lowFlatIndex, byIndices, accidentalsOf, keyAccidentals, place, sounds, soundedKey, starsOf, sharpSpelling, flatSpelling}
 use Rattle.pergen.specs.Theorems.{PlacesOfTheDegree, SoundsOfTheKey, IndicesOfSymbols, AccidentalsSoundTheirKey, OneLetter, LetterWithoutSigns, FewSigns}
 use Rattle.pergen.proofs.Inverse.{cycles-positive, reduced-positive}
-use Rattle.pergen.proofs.Keys.{cycle-below, degree-below, degree-sounds-key}
+use Rattle.pergen.proofs.Keys.{key-degree-below, degree-sounds-key}
 use Rattle.pergen.proofs.Indices.{flat-rep, LowIndex, low-sharp, low-flat, accidentals-high, sharp-small, flat-small}
 
 -- ---- a spelling's place as a difference of naturals
@@ -136,13 +136,14 @@ module _ (R N o e : ℕ) (c : Cycle) (ho : o < N) (he : e < R) where
 
 -- ---- the spellings of a key
 
-stars-of-key : (P G i : ℕ) → zero < P → starsOf (cycleOf P G i) ≡ cycle P G i
-unfolding cycleOf cycle
-stars-of-key P G i hP = by (ltb 1 (cycles P G)) refl
+stars-of-key : (P G : ℕ) (key : ℤ) → zero < P → starsOf (cycleOf P G key) ≡ keyCycle P G key
+unfolding cycleOf keyCycle cycle
+stars-of-key P G key hP = by (ltb 1 (cycles P G)) refl
   where
-    by : (b : Bool) → ltb 1 (cycles P G) ≡ b → starsOf (pick b (Number (i % cycles P G)) Absent) ≡ i % cycles P G
+    by : (b : Bool) → ltb 1 (cycles P G) ≡ b
+        → starsOf (pick b (Number (remainder key P % cycles P G)) Absent) ≡ remainder key P % cycles P G
     by true q = refl
-    by false q = sym (ap (λ (n : ℕ). i % n) (one (ltb-false 1 (cycles P G) q)) ∙ mod-one i)
+    by false q = sym (ap (λ (n : ℕ). remainder key P % n) (one (ltb-false 1 (cycles P G) q)) ∙ mod-one (remainder key P))
       where
         one : cycles P G ≤ 1 → cycles P G ≡ 1
         one h = omega (arith, cycles-positive P G hP)
@@ -158,33 +159,33 @@ cycle-kept R N o e c = by (leb N R)
     by true = refl
     by false = refl
 
-module _ (P G N o i : ℕ) (hP : zero < P) (ho : o < N) where
-  good-key : Good (reduced P G) N o (degree P G i) (cycleOf P G i) ho (degree-below P G hP i) (keyAccidentals P G N o i)
+module _ (P G N o : ℕ) (key : ℤ) (hP : zero < P) (ho : o < N) where
+  good-key : Good (reduced P G) N o (keyDegree P G key) (cycleOf P G key) ho (key-degree-below P G hP key) (keyAccidentals P G N o key)
   unfolding keyAccidentals
-  good-key = good (reduced P G) N o (degree P G i) (cycleOf P G i) ho (degree-below P G hP i)
+  good-key = good (reduced P G) N o (keyDegree P G key) (cycleOf P G key) ho (key-degree-below P G hP key)
 
-  pub stars-are : starsOf ((keyAccidentals P G N o i) .cycle) ≡ cycle P G i
+  pub stars-are : starsOf ((keyAccidentals P G N o key) .cycle) ≡ keyCycle P G key
   unfolding keyAccidentals
-  stars-are = ap starsOf (cycle-kept (reduced P G) N o (degree P G i) (cycleOf P G i)) ∙ stars-of-key P G i hP
+  stars-are = ap starsOf (cycle-kept (reduced P G) N o (keyDegree P G key) (cycleOf P G key)) ∙ stars-of-key P G key hP
 
-  sounds-key : (s : Spelling) → s .stars ≡ starsOf ((keyAccidentals P G N o i) .cycle) → Apart (reduced P G) (place N o s) (pos (degree P G i))
-      → soundedKey P G N o s ≡ i % P
+  sounds-key : (s : Spelling) → s .stars ≡ starsOf ((keyAccidentals P G N o key) .cycle) → Apart (reduced P G) (place N o s) (pos (keyDegree P G key))
+      → soundedKey P G N o s ≡ remainder key P
   unfolding soundedKey
-  sounds-key s e a = ap (sounds P G (place N o s)) (e ∙ stars-are) ∙ degree-sounds-key P G hP i (place N o s) a
+  sounds-key s e a = ap (sounds P G (place N o s)) (e ∙ stars-are) ∙ degree-sounds-key P G hP key (place N o s) a
 
-  places-of-the-degree : PlacesOfTheDegree P G N o i
+  places-of-the-degree : PlacesOfTheDegree P G N o key
   places-of-the-degree = (good-key .sharp, good-key .flat)
 
-  sounds-of-the-key : SoundsOfTheKey P G N o i
+  sounds-of-the-key : SoundsOfTheKey P G N o key
   unfolding sharpSpelling flatSpelling
   sounds-of-the-key = (sounds-key _ refl (good-key .sharp), sounds-key _ refl (good-key .flat))
 
-  indices-of-symbols : IndicesOfSymbols P G N o i
+  indices-of-symbols : IndicesOfSymbols P G N o key
   indices-of-symbols = (good-key .sharp-index, good-key .flat-index)
 
 pub accidentals-sound-their-key : AccidentalsSoundTheirKey
-accidentals-sound-their-key P G N o i hP ho =
-    (places-of-the-degree P G N o i hP ho, sounds-of-the-key P G N o i hP ho, indices-of-symbols P G N o i hP ho)
+accidentals-sound-their-key P G N o key hP ho =
+    (places-of-the-degree P G N o key hP ho, sounds-of-the-key P G N o key hP ho, indices-of-symbols P G N o key hP ho)
 
 -- ---- a letter without signs: the coordinates sum to N − 1 modulo R, and both are below N
 
@@ -246,13 +247,13 @@ OneIndex a = a .«sharp_count» ≡ 0 → a .«flat_count» ≡ 0 → a .«sharp
 
 pub letter-without-signs : LetterWithoutSigns
 unfolding keyAccidentals byCoordinates
-letter-without-signs P G N o i hP ho h =
-    subst OneIndex (accidentals-high (reduced P G) N o (degree P G i) (cycleOf P G i) h _ _ refl refl)
-    (one-letter (reduced P G) N o (degree P G i) (cycleOf P G i) ho (degree-below P G hP i) h _ _ refl refl)
+letter-without-signs P G N o key hP ho h =
+    subst OneIndex (accidentals-high (reduced P G) N o (keyDegree P G key) (cycleOf P G key) h _ _ refl refl)
+    (one-letter (reduced P G) N o (keyDegree P G key) (cycleOf P G key) ho (key-degree-below P G hP key) h _ _ refl refl)
 
 pub few-signs : FewSigns
 unfolding keyAccidentals byCoordinates
-few-signs P G N o i hP ho h =
+few-signs P G N o key hP ho h =
     subst (λ (a : Accidentals). N * (a .«sharp_count» + a .«flat_count») < reduced P G + N)
-    (accidentals-high (reduced P G) N o (degree P G i) (cycleOf P G i) h _ _ refl refl)
-    (signs-most (reduced P G) N o (degree P G i) (cycleOf P G i) ho (degree-below P G hP i) h _ _ refl refl)
+    (accidentals-high (reduced P G) N o (keyDegree P G key) (cycleOf P G key) h _ _ refl refl)
+    (signs-most (reduced P G) N o (keyDegree P G key) (cycleOf P G key) ho (key-degree-below P G hP key) h _ _ refl refl)

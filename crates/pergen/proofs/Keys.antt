@@ -10,10 +10,11 @@ use native.Mathlib.Omega.{arith}
 use Rattle.math.specs.Division.{remainder, Apart}
 use Rattle.math.proofs.Congruence.{mul-cong, two-digits, two-digits-agree}
 use Rattle.math.proofs.Integers.{up, down, Rep, rep-self, rep-pos, rep-add, rep-mul}
-use Rattle.math.proofs.Division.{remainders-agree, apart-iff, apart→remainder}
-use Rattle.pergen.specs.Pergen.{cycles, reduced, inverse, degree, cycle}
-use Rattle.pergen.specs.Spelling.{sounds}
-use Rattle.pergen.specs.Theorems.{SpellingsOfOneKey, DegreeSoundsKey, DegreeAndCycleTellKeysApart}
+use Rattle.math.proofs.Division.{remainder-below, remainders-agree, apart-iff, apart→remainder}
+use Rattle.pergen.specs.Pergen.{cycles, reduced, inverse, degree, cycle, shown, keyDegree, keyCycle, cycleOf}
+use Rattle.pergen.specs.Spelling.{accidentalsOf, keyAccidentals, sounds}
+use Rattle.pergen.specs.declared.Cycle.{Cycle}
+use Rattle.pergen.specs.Theorems.{SpellingsOfOneKey, OldAnswersStay, KeysFromZeroOn, DegreeSoundsKey, DegreeAndCycleTellKeysApart}
 use Rattle.pergen.proofs.Inverse.{Numbers, numbers, cycles-positive, reduced-positive}
 
 -- ---- in naturals
@@ -118,29 +119,63 @@ module _ (P G : ℕ) (hP : zero < P) where
   unfolding degree
   degree-below i = mod-lt _ (reduced-positive P G hP)
 
+  pub key-cycle-below : (key : ℤ) → keyCycle P G key < cycles P G
+  unfolding keyCycle
+  key-cycle-below key = cycle-below (remainder key P)
+
+  pub key-degree-below : (key : ℤ) → keyDegree P G key < reduced P G
+  unfolding keyDegree
+  key-degree-below key = degree-below (remainder key P)
+
   degree-sounds : (i : ℕ) → sounds P G (pos (degree P G i)) (cycle P G i) ≡ i % P
   unfolding sounds degree cycle
   degree-sounds i = degree-sounds-ℕ (numbers P G hP) i
 
+  key-degree-sounds : (key : ℤ) → sounds P G (pos (keyDegree P G key)) (keyCycle P G key) ≡ remainder key P
+  unfolding keyDegree keyCycle
+  key-degree-sounds key = degree-sounds (remainder key P) ∙ mod-eq-of-lt (remainder-below key P hP)
+
+  -- the formulas of two numbers agree where the keys that they sound do
+  pub formulas-agree : (i j : ℕ) → i % P ≡ j % P → (degree P G i ≡ degree P G j) × (cycle P G i ≡ cycle P G j)
+  formulas-agree i j e =
+      let h : (cycle P G i ≡ cycle P G j) × Apart (reduced P G) (pos (degree P G i)) (pos (degree P G j))
+      = spellings-of-one-key P G hP (pos (degree P G i)) (pos (degree P G j)) (cycle P G i) (cycle P G j)
+      (cycle-below i) (cycle-below j) .0 (degree-sounds i ∙ e ∙ sym (degree-sounds j)) in (
+        sym (mod-eq-of-lt (degree-below i))
+            ∙ apart→remainder (reduced P G) (reduced-positive P G hP) (pos (degree P G i)) (pos (degree P G j)) (h .1)
+            ∙ mod-eq-of-lt (degree-below j),
+        h .0,
+      )
+
+  -- a key that was brought round the period has the spellings of the key
+  pub key-round : (N o : ℕ) (key : ℤ) (i : ℕ) → i ≡ remainder key P → keyAccidentals P G N o (pos i) ≡ keyAccidentals P G N o key
+  unfolding keyAccidentals cycleOf keyDegree keyCycle
+  key-round N o key i e =
+      ap (λ (j : ℕ). accidentalsOf (reduced P G) N o (degree P G j) (shown (cycles P G) (cycle P G j)))
+      (ap (λ (j : ℕ). j % P) e ∙ mod-eq-of-lt (remainder-below key P hP))
+
+pub keys-from-zero-on : KeysFromZeroOn
+unfolding keyDegree keyCycle cycleOf keyAccidentals
+keys-from-zero-on P G hP i =
+    let h = formulas-agree P G hP (i % P) i (mod-mod i P) in
+    record {
+      degree-stays = h .0;
+      cycle-stays = h .1;
+      spellings-stay =
+          λ N o.
+          ap₂ (λ (d c : ℕ). accidentalsOf (reduced P G) N o d (shown (cycles P G) c)) (h .0) (h .1);
+    }
+
 pub degree-sounds-key : DegreeSoundsKey
-degree-sounds-key P G hP i u a =
-    spellings-of-one-key P G hP u (pos (degree P G i)) (cycle P G i) (cycle P G i) (cycle-below P G hP i) (cycle-below P G hP i) .1 (refl, a)
-    ∙ degree-sounds P G hP i
+degree-sounds-key P G hP key u a =
+    let below = key-cycle-below P G hP key in
+    spellings-of-one-key P G hP u (pos (keyDegree P G key)) (keyCycle P G key) (keyCycle P G key) below below .1 (refl, a)
+    ∙ key-degree-sounds P G hP key
 
 pub degree-and-cycle-tell-keys-apart : DegreeAndCycleTellKeysApart
-degree-and-cycle-tell-keys-apart P G hP i j = (there, back)
-  where
-    back : (degree P G i ≡ degree P G j) × (cycle P G i ≡ cycle P G j) → i % P ≡ j % P
-    back h =
-        sym (degree-sounds P G hP i) ∙ ap₂ (λ (u v : ℕ). sounds P G (pos u) v) (h .0) (h .1) ∙ degree-sounds P G hP j
-
-    there : i % P ≡ j % P → (degree P G i ≡ degree P G j) × (cycle P G i ≡ cycle P G j)
-    there e =
-        let h : (cycle P G i ≡ cycle P G j) × Apart (reduced P G) (pos (degree P G i)) (pos (degree P G j))
-        = spellings-of-one-key P G hP (pos (degree P G i)) (pos (degree P G j)) (cycle P G i) (cycle P G j)
-        (cycle-below P G hP i) (cycle-below P G hP j) .0 (degree-sounds P G hP i ∙ e ∙ sym (degree-sounds P G hP j)) in (
-          sym (mod-eq-of-lt (degree-below P G hP i))
-              ∙ apart→remainder (reduced P G) (reduced-positive P G hP) (pos (degree P G i)) (pos (degree P G j)) (h .1)
-              ∙ mod-eq-of-lt (degree-below P G hP j),
-          h .0,
-        )
+unfolding keyDegree keyCycle
+degree-and-cycle-tell-keys-apart P G hP x y = (
+  λ a. formulas-agree P G hP (remainder x P) (remainder y P) (ap (λ (i : ℕ). i % P) (apart→remainder P hP x y a)),
+  λ h. apart-iff P hP x y .0
+      (sym (key-degree-sounds P G hP x) ∙ ap₂ (λ (d c : ℕ). sounds P G (pos d) c) (h .0) (h .1) ∙ key-degree-sounds P G hP y),
+)

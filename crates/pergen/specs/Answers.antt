@@ -35,15 +35,15 @@ newOutcome period generator =
     let p : PerGen = record { period = period; generator = generator } in
     askPeriod p (given p)
 
-unfoldable pub getGeneration : PerGen → ℕ → Outcome Generation
+unfoldable pub getGeneration : PerGen → ℤ → Outcome Generation
 unfolding generationOf
-getGeneration p i = askPeriod p (given (generationOf (p .period) (p .generator) i))
+getGeneration p key = askPeriod p (given (generationOf (p .period) (p .generator) key))
 
-unfoldable pub getAccidentals : PerGen → AccidentalsFormat → ℕ → Outcome Accidentals
+unfoldable pub getAccidentals : PerGen → AccidentalsFormat → ℤ → Outcome Accidentals
 unfolding keyAccidentals
-getAccidentals p f i =
+getAccidentals p f key =
     askPeriod p
-    (askFormat f (given (keyAccidentals (p .period) (p .generator) (f .«num_symbols») (f .«genchain_origin») i)))
+    (askFormat f (given (keyAccidentals (p .period) (p .generator) (f .«num_symbols») (f .«genchain_origin») key)))
 
 unfoldable pub getPlace : AccidentalsFormat → Spelling → Outcome ℤ
 unfolding place

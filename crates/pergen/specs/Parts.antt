@@ -5,8 +5,7 @@ use mathlib.Core.Bool.{true, false}
 use lib.Dec.{ltb}
 use Rattle.answer.specs.Choice.{pick}
 use Rattle.math.specs.Gcd.{gcd}
-use Rattle.pergen.specs.Pergen.{cycles, reduced, inverse}
-use Rattle.pergen.specs.declared.Cycle.the-variants.{Absent, Number}
+use Rattle.pergen.specs.Pergen.{cycles, reduced, inverse, shown}
 use Rattle.pergen.specs.declared.Generation.{Generation}
 use Rattle.pergen.specs.declared.euclid.Bezout.{Bezout}
 use Rattle.pergen.specs.declared.euclid.Solved.{Solved}
@@ -28,11 +27,11 @@ forward b = pick (b .negative) (b .cofactor - b .coefficient) (b .coefficient)
 unfoldable pub solvedOf : ℕ → ℕ → Solved
 solvedOf P G = record { «num_cycles» = cycles P G; «reduced_period» = reduced P G; «generator_inverse» = inverse P G }
 
--- Degree and cycle of key i, by those numbers.
+-- Degree and cycle of key i of the period, by those numbers.
 unfoldable pub generationFrom : Solved → ℕ → Generation
 generationFrom s i =
     record {
-      cycle = pick (ltb 1 (s .«num_cycles»)) (Number (i % s .«num_cycles»)) Absent;
+      cycle = shown (s .«num_cycles») (i % s .«num_cycles»);
       degree = s .«generator_inverse» * (i / s .«num_cycles») % s .«reduced_period»;
     }
 

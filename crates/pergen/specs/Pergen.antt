@@ -3,7 +3,9 @@ use Prim.Native.Nat.{ℕ, zero, suc, _*_, _/_, _%_, _<_}
 use mathlib.Core.Bool.{Bool, true, false}
 use mathlib.Core.Path.{_≡_}
 use lib.Dec.{eqb, ltb}
+use lib.IntN.{ℤ}
 use Rattle.answer.specs.Choice.{pick}
+use Rattle.math.specs.Division.{remainder}
 use Rattle.math.specs.Gcd.{gcd}
 use Rattle.pergen.specs.declared.Cycle.{Cycle}
 use Rattle.pergen.specs.declared.Cycle.the-variants.{Absent, Number}
@@ -45,11 +47,25 @@ unfolding cycles
 cycle P G i = i % cycles P G
 
 -- "absent when n is 1"
-unfoldable pub cycleOf : ℕ → ℕ → ℕ → Cycle
-unfolding cycle cycles
-cycleOf P G i = pick (ltb 1 (cycles P G)) (Number (cycle P G i)) Absent
+abbrev pub shown : (n cycle : ℕ) → Cycle
+shown n cycle = pick (ltb 1 n) (Number cycle) Absent
 
--- Degree and cycle of key i.
-unfoldable pub generationOf : ℕ → ℕ → ℕ → Generation
-unfolding cycleOf degree
-generationOf P G i = record { cycle = cycleOf P G i; degree = degree P G i }
+-- ---- keys of any number: those formulas, "by first bringing the number round the octave with the remainder that is never negative"
+-- (document 02, W-201). Of a free pergen the period is meant.
+
+unfoldable pub keyDegree : ℕ → ℕ → ℤ → ℕ
+unfolding degree
+keyDegree P G key = degree P G (remainder key P)
+
+unfoldable pub keyCycle : ℕ → ℕ → ℤ → ℕ
+unfolding cycle
+keyCycle P G key = cycle P G (remainder key P)
+
+unfoldable pub cycleOf : ℕ → ℕ → ℤ → Cycle
+unfolding keyCycle cycles
+cycleOf P G key = shown (cycles P G) (keyCycle P G key)
+
+-- Degree and cycle of a key.
+unfoldable pub generationOf : ℕ → ℕ → ℤ → Generation
+unfolding cycleOf keyDegree
+generationOf P G key = record { cycle = cycleOf P G key; degree = keyDegree P G key }

@@ -5,7 +5,7 @@ use lib.Dec.{eqb, ltb, leb}
 use lib.IntN.{ℤ, pos, negsuc, negℤ, _+ℤ_, _-ℤ_, _*ℤ_}
 use Rattle.answer.specs.Choice.{pick}
 use Rattle.math.specs.Division.{remainder}
-use Rattle.pergen.specs.Pergen.{cycles, reduced, degree, cycleOf}
+use Rattle.pergen.specs.Pergen.{cycles, reduced, keyDegree, cycleOf}
 use Rattle.pergen.specs.declared.Cycle.{Cycle}
 use Rattle.pergen.specs.declared.Cycle.the-variants.{Absent, Number}
 use Rattle.pergen.specs.declared.Accidentals.{Accidentals}
@@ -60,10 +60,10 @@ accidentalsOf R N origin degree c =
     (byCoordinates c N (sharpCoordinate R d) (flatCoordinate R N d))
     (byIndices c (lowSharpIndex R N d) (lowFlatIndex R d degree))
 
--- The two spellings of key i.
-unfoldable pub keyAccidentals : ℕ → ℕ → ℕ → ℕ → ℕ → Accidentals
-unfolding accidentalsOf reduced degree cycleOf
-keyAccidentals P G N origin i = accidentalsOf (reduced P G) N origin (degree P G i) (cycleOf P G i)
+-- The two spellings of a key.
+unfoldable pub keyAccidentals : ℕ → ℕ → ℕ → ℕ → ℤ → Accidentals
+unfolding accidentalsOf reduced keyDegree cycleOf
+keyAccidentals P G N origin key = accidentalsOf (reduced P G) N origin (keyDegree P G key) (cycleOf P G key)
 
 -- ---- any spelling: an index, a number of sharps or of flats, and stars
 

@@ -82,7 +82,7 @@ pub fn solve(period: u16, generator: u16) -> Solved
     }
 }
 
-// Degree and cycle of a key; the product is at most 65,535 times 65,535.
+// Degree and cycle of a key that was brought round the period; the product is at most 65,535 times 65,535.
 pub fn generation(solved: Solved, index: u16) -> Generation
     requires { ⌜ (0 < solved .«num_cycles») × (0 < solved .«reduced_period») ⌝ }
     ensures { λ r. ⌜ r ≡ generationFrom solved index ⌝ }

@@ -146,13 +146,14 @@ impl PerGen {
         NumberAnswer::Given(solved.generator_inverse)
     }
 
-    // Degree and cycle of a key (2).
-    pub fn get_generation(self, index: u16) -> GenerationAnswer
-        ensures { λ r. ⌜ generationOutcome r ≡ getGeneration self index ⌝ }
+    // Degree and cycle of a key, below 0 too: the number is first brought round the period (2).
+    pub fn get_generation(self, key: i32) -> GenerationAnswer
+        ensures { λ r. ⌜ generationOutcome r ≡ getGeneration self key ⌝ }
     {
         if self.period == 0 {
             return GenerationAnswer::Refused(Refusal::Period);
         }
+        let index = math::parts::rem_u16(key, self.period);
         let solved = euclid::solve(self.period, self.generator);
         GenerationAnswer::Given(euclid::generation(solved, index))
     }

@@ -13,9 +13,9 @@ use pergen::euclid;
 ghost use mathlib.Core.Path.{_≡_};
 ghost use Rattle.pergen.specs.Answers.{getAccidentals, accidentalsOutcome};
 
-// The sharp and the flat spelling of a key (2, 5, 6).
-pub fn get_accidentals(pergen: PerGen, format: AccidentalsFormat, index: u16) -> AccidentalsAnswer
-    ensures { λ r. ⌜ accidentalsOutcome r ≡ getAccidentals pergen format index ⌝ }
+// The sharp and the flat spelling of a key, below 0 too: the number is first brought round the period (2, 5, 6).
+pub fn get_accidentals(pergen: PerGen, format: AccidentalsFormat, key: i32) -> AccidentalsAnswer
+    ensures { λ r. ⌜ accidentalsOutcome r ≡ getAccidentals pergen format key ⌝ }
 {
     if pergen.period == 0 {
         return AccidentalsAnswer::Refused(Refusal::Period);
@@ -26,6 +26,7 @@ pub fn get_accidentals(pergen: PerGen, format: AccidentalsFormat, index: u16) ->
     if format.num_symbols <= format.genchain_origin {
         return AccidentalsAnswer::Refused(Refusal::Origin);
     }
+    let index = math::parts::rem_u16(key, pergen.period);
     let solved = euclid::solve(pergen.period, pergen.generator);
     let generation = euclid::generation(solved, index);
     AccidentalsAnswer::Given(parts::accidentals(solved.reduced_period, format, generation))

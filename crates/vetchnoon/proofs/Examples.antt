@@ -14,6 +14,7 @@ examples-hold = record {
   pergens = refl;
   no-period = refl;
   with-cycle = refl;
+  below-zero = refl;
   without-cycle = refl;
   spelled = refl;
   child = refl;

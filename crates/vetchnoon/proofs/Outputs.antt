@@ -9,7 +9,7 @@ use lib.Dec.{leb, ltb}
 use lib.IntN.{ℤ}
 use lib.ListN.{length}
 use borrow.Author.Tests.{leb-true}
-use mir.Syntax.{w16}
+use mir.Syntax.{w16, w32}
 use mir.Val.{SFits, toZ, ofZ}
 use Rattle.answer.specs.Outcome.{Outcome, given, refused, ask, andThen}
 use Rattle.answer.specs.Lent.{heldIn}
@@ -23,13 +23,14 @@ use Rattle.layout.specs.Answers.{inRoom, getNoteName}
 use Rattle.layout.specs.Layouts.{Layout, layoutOutcome, Accepted}
 use Rattle.layout.specs.Names.{nameIn}
 use Rattle.layout.specs.declared.IsomorphicLayout.{IsomorphicLayout}
-use Rattle.layout.proofs.Calls.{of-refused, of-given}
+use Rattle.layout.proofs.Calls.{of-refused, of-given, same-name}
 use Rattle.layout.proofs.Finding.{accepted, octave-is}
 use Rattle.layout_book.specs.LayoutBooks.{bookIn, getBook}
 use Rattle.layout_speller.proofs.Spelled.{name-short}
 use Rattle.layout_speller.proofs.Spellers.{speller-of}
 use Rattle.layout_book.proofs.Theorems.{offsets-fit}
 use Rattle.layout_layers.specs.declared.Layer.{Layer}
+use Rattle.math.specs.Division.{remainder}
 use Rattle.math.proofs.Signed.{read-back}
 use Rattle.mos.specs.Answers.{ofPattern, genesisOutcome, listingOutcome}
 use Rattle.mos.specs.Patterns.{isPattern, genesis, keyAt}
@@ -98,6 +99,10 @@ pub layers-in-room : (room : ℕ) (m : Mos) → inRoom room (ofPattern m (layers
 unfolding ofPattern layersOutcome
 layers-in-room room m = ask-then 7 (isPattern m) (given (layersOf m)) (heldIn room)
 
+-- a key is a signed number, which comes as it is read back
+pub key-handed-on : {A : Type 0} (answer : ℤ → A) (key : ℤ) → SFits w32 key → answer (toZ w32 (ofZ w32 key)) ≡ answer key
+key-handed-on answer key f = ap answer (read-back w32 key f)
+
 -- a key's place is two signed numbers, which come as they are read back
 pub key-read-back : (m : Mos) (p s : ℤ) → SFits w16 p → SFits w16 s
     → ofPattern m (keyAt m (toZ w16 (ofZ w16 p)) (toZ w16 (ofZ w16 s))) ≡ ofPattern m (keyAt m p s)
@@ -142,13 +147,14 @@ module _ (r : IsomorphicLayout) (small : r .octave ≤ 65535) where
   octave-fits : (l : Layout) → Accepted r l → l .octave ≤ 65535
   octave-fits l e = omega (arith, octave-is r l e)
 
-  name-fits : (key : ℕ) (l : Layout) → Accepted r l → length (nameIn l key) < 2 ^ 63
+  name-fits : (key : ℤ) (l : Layout) → Accepted r l → length (nameIn l key) < 2 ^ 63
   name-fits key l e =
+      let i = remainder key (l .octave) in
       let w
       = speller-of l (accepted r l e) (rowOf (chainOf (l .chain))) (solvedOf (l .octave) (l .generator)) refl refl (octave-fits l e) in
-      subst (λ (t : List ℕ). length t < 2 ^ 63) (w .names key) (omega (arith, name-short _ (w .sound) key))
+      subst (λ (t : List ℕ). length t < 2 ^ 63) (w .names i ∙ same-name r l (sym e) key i refl) (omega (arith, name-short _ (w .sound) i))
 
-  pub names-fit : (key : ℕ) (text : List ℕ) → getNoteName r key ≡ given text → length text < 2 ^ 63
+  pub names-fit : (key : ℤ) (text : List ℕ) → getNoteName r key ≡ given text → length text < 2 ^ 63
   unfolding getNoteName
   names-fit key = fits-given _ (λ (l : Layout). nameIn l key) (name-fits key)
 

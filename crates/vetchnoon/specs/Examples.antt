@@ -59,10 +59,12 @@ pub record ExamplesHold : Type 0 where
   pub pergens : pergenOutput 24 14 ≡ given (2 ∷ 12 ∷ 7 ∷ [])
   pub no-period : pergenOutput 0 14 ≡ refused 2
   -- degree, whether there is a cycle, cycle
-  pub with-cycle : asNumbers generationNumbers (getGeneration (pergen 24 14) 2) ≡ given (7 ∷ 1 ∷ 0 ∷ [])
-  pub without-cycle : asNumbers generationNumbers (getGeneration (pergen 12 7) 1) ≡ given (7 ∷ 0 ∷ 0 ∷ [])
+  pub with-cycle : asNumbers generationNumbers (getGeneration (pergen 24 14) (pos 2)) ≡ given (7 ∷ 1 ∷ 0 ∷ [])
+  -- key −1, which is key 23
+  pub below-zero : asNumbers generationNumbers (getGeneration (pergen 24 14) (negsuc 0)) ≡ given (5 ∷ 1 ∷ 1 ∷ [])
+  pub without-cycle : asNumbers generationNumbers (getGeneration (pergen 12 7) (pos 1)) ≡ given (7 ∷ 0 ∷ 0 ∷ [])
   -- "period 5, generator 3, 7 symbols, origin 3: key 1 has indices 5 and 0"
-  pub spelled : asNumbers accidentalsNumbers (getAccidentals (pergen 5 3) (format 7 3) 1) ≡ given (5 ∷ 0 ∷ 0 ∷ 0 ∷ [])
+  pub spelled : asNumbers accidentalsNumbers (getAccidentals (pergen 5 3) (format 7 3) (pos 1)) ≡ given (5 ∷ 0 ∷ 0 ∷ 0 ∷ [])
   pub child : asNumbers walkNumbers (ofPattern (mos 5 2 2 1) (childOf (mos 5 2 2 1))) ≡ given (5 ∷ 7 ∷ 1 ∷ 1 ∷ [])
   pub no-child : asNumbers walkNumbers (ofPattern (mos 5 7 1 1) (childOf (mos 5 7 1 1))) ≡ given []
   -- "Pattern 1, 60000, 4, 0: `coprime` gives 8."

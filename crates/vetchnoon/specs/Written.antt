@@ -119,5 +119,5 @@ abbrev pub placeNumbers : Place → List ℕ
 placeNumbers place = place .offset ∷ place .length ∷ []
 
 -- Question 10, of a slice with `room` elements: two numbers are written, whatever the book. Then 11 to 13, and the place of the name.
-abbrev pub pairOutput : ℕ → List ℕ → ℕ → Outcome (List ℕ)
+abbrev pub pairOutput : ℕ → List ℕ → ℤ → Outcome (List ℕ)
 pairOutput room book key = ask 10 (leb 2 room) (asNumbers placeNumbers (findOutcome book key))

@@ -39,7 +39,7 @@ pub extern "C" fn vn_book(chain: u16, octave: u16, tritave: u16, out: &mut [u8])
 
 // Offset and length of a key's name in a book (10, 11, 12, 13).
 #[no_mangle]
-pub extern "C" fn vn_book_find(book: &[u8], key: u32, out: &mut [u32]) -> i64
+pub extern "C" fn vn_book_find(book: &[u8], key: i32, out: &mut [u32]) -> i64
     ensures { λ r. ⌜ Fills (pairOutput (length (now (out .entry))) (now (book .entry)) key) r (now (out .entry)) (now (out .exit)) ⌝ }
 {
     if out.len() < 2 {

@@ -61,7 +61,7 @@ pub extern "C" fn vn_scale_name(chain: u16, octave: u16, tritave: u16, out: &mut
 
 // How many bytes a key's name has (1, 2, 3, 4).
 #[no_mangle]
-pub extern "C" fn vn_note_name_len(chain: u16, octave: u16, tritave: u16, key: u16) -> i64
+pub extern "C" fn vn_note_name_len(chain: u16, octave: u16, tritave: u16, key: i32) -> i64
     ensures { λ r. ⌜ r ≡ codeOf (counted (getNoteName (layout chain octave tritave) key)) ⌝ }
 {
     let layout = IsomorphicLayout {
@@ -78,7 +78,7 @@ pub extern "C" fn vn_note_name(
     chain: u16,
     octave: u16,
     tritave: u16,
-    key: u16,
+    key: i32,
     out: &mut [u8],
 ) -> i64
     ensures { λ r. ⌜ Fills (getNoteName (layout chain octave tritave) key) r (now (out .entry)) (now (out .exit)) ⌝ }
@@ -97,7 +97,7 @@ pub extern "C" fn vn_layout_accidentals(
     chain: u16,
     octave: u16,
     tritave: u16,
-    key: u16,
+    key: i32,
     out: &mut [u16],
 ) -> i64
     ensures { λ r. ⌜ Fills (asNumbers accidentalsNumbers (getAccidentals (layout chain octave tritave) key)) r (now (out .entry)) (now (out .exit)) ⌝ }
@@ -163,7 +163,7 @@ pub extern "C" fn vn_layout_layers(chain: u16, octave: u16, tritave: u16, out: &
 
 // The layer number of one key (1, 2, 3, 4).
 #[no_mangle]
-pub extern "C" fn vn_layer(chain: u16, octave: u16, tritave: u16, key: u16) -> i64
+pub extern "C" fn vn_layer(chain: u16, octave: u16, tritave: u16, key: i32) -> i64
     ensures { λ r. ⌜ r ≡ codeOf (getLayer (layout chain octave tritave) key) ⌝ }
 {
     let layout = IsomorphicLayout {
@@ -223,7 +223,7 @@ pub extern "C" fn vn_lamp_strip(chain: u16, octave: u16, tritave: u16, out: &mut
 
 // The lamp code of one key (1, 2, 3, 4, 9).
 #[no_mangle]
-pub extern "C" fn vn_lamp(chain: u16, octave: u16, tritave: u16, key: u16) -> i64
+pub extern "C" fn vn_lamp(chain: u16, octave: u16, tritave: u16, key: i32) -> i64
     ensures { λ r. ⌜ r ≡ codeOf (getLamp (layout chain octave tritave) key) ⌝ }
 {
     let layout = IsomorphicLayout {

@@ -59,7 +59,7 @@ fn presence(cycle: Cycle) -> u16
 
 // A key's degree, whether it has a cycle, and the cycle (2, 10).
 #[no_mangle]
-pub extern "C" fn vn_generation(period: u16, generator: u16, key: u16, out: &mut [u16]) -> i64
+pub extern "C" fn vn_generation(period: u16, generator: u16, key: i32, out: &mut [u16]) -> i64
     ensures { λ r. ⌜ Fills (asNumbers generationNumbers (getGeneration (pergen period generator) key)) r (now (out .entry)) (now (out .exit)) ⌝ }
 {
     let pergen = PerGen { period, generator };
@@ -80,7 +80,7 @@ pub extern "C" fn vn_accidentals(
     generator: u16,
     symbols: u16,
     origin: u16,
-    key: u16,
+    key: i32,
     out: &mut [u16],
 ) -> i64
     ensures { λ r. ⌜ Fills (asNumbers accidentalsNumbers (getAccidentals (pergen period generator) (format symbols origin) key)) r (now (out .entry)) (now (out .exit)) ⌝ }

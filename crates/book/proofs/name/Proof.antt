@@ -1,5 +1,8 @@
 -- A place that is found lies in the book, so the part can be lent; it is the name.
 use mathlib.Core.Path.{sym, ap, _∙_}
+use mir.Syntax.{w32}
+use Rattle.math.proofs.Signed.{read-back}
+use Rattle.book.specs.Books.{findOutcome}
 use Rattle.book.specs.Answers.{findAnswered}
 use Rattle.book.proofs.Cover.{found-lies-in-text}
 use Rattle.book.proofs.Lookup.{name-found, name-refused}
@@ -31,7 +34,7 @@ part-result-start c = search needs
 part-result-end : tie.Need-part-result-end
 part-result-end c =
     let b = c .before .before .before in
-    found-lies-in-text _ _ _ (sym (sym (ap findAnswered (b .place .given .1)) ∙ b .before .before .find .ensures)) .to-end
+    found-lies-in-text _ _ _ (sym (sym (ap findAnswered (b .place .given .1)) ∙ b .before .before .find .ensures)) .2 .to-end
 
 enum-known-question : tie.Need-enum-known-question
 enum-known-question c = search needs
@@ -51,12 +54,17 @@ part-result-end-2 c = search needs
 returns : tie.Need-returns
 returns c =
     let b = c .before .before .before .before in
-    name-found _ _ _ (sym (ap findAnswered (b .place .given .1)) ∙ b .before .before .find .ensures)
+    let start = b .before .before .before .before in
+    name-found _ (start .args .key) _
+    (sym (ap findAnswered (b .place .given .1)) ∙ b .before .before .find .ensures ∙ ap (findOutcome _) (read-back w32 (start .args .key) (start .fits .key)))
 
 returns-2 : tie.Need-returns-2
 returns-2 c =
     let b = c .before .before .before in
-    name-refused _ _ _ _ (sym (ap findAnswered (b .question .given .1)) ∙ b .before .before .find .ensures) (c .before .number .ensures)
+    let start = b .before .before .before .before in
+    name-refused _ (start .args .key) _ _
+    (sym (ap findAnswered (b .question .given .1)) ∙ b .before .before .find .ensures ∙ ap (findOutcome _) (read-back w32 (start .args .key) (start .fits .key)))
+    (c .before .number .ensures)
 
 pub name-spec : {M : Type 1} → statement M
 name-spec =

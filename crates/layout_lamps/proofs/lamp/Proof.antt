@@ -1,5 +1,7 @@
--- Questions 1 to 4 and 9, then home or the code of the key's number.
+-- Questions 1 to 4 and 9, then home or the code of the number of the key round the octave.
 use mathlib.Core.Path.{sym, ap, _∙_}
+use mir.Syntax.{w32}
+use Rattle.math.proofs.Answers.{remainder-read}
 use Rattle.layout.specs.Parts.{foundOutcome}
 use Rattle.layout.proofs.Calls.{parts-of, laid-of}
 use Rattle.layout_layers.proofs.Calls.{inverse-given}
@@ -26,25 +28,39 @@ total-of-requires c κs = c .plan-of .ensures .sound
 
 returns : tie.Need-returns
 returns c =
-    let e = sym (ap foundOutcome (c .before .before .before .before .found .given .1)) ∙ c .before .before .before .before .before .before .ask .ensures in
+    let found = c .before .before .before .before in
+    let e = sym (ap foundOutcome (found .found .given .1)) ∙ found .before .before .ask .ensures in
     lamp-too-deep _ _ e _ (c .before .before .plan-of .ensures) _ (c .before .total-of .ensures) (c .if1 .taken) _
 
-rem-place : tie.Need-rem-place
-rem-place c = parts-of _ _ (sym (ap foundOutcome (c .before .before .before .before .before .found .given .1)) ∙ c .before .before .before .before .before .before .before .ask .ensures) .positive
+rem-u16-requires : tie.Need-rem-u16-requires
+rem-u16-requires c κs =
+    let found = c .before .before .before .before in
+    parts-of _ _ (sym (ap foundOutcome (found .found .given .1)) ∙ found .before .before .ask .ensures) .positive
 
 returns-2 : tie.Need-returns-2
 returns-2 c =
-    let e = sym (ap foundOutcome (c .before .before .before .before .before .before .found .given .1)) ∙ c .before .before .before .before .before .before .before .before .ask .ensures in
-    lamp-at-home _ _ e _ (c .before .before .before .before .plan-of .ensures) _ (c .before .before .before .total-of .ensures) (c .before .before .if1 .left) _ (c .if2 .taken)
+    let found = c .before .before .before .before .before .before in
+    let start = found .before .before .before in
+    let e = sym (ap foundOutcome (found .found .given .1)) ∙ found .before .before .ask .ensures in
+    lamp-at-home _ _ e _ (c .before .before .before .before .plan-of .ensures) _ (c .before .before .before .total-of .ensures)
+    (c .before .before .if1 .left)
+    (start .args .key) _ (remainder-read w32 (start .args .key) (start .fits .key) _ _ (c .before .rem-u16 .ensures))
+    (c .if2 .taken)
 
 solve-requires : tie.Need-solve-requires
 solve-requires c κs =
-    parts-of _ _ (sym (ap foundOutcome (c .before .before .before .before .before .before .found .given .1)) ∙ c .before .before .before .before .before .before .before .before .ask .ensures) .positive
+    let found = c .before .before .before .before .before .before in
+    parts-of _ _ (sym (ap foundOutcome (found .found .given .1)) ∙ found .before .before .ask .ensures) .positive
+
+cast-number-of : tie.Need-cast-number-of
+cast-number-of c = search needs
 
 number-of-requires : tie.Need-number-of-requires
 number-of-requires c κs =
-    let e = sym (ap foundOutcome (c .before .before .before .before .before .before .before .found .given .1)) ∙ c .before .before .before .before .before .before .before .before .before .ask .ensures in
-    (c .before .before .before .before .before .plan-of .ensures .sound, inverse-given _ _ e _ (c .before .before .before .before .before .plan-of .ensures) _ (c .solve .ensures))
+    let found = c .before .before .before .before .before .before .before in
+    let plan = c .before .before .before .before .before .plan-of in
+    let e = sym (ap foundOutcome (found .found .given .1)) ∙ found .before .before .ask .ensures in
+    (plan .ensures .sound, inverse-given _ _ e _ (plan .ensures) _ (c .solve .ensures), search needs)
 
 code-requires : tie.Need-code-requires
 code-requires c κs = (
@@ -52,17 +68,21 @@ code-requires c κs = (
   number-below _ (c .before .before .before .before .before .before .plan-of .ensures .sound) _ _ _ (c .number-of .ensures) (c .before .before .before .before .before .total-of .ensures),
 )
 
-cast-t15 : tie.Need-cast-t15
-cast-t15 c = search needs
+cast-t16 : tie.Need-cast-t16
+cast-t16 c = search needs
 
 returns-3 : tie.Need-returns-3
 returns-3 c = lamp-refused _ _ (sym (ap foundOutcome (c .before .q .given .1)) ∙ c .before .before .before .ask .ensures) _
 
 returns-4 : tie.Need-returns-4
 returns-4 c =
-    let e = sym (ap foundOutcome (c .before .before .before .before .before .before .before .before .before .found .given .1)) ∙ c .before .before .before .before .before .before .before .before .before .before .before .ask .ensures in
-    lamp-given _ _ e _ (c .before .before .before .before .before .before .before .plan-of .ensures) _ (c .before .before .before .before .before .before .total-of .ensures) (c .before .before .before .before .before .if1 .left)
-    _ _ _ (c .before .before .before .if2 .left) (c .before .number-of .ensures) (c .code .ensures)
+    let found = c .before .before .before .before .before .before .before .before .before in
+    let start = found .before .before .before in
+    let e = sym (ap foundOutcome (found .found .given .1)) ∙ found .before .before .ask .ensures in
+    lamp-given _ _ e _ (c .before .before .before .before .before .before .before .plan-of .ensures) _
+    (c .before .before .before .before .before .before .total-of .ensures) (c .before .before .before .before .before .if1 .left)
+    (start .args .key) _ (remainder-read w32 (start .args .key) (start .fits .key) _ _ (c .before .before .before .before .rem-u16 .ensures))
+    _ _ (c .before .before .before .if2 .left) (c .before .number-of .ensures) (c .code .ensures)
 
 pub lamp-spec : {M : Type 1} → statement M
 lamp-spec =
@@ -74,11 +94,12 @@ lamp-spec =
     plan-of-requires
     total-of-requires
     returns
-    rem-place
+    rem-u16-requires
     returns-2
     solve-requires
+    cast-number-of
     number-of-requires
     code-requires
-    cast-t15
+    cast-t16
     returns-3
     returns-4)

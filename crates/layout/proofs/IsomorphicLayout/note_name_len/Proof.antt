@@ -1,8 +1,10 @@
--- Questions 1 to 4, then the length of the planned name.
+-- Questions 1 to 4, then the length of the planned name of the key round the octave.
+use mir.Syntax.{w32}
 use mathlib.Core.Path.{sym, ap, _∙_}
 use Rattle.answer.specs.Lent.{counted}
+use Rattle.math.proofs.Answers.{remainder-read}
 use Rattle.layout.specs.Parts.{foundOutcome}
-use Rattle.layout.proofs.Calls.{name-refused, laid-of, row-found, name-count, planned-length}
+use Rattle.layout.proofs.Calls.{name-refused, parts-of, laid-of, row-found, name-count, planned-length}
 use borrow.Author.Needs.{needs}
 use Rattle.layout.proofs.IsomorphicLayout.note_name_len.Statement.{statement}
 use Rattle.layout.proofs.IsomorphicLayout.note_name_len.Tie as tie
@@ -19,10 +21,14 @@ enum-known-q c = search needs
 enum-known-found : tie.Need-enum-known-found
 enum-known-found c = search needs
 
+rem-u16-requires : tie.Need-rem-u16-requires
+rem-u16-requires c κs =
+    parts-of _ _ (sym (ap foundOutcome (c .before .found .given .1)) ∙ c .before .before .before .ask-with-row .ensures) .positive
+
 plan-key-requires : tie.Need-plan-key-requires
 plan-key-requires c κs =
-    let e = sym (ap foundOutcome (c .before .found .given .1)) ∙ c .before .before .before .ask-with-row .ensures in
-    (row-found _ _ e _ (c .before .before .before .before .row .ensures), laid-of _ _ e)
+    let e = sym (ap foundOutcome (c .before .before .found .given .1)) ∙ c .before .before .before .before .ask-with-row .ensures in
+    (row-found _ _ e _ (c .before .before .before .before .before .row .ensures), laid-of _ _ e)
 
 plan-length-requires : tie.Need-plan-length-requires
 plan-length-requires c κs = search needs
@@ -32,7 +38,10 @@ returns c = ap counted (name-refused _ _ (sym (ap foundOutcome (c .before .q .gi
 
 returns-2 : tie.Need-returns-2
 returns-2 c =
-    name-count _ _ (sym (ap foundOutcome (c .before .before .before .found .given .1)) ∙ c .before .before .before .before .before .ask-with-row .ensures) _ _
+    let asked = c .before .before .before .before .before .before in
+    let key = asked .before .before .args .key in
+    name-count _ _ (sym (ap foundOutcome (c .before .before .before .before .found .given .1)) ∙ asked .ask-with-row .ensures)
+    key _ (remainder-read w32 key (asked .before .before .fits .key) _ _ (c .before .before .rem-u16 .ensures)) _
     (planned-length _ _ _ (c .before .plan-key .ensures) _ (c .plan-length .ensures))
 
 pub note-name-len-spec : {M : Type 1} → statement M
@@ -43,6 +52,7 @@ note-name-len-spec =
     ask-with-row-requires
     enum-known-q
     enum-known-found
+    rem-u16-requires
     plan-key-requires
     plan-length-requires
     returns

@@ -1,5 +1,5 @@
 -- The pergen's numbers, then the two spellings of the key's degree and cycle.
-use Rattle.pergen.proofs.Calls.{solved-cycles, solved-keys, degree-small, accidentals-are}
+use Rattle.pergen.proofs.Calls.{solved-cycles, solved-keys, degree-small, accidentals-from-zero}
 use Rattle.layout.proofs.parts.accidentals.Statement.{statement}
 use Rattle.layout.proofs.parts.accidentals.Tie as tie
 
@@ -19,7 +19,9 @@ accidentals-requires c κs = (
 )
 
 returns : tie.Need-returns
-returns c = accidentals-are _ _ _ (c .before .before .solve .ensures) _ _ _ _ _ (c .before .generation .ensures) (c .accidentals .ensures)
+returns c =
+    accidentals-from-zero _ _ _ (c .before .before .solve .ensures) _ _ _ _ _ (c .before .before .before .pre .0) (c .before .generation .ensures)
+    (c .accidentals .ensures)
 
 pub accidentals-spec : {M : Type 1} → statement M
 accidentals-spec =

@@ -1,4 +1,5 @@
 -- The plan of the key's spellings, in the style that the steps give.
+use lib.IntN.{pos}
 use Rattle.layout.specs.Layouts.{accidentalsIn}
 use Rattle.layout.proofs.Finding.{laid}
 use Rattle.layout.proofs.Calls.{row-of-layout, plan-of-layout}
@@ -15,7 +16,8 @@ plan-name-requires c κs = row-of-layout _ (c .before .before .before .pre .1) _
 returns : tie.Need-returns
 unfolding accidentalsIn
 returns c =
-    plan-of-layout _ (c .before .before .before .before .pre .1) _ (c .before .before .before .before .pre .0) _ _ (c .before .before .accidentals .ensures) _ (c .plan-name .ensures)
+    let start = c .before .before .before .before in
+    plan-of-layout _ (start .pre .1) _ (start .pre .0) (pos (start .args .key)) _ (c .before .before .accidentals .ensures) _ (c .plan-name .ensures)
 
 pub plan-key-spec : {M : Type 1} → statement M
 plan-key-spec = tie.close (tie.spec accidentals-requires plan-name-requires returns)

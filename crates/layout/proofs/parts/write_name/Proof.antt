@@ -1,4 +1,5 @@
 -- Question 10, then the planned name at the front.
+use lib.IntN.{pos}
 use lib.ListN.{length}
 use mathlib.Core.Path.{refl, ap}
 use native.Mathlib.Omega.{arith}
@@ -21,8 +22,8 @@ plan-length-requires c κs = search needs
 returns : tie.Need-returns
 returns c =
     let args = c .before .before .before .before .args in
-    let n = planned-length (layoutOf (args .found)) (args .key) _ (c .before .before .plan-key .ensures) _ (c .before .plan-length .ensures) in
-    filled-refused 10 _ (not-held (length (args .out .now)) (nameIn (layoutOf (args .found)) (args .key)) (omega arith)) refl
+    let n = planned-length (layoutOf (args .found)) (pos (args .key)) _ (c .before .before .plan-key .ensures) _ (c .before .plan-length .ensures) in
+    filled-refused 10 _ (not-held (length (args .out .now)) (nameIn (layoutOf (args .found)) (pos (args .key))) (omega arith)) refl
 
 put-name-requires : tie.Need-put-name-requires
 put-name-requires c κs = search needs
@@ -34,10 +35,10 @@ returns-2 : tie.Need-returns-2
 returns-2 c =
     let args = c .before .before .before .before .before .before .before .before .args in
     let planned = c .before .before .before .before .before .before .plan-key .ensures in
-    let n = planned-length (layoutOf (args .found)) (args .key) _ planned _ (c .before .before .before .before .before .plan-length .ensures) in
+    let n = planned-length (layoutOf (args .found)) (pos (args .key)) _ planned _ (c .before .before .before .before .before .plan-length .ensures) in
     filled-given
-    (held (length (args .out .now)) (nameIn (layoutOf (args .found)) (args .key)) (omega arith))
-    (ap given n) (omega arith) (wrote-as (planned-text (layoutOf (args .found)) (args .key) _ planned) (c .before .before .put-name .ensures))
+    (held (length (args .out .now)) (nameIn (layoutOf (args .found)) (pos (args .key))) (omega arith))
+    (ap given n) (omega arith) (wrote-as (planned-text (layoutOf (args .found)) (pos (args .key)) _ planned) (c .before .before .put-name .ensures))
 
 pub write-name-spec : {M : Type 1} → statement M
 write-name-spec =

@@ -22,7 +22,7 @@ returns c =
 mul-degree : tie.Need-mul-degree
 mul-degree c =
     let start = c .before .before .before in
-    omega (arith, mul-le-mul {n₁ = start .args .inverse} {m₁ = start .args .turn} {n₂ = 65535} {m₂ = 65535} (search needs) (search needs))
+    omega (arith, mul-le-mul {n₁ = start .args .inverse} {m₁ = start .args .turn} {n₂ = 65535} {m₂ = 131070} (search needs) (start .pre .2))
 
 cast-degree : tie.Need-cast-degree
 cast-degree c = search needs

@@ -2,10 +2,12 @@
 use mathlib.Core.Path.{refl, sym, ap, _∙_}
 use Rattle.text.proofs.Writing.{wrote-one, then}
 use Rattle.book.specs.Answers.{findAnswered}
+use Rattle.book.specs.Books.{findOutcome}
 use Rattle.vetchnoon_codes.specs.Numbers.{asNumbers}
 use Rattle.vetchnoon.specs.Written.{placeNumbers}
 use Rattle.vetchnoon_codes.proofs.Coding.{coded, fills-refused, fills-given}
 use Rattle.vetchnoon.proofs.Pairs.{no-room, room-for-two}
+use Rattle.vetchnoon.proofs.Outputs.{key-handed-on}
 use borrow.Author.Needs.{needs}
 use Rattle.vetchnoon.proofs.books.vn_book_find.Statement.{statement}
 use Rattle.vetchnoon.proofs.books.vn_book_find.Tie as tie
@@ -38,7 +40,11 @@ returns-2 : tie.Need-returns-2
 returns-2 c =
     let found = c .before .before .before .before in
     fills-refused _ _
-    (ap (asNumbers placeNumbers) (sym (ap findAnswered (c .before .before .question .given .1)) ∙ found .find .ensures) ∙ room-for-two _ _ _ (found .before .if1 .left))
+    (ap (asNumbers placeNumbers)
+    (sym (ap findAnswered (c .before .before .question .given .1))
+    ∙ found .find .ensures
+    ∙ key-handed-on (findOutcome _) (found .before .before .before .before .args .key) (found .before .before .before .before .fits .key))
+    ∙ room-for-two _ _ _ (found .before .if1 .left))
     (coded (c .refused2 .ok) (c .refused2 .ensures))
 
 same-length : tie.Need-same-length
@@ -48,7 +54,11 @@ returns-3 : tie.Need-returns-3
 returns-3 c =
     let found = c .before .before .before in
     fills-given _ _
-    (ap (asNumbers placeNumbers) (sym (ap findAnswered (c .before .place .given .1)) ∙ found .find .ensures) ∙ room-for-two _ _ _ (found .before .if1 .left))
+    (ap (asNumbers placeNumbers)
+    (sym (ap findAnswered (c .before .place .given .1))
+    ∙ found .find .ensures
+    ∙ key-handed-on (findOutcome _) (found .before .before .before .before .args .key) (found .before .before .before .before .fits .key))
+    ∙ room-for-two _ _ _ (found .before .if1 .left))
     refl
     (found .before .if1 .left)
     (then (wrote-one _ 0 _) (wrote-one _ 1 _))

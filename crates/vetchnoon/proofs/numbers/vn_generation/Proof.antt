@@ -1,10 +1,10 @@
 -- Question 2, then the numbers of the generation.
 use mathlib.Core.Path.{sym, ap, _∙_}
-use Rattle.pergen.specs.Answers.{generationOutcome}
+use Rattle.pergen.specs.Answers.{getGeneration, generationOutcome}
 use Rattle.vetchnoon_codes.specs.Numbers.{asNumbers}
-use Rattle.vetchnoon.specs.Written.{generationNumbers}
+use Rattle.vetchnoon.specs.Written.{pergen, generationNumbers}
 use Rattle.vetchnoon_codes.proofs.Coding.{coded, fills-refused, fills-as}
-use Rattle.vetchnoon.proofs.Outputs.{generation-given}
+use Rattle.vetchnoon.proofs.Outputs.{generation-given, key-handed-on}
 use borrow.Author.Needs.{needs}
 use Rattle.vetchnoon.proofs.numbers.vn_generation.Statement.{statement}
 use Rattle.vetchnoon.proofs.numbers.vn_generation.Tie as tie
@@ -35,7 +35,13 @@ put-requires c κs = search needs
 
 returns : tie.Need-returns
 returns c =
-    fills-refused _ _ (ap (asNumbers generationNumbers) (sym (ap generationOutcome (c .before .before .question .given .1)) ∙ c .before .before .before .before .get-generation .ensures))
+    let made = c .before .before .before .before in
+    let start = made .before .before in
+    fills-refused _ _
+    (ap (asNumbers generationNumbers)
+    (sym (ap generationOutcome (c .before .before .question .given .1))
+    ∙ made .get-generation .ensures
+    ∙ key-handed-on (getGeneration (pergen (start .args .period) (start .args .generator))) (start .args .key) (start .fits .key)))
     (coded (c .refused .ok) (c .refused .ensures))
 
 same-length : tie.Need-same-length
@@ -43,8 +49,13 @@ same-length c = search needs
 
 returns-2 : tie.Need-returns-2
 returns-2 c =
+    let made = c .before .before .before .before .before .before .before .before .before .before in
+    let start = made .before .before in
     fills-as
-    (generation-given _ _ _ (sym (ap generationOutcome (c .before .before .before .before .before .before .before .before .generation .given .1)) ∙ c .before .before .before .before .before .before .before .before .before .before .get-generation .ensures) (c .before .before .before .before .before .before .presence .ensures) (c .before .before .before .before .before .stars .ensures))
+    (generation-given _ _ _
+    (sym (ap generationOutcome (c .before .before .before .before .before .before .before .before .generation .given .1))
+    ∙ made .get-generation .ensures
+    ∙ key-handed-on (getGeneration (pergen (start .args .period) (start .args .generator))) (start .args .key) (start .fits .key)) (c .before .before .before .before .before .before .presence .ensures) (c .before .before .before .before .before .stars .ensures))
     (c .before .before .put .ok)
     (c .before .before .put .ensures)
 
