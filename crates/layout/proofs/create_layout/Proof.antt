@@ -1,4 +1,4 @@
--- Questions 1 to 4, then the record with the chain's own start.
+-- Questions 1 to 4 and 18, then the record with the chain's own start.
 use mathlib.Core.Path.{sym, ap, _∙_}
 use Rattle.layout.specs.Answers.{createOutcome}
 use Rattle.layout.specs.Parts.{foundOutcome}
