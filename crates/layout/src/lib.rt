@@ -63,31 +63,33 @@ pub fn default_layout(genchain: u16, octave: u16, tritave: u16) -> IsomorphicLay
     }
 }
 
-// The layout of a chain in a tuning with so many steps to the octave and to the tritave, with the chain's own start (1, 2, 3, 4).
-pub fn create_layout(genchain: u16, octave: u16, tritave: u16) -> LayoutAnswer
-    ensures { λ r. ⌜ answerOutcome r ≡ createOutcome (defaultLayout genchain octave tritave) ⌝ }
+// The record as it came, where its questions have the answer yes (1, 2, 3, 4, 18).
+fn accept(layout: IsomorphicLayout) -> LayoutAnswer
+    ensures { λ r. ⌜ answerOutcome r ≡ createOutcome layout ⌝ }
 {
-    let layout = default_layout(genchain, octave, tritave);
     match parts::ask(layout) {
         FoundAnswer::Refused(q) => LayoutAnswer::Refused(q),
         FoundAnswer::Given(_) => LayoutAnswer::Given(layout),
     }
 }
 
+// The layout of a chain in a tuning with so many steps to the octave and to the tritave, with the chain's own start (1, 2, 3, 4).
+pub fn create_layout(genchain: u16, octave: u16, tritave: u16) -> LayoutAnswer
+    ensures { λ r. ⌜ answerOutcome r ≡ createOutcome (defaultLayout genchain octave tritave) ⌝ }
+{
+    accept(default_layout(genchain, octave, tritave))
+}
+
 // The same, with another letter on key 0: the one at index `start` along the chain (1, 2, 3, 4, 18).
 pub fn create_layout_beginning(genchain: u16, octave: u16, tritave: u16, start: u16) -> LayoutAnswer
     ensures { λ r. ⌜ answerOutcome r ≡ createOutcome (record { genchain = genchain; octave = octave; tritave = tritave; start = start }) ⌝ }
 {
-    let layout = IsomorphicLayout {
+    accept(IsomorphicLayout {
         genchain,
         octave,
         tritave,
         start,
-    };
-    match parts::ask(layout) {
-        FoundAnswer::Refused(q) => LayoutAnswer::Refused(q),
-        FoundAnswer::Given(_) => LayoutAnswer::Given(layout),
-    }
+    })
 }
 
 impl IsomorphicLayout {

@@ -1,10 +1,10 @@
--- Questions 1 to 4 and 18, then the four numbers as they came.
+-- Questions 1 to 4 and 18, then the record as it came.
 use mathlib.Core.Path.{sym, ap, _∙_}
 use Rattle.layout.specs.Parts.{foundOutcome}
 use Rattle.layout.proofs.Calls.{create-refused, create-given}
 use borrow.Author.Needs.{needs}
-use Rattle.layout.proofs.create_layout_beginning.Statement.{statement}
-use Rattle.layout.proofs.create_layout_beginning.Tie as tie
+use Rattle.layout.proofs.accept.Statement.{statement}
+use Rattle.layout.proofs.accept.Tie as tie
 
 ask-requires : tie.Need-ask-requires
 ask-requires c κs = search needs
@@ -21,6 +21,6 @@ returns c = create-refused _ _ (sym (ap foundOutcome (c .before .q .given .1)) �
 returns-2 : tie.Need-returns-2
 returns-2 c = create-given _ _ (sym (ap foundOutcome (c .enum-told .given .1)) ∙ c .before .before .ask .ensures)
 
-pub create-layout-beginning-spec : {M : Type 1} → statement M
-create-layout-beginning-spec =
+pub accept-spec : {M : Type 1} → statement M
+accept-spec =
     tie.close (tie.spec ask-requires enum-known-q enum-told returns returns-2)
