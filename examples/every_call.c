@@ -1,4 +1,4 @@
-/* Calls each function of vetchnoon.h once, with arguments that tell order, width and sign apart, and compares its answer with
+/* Calls each function of vetchnoon.h with arguments that tell order, width and sign apart, and compares its answer with
  * the one that document 01 gives. Prints nothing; status 1, and the line, where an answer differs. */
 #include <stdio.h>
 #include <string.h>
@@ -45,8 +45,22 @@ static void call_pergens(void)
     NUMBERS(3, 4, 3);
     IS(vn_generation(12, 9, 4, numbers, 3), 3);
     NUMBERS(3, 1, 1);
+    IS(vn_generation(12, 9, -4, numbers, 3), 3);
+    NUMBERS(2, 1, 2);
+    IS(vn_generation(12, 9, 65537, numbers, 3), 3);
+    NUMBERS(3, 1, 2);
+    IS(vn_generation(12, 9, INT32_MIN, numbers, 3), 3);
+    NUMBERS(3, 1, 1);
+    IS(vn_generation(12, 9, INT32_MAX, numbers, 3), 3);
+    NUMBERS(2, 1, 1);
     IS(vn_accidentals(12, 7, 7, 3, 1, numbers, 4), 4);
     NUMBERS(3, 1, 5, 1);
+    IS(vn_accidentals(12, 7, 7, 3, -1, numbers, 4), 4);
+    NUMBERS(1, 1, 3, 1);
+    IS(vn_accidentals(12, 7, 7, 3, INT32_MIN, numbers, 4), 4);
+    NUMBERS(0, 1, 2, 1);
+    IS(vn_accidentals(12, 7, 7, 3, INT32_MAX, numbers, 4), 4);
+    NUMBERS(4, 0, 4, 0);
     IS(vn_accidentals(12, 7, 0, 3, 1, numbers, 4), -VN_SYMBOLS);
     IS(vn_accidentals(12, 7, 3, 3, 1, numbers, 4), -VN_ORIGIN);
 }
@@ -97,8 +111,26 @@ static void call_layouts(void)
     IS(vn_note_name_len(1, 12, 19, 1), 5);
     IS(vn_note_name(1, 12, 19, 1, text, 5), 5);
     TEXT("D#/Eb");
+    IS(vn_note_name_len(1, 24, 38, -1), 8);
+    IS(vn_note_name_len(1, 24, 38, 65536), 7);
+    IS(vn_note_name_len(1, 24, 38, INT32_MIN), 7);
+    IS(vn_note_name_len(1, 24, 38, INT32_MAX), 2);
+    IS(vn_note_name(1, 12, 19, -1, text, 5), 5);
+    TEXT("C#/Db");
+    IS(vn_note_name(1, 12, 19, -32769, text, 1), 1);
+    TEXT("F");
+    IS(vn_note_name(1, 12, 19, INT32_MIN, text, 5), 5);
+    TEXT("F#/Gb");
+    IS(vn_note_name(1, 12, 19, INT32_MAX, text, 1), 1);
+    TEXT("A");
     IS(vn_layout_accidentals(1, 12, 19, 1, numbers, 4), 4);
     NUMBERS(3, 1, 5, 1);
+    IS(vn_layout_accidentals(1, 12, 19, -1, numbers, 4), 4);
+    NUMBERS(1, 1, 3, 1);
+    IS(vn_layout_accidentals(1, 12, 19, INT32_MIN, numbers, 4), 4);
+    NUMBERS(0, 1, 2, 1);
+    IS(vn_layout_accidentals(1, 12, 19, INT32_MAX, numbers, 4), 4);
+    NUMBERS(4, 0, 4, 0);
     IS(vn_sounded_key(1, 12, 19, 3, 65537, 0), 5);
     IS(vn_sounded_key(1, 12, 19, 4, -65537, 0), 2);
     IS(vn_sounded_key(1, 12, 19, 3, INT32_MAX, 0), 7);
@@ -120,6 +152,11 @@ static void call_layers(void)
     NUMBERS(0, 1, 0, 0, 1, 0, 1, 0, 1, 0, 0, 1);
     IS(vn_layer(1, 31, 49, 65535), 3);
     IS(vn_layer(1, 31, 49, 6), 4);
+    IS(vn_layer(1, 31, 49, -1), 2);
+    IS(vn_layer(1, 31, 49, INT32_MIN), 4);
+    IS(vn_layer(1, 31, 49, INT32_MAX), 3);
+    IS(vn_layer(3, 8, 13, -8), 1);
+    IS(vn_layer(3, 8, 13, -16), 0);
     IS(vn_layer_kind(65535, 0, numbers, 2), 2);
     NUMBERS(VN_NATURAL, 0);
     IS(vn_layer_kind(65535, 32767, numbers, 2), 2);
@@ -134,6 +171,10 @@ static void call_layers(void)
     IS(vn_lamp_strip(1, 2400, 3800, text, sizeof text), -VN_LAMP_LAYER);
     IS(vn_lamp(1, 31, 49, 65535), 103);
     IS(vn_lamp(1, 31, 49, 31), 0);
+    IS(vn_lamp(1, 31, 49, -31), 0);
+    IS(vn_lamp(1, 31, 49, -1), 3);
+    IS(vn_lamp(1, 31, 49, INT32_MIN), 102);
+    IS(vn_lamp(1, 31, 49, INT32_MAX), 103);
     IS(vn_lamp(1, 2400, 3800, 31), -VN_LAMP_LAYER);
 }
 
@@ -148,8 +189,14 @@ static void call_books(void)
     IS(found[1], 5);
     holds(__LINE__, text + found[0], "D#/Eb", 5);
     IS(vn_book_find(text, (size_t)length, 12, found, 2), -VN_BOOK_KEY);
-    IS(vn_book_find(text, (size_t)length - 1, 1, found, 2), -VN_BOOK_COVER);
-    IS(vn_book_find(text, 3, 1, found, 2), -VN_BOOK_PAIRS);
+    IS(vn_book_find(text, (size_t)length, -1, found, 2), -VN_BOOK_KEY);
+    IS(vn_book_find(text, (size_t)length, -65535, found, 2), -VN_BOOK_KEY);
+    IS(vn_book_find(text, (size_t)length, 65537, found, 2), -VN_BOOK_KEY);
+    IS(vn_book_find(text, (size_t)length, INT32_MIN, found, 2), -VN_BOOK_KEY);
+    IS(vn_book_find(text, (size_t)length, INT32_MAX, found, 2), -VN_BOOK_KEY);
+    IS(vn_book_find(text, (size_t)length - 1, -1, found, 2), -VN_BOOK_COVER);
+    IS(vn_book_find(text, 3, -1, found, 2), -VN_BOOK_PAIRS);
+    IS(vn_book_find(text, 3, -1, found, 1), -VN_ROOM);
     IS(vn_key_table((const uint8_t *)"1 0 19\n", 7, text, sizeof text), 10);
     TEXT("refused 2\n");
 }

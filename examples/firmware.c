@@ -17,13 +17,27 @@ static int refused(const char *what, int64_t answer)
     return answer < 0;
 }
 
-static void press(size_t book_len, uint32_t key)
+/* A key of any octave, below 0 where the player shifted the board down; book and strip hold one octave, from 0 on. */
+static void press(size_t book_len, int32_t key)
 {
     uint32_t name[2]; /* offset and length */
+    int32_t in_octave = (int32_t)vn_rem(key, OCTAVE);
 
-    if (refused("name", vn_book_find(book, book_len, key % OCTAVE, name, 2)))
+    if (refused("name", vn_book_find(book, book_len, in_octave, name, 2)))
         return;
-    printf("key %" PRIu32 ": %.*s, lamp %d\n", key, (int)name[1], (const char *)book + name[0], lamps[key % OCTAVE]);
+    printf("key %" PRId32 ": %.*s, lamp %d\n", key, (int)name[1], (const char *)book + name[0], lamps[in_octave]);
+}
+
+/* The same without a book or a strip: each call takes any key. */
+static void show(int32_t key)
+{
+    uint8_t name[16];
+    int64_t bytes = vn_note_name(CHAIN, OCTAVE, TRITAVE, key, name, sizeof name);
+
+    if (refused("name", bytes))
+        return;
+    printf("key %" PRId32 ": %.*s, lamp %" PRId64 "\n", key, (int)bytes, (const char *)name,
+           vn_lamp(CHAIN, OCTAVE, TRITAVE, key));
 }
 
 int main(void)
@@ -47,6 +61,8 @@ int main(void)
     press((size_t)length, 1);
     press((size_t)length, 2);
     press((size_t)length, 24 + 3); /* an octave higher */
+    press((size_t)length, -1);     /* the board shifted down */
+    show(-1);
 
     book[4]++; /* a damaged book is seen at the next key */
     press((size_t)length, 4);

@@ -22,8 +22,8 @@ static uint32_t found[2];
     CALL(vn_gcd(46368, 28657)) \
     CALL(vn_rem(-65537, 12)) \
     CALL(vn_pergen(46368, 28657, numbers, 3)) \
-    CALL(vn_generation(46368, 28657, 65535, numbers, 3)) \
-    CALL(vn_accidentals(46368, 28657, 7, 3, 65535, numbers, 4)) \
+    CALL(vn_generation(46368, 28657, INT32_MIN, numbers, 3)) \
+    CALL(vn_accidentals(46368, 28657, 7, 3, INT32_MIN, numbers, 4)) \
     CALL(vn_mos_child(1, 0, 46368, 28657, numbers, 4)) \
     CALL(vn_mos_parent(46368, 28657, 1, 0, numbers, 4)) \
     CALL(vn_mos_genesis(1, 65535, 4, 0, numbers, 4)) \
@@ -38,16 +38,16 @@ static uint32_t found[2];
     CALL(vn_start(5)) \
     CALL(vn_layout(2, 65534, 65535, numbers, 8)) \
     CALL(vn_scale_name(1, 2400, 3800, text, 12)) \
-    CALL(vn_note_name_len(2, 65534, 65535, 32767)) \
-    CALL(vn_note_name(2, 65534, 65535, 32767, text, sizeof text)) \
-    CALL(vn_layout_accidentals(2, 65534, 65535, 32767, numbers, 4)) \
+    CALL(vn_note_name_len(2, 65534, 65535, -32767)) \
+    CALL(vn_note_name(2, 65534, 65535, -32767, text, sizeof text)) \
+    CALL(vn_layout_accidentals(2, 65534, 65535, -32767, numbers, 4)) \
     CALL(vn_sounded_key(2, 65534, 65535, 4, INT32_MIN, 0)) \
     CALL(vn_layer_count(2, 65534, 65535)) \
     CALL(vn_layout_layers(2, 65534, 65535, numbers, sizeof numbers / 2)) \
-    CALL(vn_layer(2, 65534, 65535, 65533)) \
+    CALL(vn_layer(2, 65534, 65535, -1)) \
     CALL(vn_layer_kind(65535, 32768, numbers, 2)) \
     CALL(vn_lamp_strip(1, 311, 493, text, sizeof text)) \
-    CALL(vn_lamp(1, 311, 493, 310)) \
+    CALL(vn_lamp(1, 311, 493, -1)) \
     CALL(vn_book_len(1, 2400, 3800)) \
     CALL(vn_book(1, 2400, 3800, text, sizeof text)) \
     CALL(vn_book_find(text, 266404, 2399, found, 2)) \

@@ -25,11 +25,16 @@
  *   VN_ROOM         10  Does the output slice hold the whole output?
  *   VN_BOOK_PAIRS   11  Does a book hold its count, at least 1, and that many pairs?
  *   VN_BOOK_COVER   12  Do the pairs cover the text?
- *   VN_BOOK_KEY     13  Is the key below the book's count?
+ *   VN_BOOK_KEY     13  Is the key at least 0 and below the book's count?
  *   VN_LINE         14  Is the key table's line well formed? (The table prints this number; no call returns it.)
  *   VN_LETTER       16  Is the letter's place below the chain's number of letters?
  *   VN_STARS        21  Are the stars below the number of cycles?
  * A refusal is compared as in vn_layout(chain, octave, tritave, out, len) == -VN_PATTERN.
+ *
+ * What a key is
+ *   A signed number of 32 bits, and each of them is a key. It is first brought round the octave (in a pergen the period, for
+ *   a layer all entries of vn_layout_layers) with the remainder that is never negative: in 12 steps key -1 is named as key
+ *   11 is. A book alone has the keys from 0 to its count - 1 and no others (question 13).
  *
  * What a caller owes
  *   A slice is a pointer to its first element and the number of its elements. All of them are readable, and those of an
@@ -70,9 +75,12 @@ extern "C" {
 #define VN_FLAT 3
 
 /* The version of this header. The first number changes where a call, a number above or an answer is changed or taken away,
- * the second where some are added, the third where neither is so. Before these numbers stood here it was 1.0.0:
- * vn_sounded_key took sharps and flats as two numbers, and asked 15, VN_SPELLING, in place of 16 and 21. */
-#define VN_VERSION_MAJOR 2
+ * the second where some are added, the third where neither is so.
+ *   3.0.0: a key is an int32_t; it was a uint16_t, and a uint32_t in vn_book_find. Keys from 0 to 65,535 have the answers
+ *          that they had.
+ *   2.0.0: vn_sounded_key takes signs as one number, and asks 16 and 21.
+ *   1.0.0, before these numbers stood here: it took sharps and flats as two numbers, and asked 15, VN_SPELLING. */
+#define VN_VERSION_MAJOR 3
 #define VN_VERSION_MINOR 0
 #define VN_VERSION_PATCH 0
 
@@ -94,10 +102,10 @@ int64_t vn_pergen(uint16_t period, uint16_t generator, uint16_t *out, size_t len
 
 /* Writes 3 numbers of a key: its degree, 1 if a cycle is present and else 0, the cycle (0 where it is absent).
  * Asks 2, 10. */
-int64_t vn_generation(uint16_t period, uint16_t generator, uint16_t key, uint16_t *out, size_t len);
+int64_t vn_generation(uint16_t period, uint16_t generator, int32_t key, uint16_t *out, size_t len);
 
 /* Writes 4 numbers of a key in a free format: sharp index, sharp count, flat index, flat count. Asks 2, 5, 6, 10. */
-int64_t vn_accidentals(uint16_t period, uint16_t generator, uint16_t symbols, uint16_t origin, uint16_t key,
+int64_t vn_accidentals(uint16_t period, uint16_t generator, uint16_t symbols, uint16_t origin, int32_t key,
                        uint16_t *out, size_t len);
 
 /* ---- step patterns: primary and secondary count, primary and secondary step */
@@ -162,14 +170,14 @@ int64_t vn_layout(uint16_t chain, uint16_t octave, uint16_t tritave, uint16_t *o
 int64_t vn_scale_name(uint16_t chain, uint16_t octave, uint16_t tritave, uint8_t *out, size_t len);
 
 /* How many bytes a key's name has: at most 39,325. Asks 1, 2, 3, 4. */
-int64_t vn_note_name_len(uint16_t chain, uint16_t octave, uint16_t tritave, uint16_t key);
+int64_t vn_note_name_len(uint16_t chain, uint16_t octave, uint16_t tritave, int32_t key);
 
 /* Writes a key's name in UTF-8, without a 0 at the end. Asks 1, 2, 3, 4, 10. */
-int64_t vn_note_name(uint16_t chain, uint16_t octave, uint16_t tritave, uint16_t key, uint8_t *out, size_t len);
+int64_t vn_note_name(uint16_t chain, uint16_t octave, uint16_t tritave, int32_t key, uint8_t *out, size_t len);
 
 /* Writes 4 numbers of a key: sharp index, sharp count, flat index, flat count; an index is counted along the chain's
  * letters, from 0. Asks 1, 2, 3, 4, 10. */
-int64_t vn_layout_accidentals(uint16_t chain, uint16_t octave, uint16_t tritave, uint16_t key, uint16_t *out,
+int64_t vn_layout_accidentals(uint16_t chain, uint16_t octave, uint16_t tritave, int32_t key, uint16_t *out,
                               size_t len);
 
 /* The key of the octave that a spelling sounds: a letter, by its index along the chain from 0; signs, as many sharps as
@@ -188,8 +196,9 @@ int64_t vn_layer_count(uint16_t chain, uint16_t octave, uint16_t tritave);
 /* Writes the layer number of each key of the octave, of two octaves at sharpness 0. Asks 1, 2, 3, 4, 10. */
 int64_t vn_layout_layers(uint16_t chain, uint16_t octave, uint16_t tritave, uint16_t *out, size_t len);
 
-/* The layer number of one key, of any octave: what vn_layout_layers writes repeats. Asks 1, 2, 3, 4. */
-int64_t vn_layer(uint16_t chain, uint16_t octave, uint16_t tritave, uint16_t key);
+/* The layer number of one key, of any octave: what vn_layout_layers writes repeats, upwards and downwards, after all of its
+ * entries. Asks 1, 2, 3, 4. */
+int64_t vn_layer(uint16_t chain, uint16_t octave, uint16_t tritave, int32_t key);
 
 /* Writes 2 numbers, what a layer number means of T = total: its kind, VN_NATURAL, VN_SHARP, VN_ENHARMONIC or VN_FLAT, and
  * which layer of that kind it is, from 0. A number from T on, which no key has, counts as flat 0, but 0 is natural whatever
@@ -200,8 +209,8 @@ int64_t vn_layer_kind(uint16_t total, uint16_t number, uint16_t *out, size_t len
  * flat k 102 + k, enharmonic 255. Asks 1, 2, 3, 4, 9, 10. */
 int64_t vn_lamp_strip(uint16_t chain, uint16_t octave, uint16_t tritave, uint8_t *out, size_t len);
 
-/* The lamp code of one key, of any octave: the strip repeats each octave. Asks 1, 2, 3, 4, 9. */
-int64_t vn_lamp(uint16_t chain, uint16_t octave, uint16_t tritave, uint16_t key);
+/* The lamp code of one key, of any octave: the strip repeats each octave, upwards and downwards. Asks 1, 2, 3, 4, 9. */
+int64_t vn_lamp(uint16_t chain, uint16_t octave, uint16_t tritave, int32_t key);
 
 /* ---- books of key names, and key tables */
 
@@ -215,7 +224,7 @@ int64_t vn_book(uint16_t chain, uint16_t octave, uint16_t tritave, uint8_t *out,
 /* Writes 2 numbers: at which offset of the book, and in how many bytes, a key's name stands. Any bytes are answered, and the
  * whole book is checked at each call: the time grows with its number of keys. A caller who leaves the book unchanged may
  * keep both numbers. Asks 10, 11, 12, 13. */
-int64_t vn_book_find(const uint8_t *book, size_t book_len, uint32_t key, uint32_t *out, size_t len);
+int64_t vn_book_find(const uint8_t *book, size_t book_len, int32_t key, uint32_t *out, size_t len);
 
 /* Writes what the key table program prints for a line of input, such as "1 12 19\n": a line for each key, or
  * "refused", a space, the number and a line feed. 403,596 bytes are always enough. Asks 10 alone. */

@@ -5,13 +5,13 @@ unsafe extern "C" {
     pub fn vn_rem(numer: i32, denom: u16) -> i64;
 
     pub fn vn_pergen(period: u16, generator: u16, out: *mut u16, len: usize) -> i64;
-    pub fn vn_generation(period: u16, generator: u16, key: u16, out: *mut u16, len: usize) -> i64;
+    pub fn vn_generation(period: u16, generator: u16, key: i32, out: *mut u16, len: usize) -> i64;
     pub fn vn_accidentals(
         period: u16,
         generator: u16,
         symbols: u16,
         origin: u16,
-        key: u16,
+        key: i32,
         out: *mut u16,
         len: usize,
     ) -> i64;
@@ -45,16 +45,16 @@ unsafe extern "C" {
         chain: u16,
         octave: u16,
         tritave: u16,
-        key: u16,
+        key: i32,
         out: *mut u8,
         len: usize,
     ) -> i64;
-    pub fn vn_note_name_len(chain: u16, octave: u16, tritave: u16, key: u16) -> i64;
+    pub fn vn_note_name_len(chain: u16, octave: u16, tritave: u16, key: i32) -> i64;
     pub fn vn_layout_accidentals(
         chain: u16,
         octave: u16,
         tritave: u16,
-        key: u16,
+        key: i32,
         out: *mut u16,
         len: usize,
     ) -> i64;
@@ -75,16 +75,16 @@ unsafe extern "C" {
         out: *mut u16,
         len: usize,
     ) -> i64;
-    pub fn vn_layer(chain: u16, octave: u16, tritave: u16, key: u16) -> i64;
+    pub fn vn_layer(chain: u16, octave: u16, tritave: u16, key: i32) -> i64;
     pub fn vn_layer_kind(total: u16, number: u16, out: *mut u16, len: usize) -> i64;
     pub fn vn_lamp_strip(chain: u16, octave: u16, tritave: u16, out: *mut u8, len: usize) -> i64;
-    pub fn vn_lamp(chain: u16, octave: u16, tritave: u16, key: u16) -> i64;
+    pub fn vn_lamp(chain: u16, octave: u16, tritave: u16, key: i32) -> i64;
     pub fn vn_book_len(chain: u16, octave: u16, tritave: u16) -> i64;
     pub fn vn_book(chain: u16, octave: u16, tritave: u16, out: *mut u8, len: usize) -> i64;
     pub fn vn_book_find(
         book: *const u8,
         book_len: usize,
-        key: u32,
+        key: i32,
         out: *mut u32,
         len: usize,
     ) -> i64;

@@ -5,10 +5,17 @@
 //! of the first question of document 01 that has the answer no. A refusal changes
 //! no element of `out`, and elements past the output keep their contents.
 //!
+//! A key is any `i32`. It is first brought round the octave, in a free pergen round the
+//! period, with the remainder that is never negative; a layer's list and a lamp strip
+//! repeat, upwards and downwards. A book alone has the keys from 0 to its count − 1.
+//!
 //! ```
 //! let mut name = [0; 16];
 //! let bytes = vetchnoon::note_name(1, 12, 19, 1, &mut name).unwrap();
 //! assert_eq!(&name[..bytes], b"D#/Eb");
+//!
+//! let bytes = vetchnoon::note_name(1, 12, 19, -1, &mut name).unwrap();
+//! assert_eq!(&name[..bytes], b"C#/Db");
 //!
 //! assert_eq!(vetchnoon::note_name(0, 12, 19, 1, &mut name), Err(vetchnoon::Refused(4)));
 //! ```
@@ -88,9 +95,9 @@ filling! {
     /// Cycles, reduced period and inverse (2, 10).
     pergen = vn_pergen(period: u16, generator: u16; u16);
     /// Degree, 1 if a cycle is present else 0, cycle or 0 (2, 10).
-    generation = vn_generation(period: u16, generator: u16, key: u16; u16);
+    generation = vn_generation(period: u16, generator: u16, key: i32; u16);
     /// Sharp index, sharp count, flat index, flat count (2, 5, 6, 10).
-    accidentals = vn_accidentals(period: u16, generator: u16, symbols: u16, origin: u16, key: u16; u16);
+    accidentals = vn_accidentals(period: u16, generator: u16, symbols: u16, origin: u16, key: i32; u16);
     /// The pattern with that many steps on the walk from the genesis, or nothing (2, 10).
     mos_find = vn_mos_find(period: u16, generator: u16, steps: u16; u16);
     /// A chain's letters in order, as code points (1, 10).
@@ -113,9 +120,9 @@ filling! {
     /// The scale's name (1, 2, 3, 4, 10).
     scale_name = vn_scale_name(chain: u16, octave: u16, tritave: u16; u8);
     /// A key's name (1, 2, 3, 4, 10).
-    note_name = vn_note_name(chain: u16, octave: u16, tritave: u16, key: u16; u8);
+    note_name = vn_note_name(chain: u16, octave: u16, tritave: u16, key: i32; u8);
     /// Sharp index, sharp count, flat index, flat count of a key (1, 2, 3, 4, 10).
-    layout_accidentals = vn_layout_accidentals(chain: u16, octave: u16, tritave: u16, key: u16; u16);
+    layout_accidentals = vn_layout_accidentals(chain: u16, octave: u16, tritave: u16, key: i32; u16);
     /// The layer number of each key of the octave, or of two at sharpness 0 (1, 2, 3, 4, 10).
     layout_layers = vn_layout_layers(chain: u16, octave: u16, tritave: u16; u16);
     /// What a layer number means, of as many as `total` says: its kind, [`NATURAL`], [`SHARP`],
@@ -161,7 +168,7 @@ pub fn start(chain: u16) -> Result<u16, Refused> {
 }
 
 /// How many bytes a key's name has (1, 2, 3, 4).
-pub fn note_name_len(chain: u16, octave: u16, tritave: u16, key: u16) -> Result<usize, Refused> {
+pub fn note_name_len(chain: u16, octave: u16, tritave: u16, key: i32) -> Result<usize, Refused> {
     value(unsafe { c::vn_note_name_len(chain, octave, tritave, key) })
 }
 
@@ -183,13 +190,25 @@ pub fn layer_count(chain: u16, octave: u16, tritave: u16) -> Result<u16, Refused
     value(unsafe { c::vn_layer_count(chain, octave, tritave) })
 }
 
-/// The layer number of one key, of any octave (1, 2, 3, 4).
-pub fn layer(chain: u16, octave: u16, tritave: u16, key: u16) -> Result<u16, Refused> {
+/// The layer number of one key, of any octave (1, 2, 3, 4): what [`layout_layers`] writes
+/// repeats after all of its entries, two octaves of them at sharpness 0.
+///
+/// ```
+/// assert_eq!(vetchnoon::layer(3, 8, 13, 0), Ok(0));
+/// assert_eq!(vetchnoon::layer(3, 8, 13, -8), Ok(1)); // an octave away
+/// assert_eq!(vetchnoon::layer(3, 8, 13, -16), Ok(0));
+/// ```
+pub fn layer(chain: u16, octave: u16, tritave: u16, key: i32) -> Result<u16, Refused> {
     value(unsafe { c::vn_layer(chain, octave, tritave, key) })
 }
 
-/// The lamp code of one key, of any octave (1, 2, 3, 4, 9).
-pub fn lamp(chain: u16, octave: u16, tritave: u16, key: u16) -> Result<u8, Refused> {
+/// The lamp code of one key, of any octave (1, 2, 3, 4, 9): the strip repeats each octave.
+///
+/// ```
+/// assert_eq!(vetchnoon::lamp(1, 12, 19, -12), Ok(0)); // home
+/// assert_eq!(vetchnoon::lamp(1, 12, 19, -1), Ok(255));
+/// ```
+pub fn lamp(chain: u16, octave: u16, tritave: u16, key: i32) -> Result<u8, Refused> {
     value(unsafe { c::vn_lamp(chain, octave, tritave, key) })
 }
 
@@ -198,8 +217,16 @@ pub fn book_len(chain: u16, octave: u16, tritave: u16) -> Result<usize, Refused>
     value(unsafe { c::vn_book_len(chain, octave, tritave) })
 }
 
-/// The part of a book, which may be any bytes, that holds a key's name (11, 12, 13).
-pub fn book_find(book: &[u8], key: u32) -> Result<&[u8], Refused> {
+/// The part of a book, which may be any bytes, that holds a key's name (11, 12, 13). A book's
+/// keys begin at 0.
+///
+/// ```
+/// let mut book = vec![0; vetchnoon::book_len(1, 12, 19).unwrap()];
+/// vetchnoon::book(1, 12, 19, &mut book).unwrap();
+/// assert_eq!(vetchnoon::book_find(&book, 11), Ok(&b"C#/Db"[..]));
+/// assert_eq!(vetchnoon::book_find(&book, -1), Err(vetchnoon::Refused(13)));
+/// ```
+pub fn book_find(book: &[u8], key: i32) -> Result<&[u8], Refused> {
     let mut found = [0; 2];
     value::<usize>(unsafe {
         c::vn_book_find(

@@ -3,13 +3,13 @@
 //     book_len LAYOUT       how many bytes the layout's book has
 //     book LAYOUT           its bytes, as numbers
 //     find LAYOUT KEY       a key looked up in it: offset and length of the name, and the name; or a refusal, told twice
-//     find_in KEY BYTE..    the same in any bytes, at most 256; KEY has 32 bits
+//     find_in KEY BYTE..    the same in any bytes, at most 256
 use crate::layouts;
 use crate::names;
 use crate::print;
 use crate::words;
+use crate::words::Long;
 use crate::words::Values;
-use crate::words::Wide;
 use answer::CountAnswer;
 use book::FindAnswer;
 
@@ -24,7 +24,7 @@ pub(crate) fn answer(kind: usize, n: Values, out: &mut [u8]) {
         print::bytes(out, written);
         return;
     }
-    put_found(out, written, n.fourth as u32);
+    put_found(out, written, n.key);
 }
 
 fn put_length(answer: CountAnswer) {
@@ -36,7 +36,7 @@ fn put_length(answer: CountAnswer) {
 }
 
 // A lookup in what was written to the front of a slice.
-fn put_found(bytes: &[u8], answer: CountAnswer, key: u32) {
+fn put_found(bytes: &[u8], answer: CountAnswer, key: i32) {
     match answer {
         CountAnswer::Refused(q) => print::refused(q),
         CountAnswer::Given(count) => {
@@ -48,7 +48,7 @@ fn put_found(bytes: &[u8], answer: CountAnswer, key: u32) {
 }
 
 // What the two calls give: offset and length, and the name; each tells a refusal.
-fn put_lookup(book: &[u8], key: u32) {
+fn put_lookup(book: &[u8], key: i32) {
     put_place(book::find(book, key));
     print::space();
     put_name(book, key);
@@ -65,7 +65,7 @@ fn put_place(answer: FindAnswer) {
 }
 
 // A name that is found sets the refusal to 0; a refusal hands back the empty part.
-fn put_name(book: &[u8], key: u32) {
+fn put_name(book: &[u8], key: i32) {
     let mut refusal: u8 = 99;
     let name = book::name(book, key, &mut refusal);
     if refusal != 0 {
@@ -78,7 +78,7 @@ fn put_name(book: &[u8], key: u32) {
 
 // Whether the line asks for a lookup; if so, it is answered.
 pub(crate) fn find_in(line: &[u8], at: usize) -> bool {
-    let Wide::Read(key, next) = words::wide_after(line, at) else {
+    let Long::Read(key, next) = words::long_after(line, at) else {
         return false;
     };
     let mut book = [0u8; 256];

@@ -4,6 +4,8 @@
 //     layout LAYOUT            scale name, octave, generator, cycles, reduced period, inverse, pattern
 //     spelling LAYOUT KEY      as `accidentals`
 //     name LAYOUT KEY          a key's name
+//     layer LAYOUT KEY         a key's layer, as `key_layers` says it
+//     lamp LAYOUT KEY          a key's lamp code
 //     names LAYOUT             the names of an octave's keys
 //     key_layers LAYOUT        the keys' layers: n, s0, e0, f0 for natural, sharp 0, enharmonic 0, flat 0
 //     lamps LAYOUT             the lamp strip
@@ -25,11 +27,11 @@ pub(crate) fn answer(kind: usize, n: Values, out: &mut [u8]) {
     }
     let layout = layout_of(n);
     if kind == names::SPELLING {
-        pergens::put_spelled(layout.get_accidentals(n.fourth));
+        pergens::put_spelled(layout.get_accidentals(n.key));
         return;
     }
     if kind == names::NAME {
-        put_name(layout, n.fourth, out);
+        put_name(layout, n.key, out);
         print::end_line();
         return;
     }
@@ -37,7 +39,25 @@ pub(crate) fn answer(kind: usize, n: Values, out: &mut [u8]) {
         answer_layers(layout, n.room);
         return;
     }
+    if names::NAME < kind {
+        answer_key(kind, layout, n.key);
+        return;
+    }
     answer_layout(kind, layout, out);
+}
+
+// One key's layer, or its lamp.
+fn answer_key(kind: usize, layout: IsomorphicLayout, key: i32) {
+    if kind == names::LAYER {
+        put_layer(
+            layout_layers::layer_count(layout),
+            layout_layers::get_layer(layout, key),
+        );
+        print::end_line();
+        return;
+    }
+    print::answer(layout_lamps::lamp(layout, key));
+    print::end_line();
 }
 
 pub(crate) fn layout_of(n: Values) -> IsomorphicLayout {
@@ -80,7 +100,7 @@ fn put_layout(layout: IsomorphicLayout, out: &mut [u8]) {
     patterns::put_made(layout.mos());
 }
 
-fn put_name(layout: IsomorphicLayout, key: u16, out: &mut [u8]) {
+fn put_name(layout: IsomorphicLayout, key: i32, out: &mut [u8]) {
     let answer = layout.get_note_name(key, out);
     print::written(out, answer);
 }
@@ -92,7 +112,7 @@ fn put_names(layout: IsomorphicLayout, out: &mut [u8]) {
         if 0 < key {
             print::space();
         }
-        put_name(layout, key, out);
+        put_name(layout, key as i32, out);
         key += 1;
     }
     print::end_line();
@@ -136,6 +156,21 @@ fn put_all_kinds(total: u16, numbers: &[u16], count: usize) {
         i += 1;
     }
     print::end_line();
+}
+
+// One key's layer, or a refusal, within a line.
+fn put_layer(total: NumberAnswer, number: NumberAnswer) {
+    match total {
+        NumberAnswer::Refused(q) => print::refusal(q),
+        NumberAnswer::Given(layers) => put_number(layers, number),
+    }
+}
+
+fn put_number(total: u16, number: NumberAnswer) {
+    match number {
+        NumberAnswer::Refused(q) => print::refusal(q),
+        NumberAnswer::Given(layer) => put_kind(layout_layers::kind(total, layer)),
+    }
 }
 
 fn put_kind(layer: Layer) {

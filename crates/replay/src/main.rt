@@ -1,7 +1,7 @@
 // Replays questions: reads a list of them from standard input, a line each, asks the library, and prints its answers.
 //
-// A line is a name and numbers with one space before each; the modules say what each name asks. A number before the name is
-// how many elements the slice has that is lent for the answer; without one it has 65,535. An answer is one line, but for a key
+// A line is a name and numbers with one space before each; the modules say what each name asks. A key, KEY there, has 32 signed
+// bits. A number before the name is how many elements the slice has that is lent for the answer; without one it has 65,535. An answer is one line, but for a key
 // table, which is several: values with one space between, or `refused` and the number of the question with the answer no. A
 // line that is no question is answered with `?`.
 // The files `stdin` and `stdout` beside src/ hold a list of questions and the answers that were given by others: by the Rust
@@ -17,6 +17,8 @@ mod tables;
 mod words;
 
 use libc::STDIN_FILENO;
+use words::Long;
+use words::Numbers;
 use words::Values;
 use words::Wide;
 ghost use Rattle.io.specs.Counts.{Counts};
@@ -29,15 +31,37 @@ fn answered(line: &[u8], room: u16) -> bool {
         return answered_other(kind, line, end, room);
     }
     let asked = words::numbers_after(line, end, names::count_of(kind));
-    if asked.whole {
-        let values = asked.values;
-        answer(kind, words::values_of(values, room));
+    if asked.all {
+        return answered_numbers(kind, line, asked, room);
+    }
+    false
+}
+
+// Whether the line ends behind its numbers, or behind a key where one is wanted; if so, it is answered.
+fn answered_numbers(kind: usize, line: &[u8], asked: Numbers, room: u16) -> bool {
+    let values = asked.values;
+    if names::has_key(kind) {
+        return answered_key(kind, line, asked.end, values, room);
+    }
+    if words::is_at(line, asked.end, b'\n') {
+        answer(kind, words::values_of(values, 0, room));
         return true;
     }
     false
 }
 
-// The same, where the room may stand before the question.
+fn answered_key(kind: usize, line: &[u8], at: usize, values: [u16; 4], room: u16) -> bool {
+    let Long::Read(key, end) = words::long_after(line, at) else {
+        return false;
+    };
+    if words::is_at(line, end, b'\n') {
+        answer(kind, words::values_of(values, key, room));
+        return true;
+    }
+    false
+}
+
+// Whether the line is a question, with or without a room before it; if so, it is answered.
 fn answered_with_room(line: &[u8]) -> bool {
     let Wide::Read(room, next) = words::wide_at(line, 0) else {
         return answered(line, 65535);

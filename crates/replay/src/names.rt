@@ -1,6 +1,7 @@
 // The names of the questions. A question goes by its name's place among them, counted from 0.
 //
-// They stand in the order of the modules that answer them; those behind `LAST_PLAIN` have other than 16-bit numbers.
+// They stand in the order of the modules that answer them. Up to `LAST_PLAIN` they have 16-bit numbers, and some of them a key
+// behind these; the others have other numbers.
 ghost use Prim.Native.Nat.{_<_};
 use crate::words;
 
@@ -57,33 +58,37 @@ pub(crate) const SPELLING: usize = 24;
 
 pub(crate) const NAME: usize = 25;
 
+pub(crate) const LAYER: usize = 26;
+
+pub(crate) const LAMP: usize = 27;
+
 // On books.
-pub(crate) const BOOK_LEN: usize = 26;
+pub(crate) const BOOK_LEN: usize = 28;
 
-pub(crate) const BOOK: usize = 27;
+pub(crate) const BOOK: usize = 29;
 
-pub(crate) const FIND: usize = 28;
+pub(crate) const FIND: usize = 30;
 
-pub(crate) const LAST_PLAIN: usize = 28;
+pub(crate) const LAST_PLAIN: usize = 30;
 // With other numbers.
-pub(crate) const GET_KEY: usize = 29;
+pub(crate) const GET_KEY: usize = 31;
 
-pub(crate) const DIVIDE16: usize = 30;
+pub(crate) const DIVIDE16: usize = 32;
 
-pub(crate) const DIVIDE32: usize = 31;
+pub(crate) const DIVIDE32: usize = 33;
 
-pub(crate) const TABLE: usize = 32;
+pub(crate) const TABLE: usize = 34;
 
-pub(crate) const FIND_IN: usize = 33;
+pub(crate) const FIND_IN: usize = 35;
 
-// How many 16-bit numbers come behind each name up to `LAST_PLAIN`.
-const COUNTS: [usize; 29] = [
+// How many 16-bit numbers come behind each name up to `LAST_PLAIN`, a key aside.
+const COUNTS: [usize; 31] = [
     2,
     2,
     1,
     2,
-    3,
-    5,
+    2,
+    4,
     2,
     2,
     4,
@@ -102,23 +107,42 @@ const COUNTS: [usize; 29] = [
     3,
     3,
     3,
-    4,
-    4,
     3,
     3,
-    4,
+    3,
+    3,
+    3,
+    3,
+    3,
 ];
 
 pub(crate) fn count_of(kind: usize) -> usize
-    requires { ⌜ kind < 29 ⌝ }
+    requires { ⌜ kind < 31 ⌝ }
 {
     COUNTS[kind]
+}
+
+// Whether a key, of 32 signed bits, comes behind these numbers.
+pub(crate) fn has_key(kind: usize) -> bool {
+    if kind == GENERATION {
+        return true;
+    }
+    if kind == ACCIDENTALS {
+        return true;
+    }
+    if kind < SPELLING {
+        return false;
+    }
+    if kind <= LAMP {
+        return true;
+    }
+    kind == FIND
 }
 
 // The place of the name that a line has up to `end`, or a place behind the last.
 pub(crate) fn kind_of(line: &[u8], end: usize) -> usize {
     let names =
-        b"gcd simplify odd pergen generation accidentals new_genesis new_collapsed pattern child parent genesis dual mirror coprime children parents layer_sizes layers chain layout names key_layers lamps spelling name book_len book find get_key divide16 divide32 table find_in ";
+        b"gcd simplify odd pergen generation accidentals new_genesis new_collapsed pattern child parent genesis dual mirror coprime children parents layer_sizes layers chain layout names key_layers lamps spelling name layer lamp book_len book find get_key divide16 divide32 table find_in ";
     place_in(names, line, end)
 }
 

@@ -159,7 +159,7 @@ fn write_list(kind: usize, m: Mos, out: &mut [u16]) -> CountAnswer {
 // Whether the line asks for a key; if so, it is answered.
 pub(crate) fn get_key(line: &[u8], at: usize) -> bool {
     let asked = words::numbers_after(line, at, 4);
-    if asked.read != 4 {
+    if !asked.all {
         return false;
     }
     let Short::Read(primary, next) = words::short_after(line, asked.end) else {
@@ -170,7 +170,7 @@ pub(crate) fn get_key(line: &[u8], at: usize) -> bool {
     };
     if words::is_at(line, end, b'\n') {
         let values = asked.values;
-        let n = words::values_of(values, 0);
+        let n = words::values_of(values, 0, 0);
         put_key(pattern_of(n).get_key(primary, secondary));
         return true;
     }

@@ -28,14 +28,14 @@ pub(crate) fn answer(kind: usize, n: Values) {
         generator: n.second,
     };
     if kind == names::GENERATION {
-        put_generated(pergen.get_generation(n.third));
+        put_generated(pergen.get_generation(n.key));
         return;
     }
     let format = AccidentalsFormat {
         num_symbols: n.third,
         genchain_origin: n.fourth,
     };
-    put_spelled(pergen_spelling::get_accidentals(pergen, format, n.fifth));
+    put_spelled(pergen_spelling::get_accidentals(pergen, format, n.key));
 }
 
 // Period, generator, cycles, reduced period and inverse, or a refusal, within a line.

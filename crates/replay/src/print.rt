@@ -65,13 +65,18 @@ pub(crate) fn refused(q: Refusal) {
     end_line();
 }
 
-// An answer behind another word of the line.
-pub(crate) fn next_answer(answer: NumberAnswer) {
-    space();
+// An answer within a line.
+pub(crate) fn answer(answer: NumberAnswer) {
     match answer {
         NumberAnswer::Given(n) => number(n as u64),
         NumberAnswer::Refused(q) => refusal(q),
     }
+}
+
+// An answer behind another word of the line.
+pub(crate) fn next_answer(found: NumberAnswer) {
+    space();
+    answer(found);
 }
 
 // As many bytes of a slice as were written to its front, or the refusal to write them. The slice holds what was written.

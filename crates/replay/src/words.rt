@@ -33,13 +33,12 @@ enum Signed {
     Nothing,
 }
 
-// The numbers behind a question's name: how many were read, into the first places of `values`; the place behind them; and
-// whether the line holds as many as were wanted and no more.
+// The numbers behind a question's name, read into the first places of `values`; whether there are as many as were wanted; and
+// the place behind them.
 pub(crate) struct Numbers {
-    pub(crate) values: [u16; 5],
-    pub(crate) read: usize,
+    pub(crate) values: [u16; 4],
+    pub(crate) all: bool,
     pub(crate) end: usize,
-    pub(crate) whole: bool,
 }
 
 // How many bytes were read, and the place behind them.
@@ -48,24 +47,24 @@ pub(crate) struct Bytes {
     pub(crate) end: usize,
 }
 
-// The numbers of a question in the order of the line, 0 where it has no more, and the room that it lends. Fields, since the
-// prover has less to do with a field than with an element of an array.
+// The numbers of a question in the order of the line and its key, 0 where it has no more, and the room that it lends. Fields,
+// since the prover has less to do with a field than with an element of an array.
 pub(crate) struct Values {
     pub(crate) first: u16,
     pub(crate) second: u16,
     pub(crate) third: u16,
     pub(crate) fourth: u16,
-    pub(crate) fifth: u16,
+    pub(crate) key: i32,
     pub(crate) room: u16,
 }
 
-pub(crate) fn values_of(values: [u16; 5], room: u16) -> Values {
+pub(crate) fn values_of(values: [u16; 4], key: i32, room: u16) -> Values {
     Values {
         first: values[0],
         second: values[1],
         third: values[2],
         fourth: values[3],
-        fifth: values[4],
+        key,
         room,
     }
 }
@@ -226,12 +225,12 @@ pub(crate) fn long_after(line: &[u8], at: usize) -> Long {
     }
 }
 
-// The numbers of a line behind its name, `count` of them and at most 5.
+// The numbers of a line behind its name, `count` of them and at most 4.
 pub(crate) fn numbers_after(line: &[u8], from: usize, count: usize) -> Numbers {
-    let mut values: [u16; 5] = [0; 5];
+    let mut values: [u16; 4] = [0; 4];
     let mut at = from;
     let mut i: usize = 0;
-    while i < 5 {
+    while i < 4 {
         if count <= i {
             break;
         }
@@ -239,9 +238,8 @@ pub(crate) fn numbers_after(line: &[u8], from: usize, count: usize) -> Numbers {
             Natural::Nothing => {
                 return Numbers {
                     values,
-                    read: i,
+                    all: false,
                     end: at,
-                    whole: false,
                 };
             }
             Natural::Read(value, next) => {
@@ -253,9 +251,8 @@ pub(crate) fn numbers_after(line: &[u8], from: usize, count: usize) -> Numbers {
     }
     Numbers {
         values,
-        read: i,
+        all: true,
         end: at,
-        whole: is_at(line, at, b'\n'),
     }
 }
 

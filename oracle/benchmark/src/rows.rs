@@ -9,6 +9,7 @@ use std::borrow::Borrow;
 use std::cell::RefCell;
 use std::fmt::Write;
 use std::hint;
+use std::ops::Range;
 use std::rc::Rc;
 
 use judge::layouts;
@@ -54,15 +55,26 @@ const SIZES: [Numbers; 4] = [SMALL, MIDDLE, LARGE, LARGEST];
 pub fn of_the_original() -> Vec<Row> {
     let with_strip = [SMALL, MIDDLE, LARGEST_STRIP];
     let mut rows = making();
-    rows.extend(SIZES.map(|n| names("one name", n, made_anew(n))));
+    rows.extend(SIZES.map(|n| names("one name", n, first_octave(), made_anew(n))));
     rows.extend(SIZES.map(|n| {
         let what = "one name; the original's layout is made beforehand";
-        names(what, n, made_beforehand(n))
+        names(what, n, first_octave(), made_beforehand(n))
     }));
-    rows.extend(SIZES.map(|n| accidentals("accidentals of a key", n, made_anew(n))));
+    rows.extend(SIZES.map(|n| {
+        let what = "one name, of a key below 0";
+        names(what, n, octave_below_0(n), made_anew(n))
+    }));
+    rows.extend(SIZES.map(|n| {
+        let what = "accidentals of a key";
+        accidentals(what, n, first_octave(), made_anew(n))
+    }));
     rows.extend(SIZES.map(|n| {
         let what = "accidentals of a key; the original's layout is made beforehand";
-        accidentals(what, n, made_beforehand(n))
+        accidentals(what, n, first_octave(), made_beforehand(n))
+    }));
+    rows.extend(SIZES.map(|n| {
+        let what = "accidentals of a key below 0";
+        accidentals(what, n, octave_below_0(n), made_anew(n))
     }));
     rows.extend(SIZES.map(book));
     rows.extend(SIZES.map(layout_layers));
@@ -174,19 +186,47 @@ fn make(what: &'static str, sweep: Vec<(Numbers, Val)>) -> Row {
     )
 }
 
-/// Keys over the whole octave, at most 64 of them.
-fn some_keys(octave: u16) -> Vec<u16> {
-    (0..octave)
-        .step_by(usize::from(octave.div_ceil(64)))
-        .collect()
+/// An octave of keys: its first key, and for each the key that the original is asked for.
+struct Octave<F> {
+    first: i32,
+    theirs: F,
+}
+
+fn first_octave() -> Octave<impl Fn(i32) -> u16> {
+    Octave {
+        first: 0,
+        theirs: |key| key as u16,
+    }
+}
+
+/// The original's keys begin at 0, so there the caller brings each one round.
+fn octave_below_0(n: Numbers) -> Octave<impl Fn(i32) -> u16> {
+    let steps = i32::from(n.1);
+    Octave {
+        first: -steps,
+        theirs: move |key: i32| key.rem_euclid(steps) as u16,
+    }
+}
+
+impl<F> Octave<F> {
+    fn keys(&self, n: Numbers) -> Range<i32> {
+        self.first..self.first + i32::from(n.1)
+    }
+
+    /// Keys over the whole octave, at most 64 of them.
+    fn some_keys(&self, n: Numbers) -> Vec<i32> {
+        let step = usize::from(n.1.div_ceil(64));
+        self.keys(n).step_by(step).collect()
+    }
 }
 
 fn names<L: Borrow<IsomorphicLayout>>(
     what: &'static str,
     n: Numbers,
+    octave: Octave<impl Fn(i32) -> u16 + 'static>,
     layout: impl Fn() -> L + 'static,
 ) -> Row {
-    let keys = some_keys(n.1);
+    let keys = octave.some_keys(n);
     let same_keys = keys.clone();
     let mut name = vec![0; 20_000];
     Row::new(
@@ -201,7 +241,7 @@ fn names<L: Borrow<IsomorphicLayout>>(
         move || {
             same_keys
                 .iter()
-                .map(|key| layout().borrow().get_note_name(*key).len())
+                .map(|key| layout().borrow().get_note_name((octave.theirs)(*key)).len())
                 .sum()
         },
     )
@@ -210,13 +250,16 @@ fn names<L: Borrow<IsomorphicLayout>>(
 fn accidentals<L: Borrow<IsomorphicLayout>>(
     what: &'static str,
     n: Numbers,
+    octave: Octave<impl Fn(i32) -> u16 + 'static>,
     layout: impl Fn() -> L + 'static,
 ) -> Row {
+    let keys = octave.keys(n);
+    let same_keys = keys.clone();
     let mut spelled = [0; 4];
     n.row_of_keys(
         what,
         move || {
-            (0..n.1)
+            keys.clone()
                 .map(|key| {
                     vetchnoon::layout_accidentals(n.0, n.1, n.2, key, &mut spelled).unwrap();
                     usize::from(spelled[1]) + usize::from(spelled[3])
@@ -224,9 +267,10 @@ fn accidentals<L: Borrow<IsomorphicLayout>>(
                 .sum()
         },
         move || {
-            (0..n.1)
+            same_keys
+                .clone()
                 .map(|key| {
-                    let spelled = layout().borrow().get_accidentals(key);
+                    let spelled = layout().borrow().get_accidentals((octave.theirs)(key));
                     usize::from(spelled.sharp_count) + usize::from(spelled.flat_count)
                 })
                 .sum()

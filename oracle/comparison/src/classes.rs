@@ -1,6 +1,7 @@
 //! To which class of docs/DIFFERENCES.md an input belongs, by exact arithmetic and
 //! from the input alone, never from what the two sides answered. An input of two
-//! classes belongs to the one that the original comes to first.
+//! classes belongs to the one that the original comes to first. A key here is the one
+//! that the original is asked for, of 16 bits ([`judge::keys::asked_at`]).
 
 use reading::LARGEST;
 use reading::Whole;
@@ -13,13 +14,13 @@ use reading::pergens::Spellings;
 pub use judge::classes::Class;
 
 /// A key of a free pergen.
-pub fn of_generation(pergen: &Pergen, key: Whole) -> Option<Class> {
-    product_overflows(pergen, key).then_some(Class::ProductWithInverse)
+pub fn of_generation(pergen: &Pergen, key: u16) -> Option<Class> {
+    product_overflows(pergen, key.into()).then_some(Class::ProductWithInverse)
 }
 
 /// A key of a free pergen in a free format.
-pub fn of_accidentals(pergen: &Pergen, format: Format, key: Whole) -> Option<Class> {
-    if product_overflows(pergen, key) {
+pub fn of_accidentals(pergen: &Pergen, format: Format, key: u16) -> Option<Class> {
+    if product_overflows(pergen, key.into()) {
         Some(Class::ProductWithInverse)
     } else if format.symbols == 0 {
         Some(Class::NoSymbols)
@@ -105,7 +106,7 @@ mod tests {
     fn a_key_of_two_classes_belongs_to_the_one_that_comes_first() {
         let class = |period, symbols, origin| {
             let pergen = Pergen::new(period, period - 1).unwrap();
-            of_accidentals(&pergen, Format { symbols, origin }, LARGEST)
+            of_accidentals(&pergen, Format { symbols, origin }, u16::MAX)
         };
         assert_eq!(class(32_770, 7, 7), Some(Class::ProductWithInverse));
         assert_eq!(class(32_769, 7, 7), Some(Class::OriginNotBelowSymbols));

@@ -52,6 +52,18 @@ impl Randoms {
         }
     }
 
+    /// Any key: one of 16 bits, as the original has them; any number of 32 signed
+    /// bits; one with as many small ones as large ones, of both signs; or one at a
+    /// limit.
+    pub fn key(&mut self) -> i32 {
+        match self.below(4) {
+            0 => self.limit_or_any().into(),
+            1 => self.next() as i32,
+            2 => (self.next() as i32) >> self.below(32),
+            _ => self.of(&KEY_LIMITS),
+        }
+    }
+
     pub fn of<T: Copy>(&mut self, values: &[T]) -> T {
         values[self.below(values.len() as u64) as usize]
     }
@@ -66,4 +78,29 @@ impl Randoms {
 pub const LIMITS: [u16; 26] = [
     0, 1, 2, 3, 5, 7, 8, 9, 12, 255, 256, 4095, 4096, 4097, 32_766, 32_767, 32_768, 32_769, 32_770,
     32_771, 46_340, 46_341, 46_342, 65_533, 65_534, 65_535,
+];
+
+/// Keys at which something changes: both ends of 32 signed bits, of document 02's range
+/// from -32,768 to 65,535 and of 16 bits, and those around 0.
+pub const KEY_LIMITS: [i32; 20] = [
+    i32::MIN,
+    i32::MIN + 1,
+    -65_537,
+    -65_536,
+    -65_535,
+    -32_769,
+    -32_768,
+    -32_767,
+    -2,
+    -1,
+    0,
+    1,
+    32_767,
+    32_768,
+    65_534,
+    65_535,
+    65_536,
+    65_537,
+    i32::MAX - 1,
+    i32::MAX,
 ];

@@ -9,6 +9,7 @@
 
 pub mod asking;
 pub mod classes;
+pub mod keys;
 pub mod layouts;
 pub mod numbers;
 pub mod patterns;

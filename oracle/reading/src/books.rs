@@ -12,7 +12,7 @@ const NUMBER: usize = 4;
 /// "A count (4 bytes, least first), then per key an offset and a length .., then
 /// text."
 pub fn book(layout: &Layout) -> Vec<u8> {
-    let octave = layout.pergen.period as u16;
+    let octave = layout.pergen.period as i32;
     let names: Vec<String> = (0..octave).map(|key| names::name(layout, key)).collect();
     of_names(&names)
 }
@@ -42,10 +42,12 @@ pub fn text_starts(count: Whole) -> Whole {
     4 + 8 * count
 }
 
-/// Questions 11, 12 and 13 of any bytes, then the key's offset and length.
-pub fn find(book: &[u8], key: u32) -> Outcome<[u32; 2]> {
+/// Questions 11, 12 and 13 of any bytes, then the key's offset and length. W-201: "a
+/// book's keys still begin at 0, and question 13 also refuses a key below 0".
+pub fn find(book: &[u8], key: i32) -> Outcome<[u32; 2]> {
     let pairs = pairs(book)?;
     ask(12, cover_the_text(&pairs, book.len() as Whole))?;
+    ask(13, key >= 0)?;
     let pair = pairs.get(key as usize).ok_or(13)?;
     Ok(*pair)
 }
@@ -100,9 +102,13 @@ mod tests {
     #[test]
     fn refusals() {
         let book = twelve();
-        assert_eq!(find(&book, 12), Err(13));
-        assert_eq!(find(&book[..book.len() - 1], 12), Err(12));
-        assert_eq!(find(&book[..99], 12), Err(11));
+        for key in [i32::MIN, -12, -1, 12, i32::MAX] {
+            assert_eq!(find(&book, key), Err(13));
+        }
+        for key in [-1, 12] {
+            assert_eq!(find(&book[..book.len() - 1], key), Err(12));
+            assert_eq!(find(&book[..99], key), Err(11));
+        }
         assert_eq!(find(&[0; 4], 0), Err(11));
         assert_eq!(find(&[], 0), Err(11));
     }

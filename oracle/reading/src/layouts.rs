@@ -48,7 +48,7 @@ impl Layout {
         }
     }
 
-    pub fn spellings(&self, key: u16) -> Spellings {
+    pub fn spellings(&self, key: i32) -> Spellings {
         self.pergen.spellings(self.format(), key.into())
     }
 
@@ -100,6 +100,14 @@ impl Layout {
             .collect();
         strip_of(&kinds)
     }
+}
+
+/// One key's layer or lamp: "the board repeats the strip each octave", and so do the
+/// layer entries after the last of them, with "the remainder that is never negative"
+/// (W-201).
+pub fn repeated<T: Copy>(entries: &[T], key: i32) -> T {
+    let place = Whole::from(key).rem_euclid(entries.len() as Whole);
+    entries[place as usize]
 }
 
 /// The lamp codes of the keys of an octave. Question 9: "is every sharp and flat
@@ -171,6 +179,17 @@ mod tests {
             Ok(vec![0, 255, 1, 1, 255, 1, 255, 1, 255, 1, 1, 255])
         );
         assert_eq!(strip(2400, 3800), Err(9));
+    }
+
+    #[test]
+    fn entries_repeat_upwards_and_downwards() {
+        let layers = Layout::new(3, 8, 13).unwrap().layers();
+        assert_eq!(layers.len(), 16);
+        let layer = |key| repeated(&layers, key);
+        assert_eq!([0, 8, -8, -16].map(layer), [0, 1, 1, 0]);
+        // Both ends, 2^31 being a multiple of 16.
+        assert_eq!(layer(i32::MIN), layers[0]);
+        assert_eq!(layer(i32::MAX), layers[15]);
     }
 
     #[test]

@@ -1,6 +1,7 @@
-//! Document 01, read plainly and written down in Rust: the second judge.
+//! Document 01, as the requests of document 02 amend it, read plainly and written
+//! down in Rust: the second judge.
 //!
-//! It is written from the document's sentences alone. It judges where the
+//! It is written from the documents' sentences alone. It judges where the
 //! original panics, refuses without a number, or has nothing of the kind: refusal
 //! numbers, lamp strips, books and the key table program. Numbers are exact, so
 //! nothing here can overflow; searches go through all candidates where that is

@@ -16,7 +16,7 @@ pub struct Spelling {
 }
 
 /// The spellings in a key's name, the sharp one first.
-pub fn printed(layout: &Layout, key: u16) -> Vec<Spelling> {
+pub fn printed(layout: &Layout, key: i32) -> Vec<Spelling> {
     let spelt = layout.spellings(key);
     let stars = layout.pergen.cycle(key.into()).unwrap_or(0);
     let sharp = Spelling {
@@ -57,7 +57,7 @@ fn chosen(spelt: Spellings) -> Chosen {
 }
 
 /// A key's name.
-pub fn name(layout: &Layout, key: u16) -> String {
+pub fn name(layout: &Layout, key: i32) -> String {
     let written = printed(layout, key);
     let cycle = layout.pergen.cycle(key.into());
     let text = match written[..] {
@@ -123,7 +123,7 @@ pub fn sounded(layout: &Layout, spelling: Spelling) -> Outcome<Whole> {
 mod tests {
     use super::*;
 
-    fn names(code: u16, octave: u16, tritave: u16, keys: std::ops::Range<u16>) -> Vec<String> {
+    fn names(code: u16, octave: u16, tritave: u16, keys: std::ops::Range<i32>) -> Vec<String> {
         let layout = Layout::new(code, octave, tritave).unwrap();
         keys.map(|key| name(&layout, key)).collect()
     }
@@ -140,6 +140,13 @@ mod tests {
     }
 
     #[test]
+    fn names_of_keys_below_0() {
+        assert_eq!(names(1, 12, 19, -2..0), ["C", "C#/Db"]);
+        assert_eq!(names(1, 24, 38, -1..1), ["(C#/Db)*", "D"]);
+        assert_eq!(names(1, 12, 19, -12..0), names(1, 12, 19, 0..12));
+    }
+
+    #[test]
     fn flats_come_first_where_the_primary_step_is_shorter() {
         assert_eq!(names(2, 7, 8, 3..4), ["A+/C-"]);
     }
@@ -147,9 +154,10 @@ mod tests {
     #[test]
     fn both_spellings_of_a_name_sound_its_key() {
         let layout = Layout::new(1, 24, 38).unwrap();
-        for key in 0..48 {
+        for key in -48..48 {
             for spelling in printed(&layout, key) {
-                assert_eq!(sounded(&layout, spelling), Ok(Whole::from(key) % 24));
+                let sounded = sounded(&layout, spelling);
+                assert_eq!(sounded, Ok(Whole::from(key).rem_euclid(24)));
             }
         }
     }

@@ -48,12 +48,20 @@ impl Pergen {
     }
 
     pub fn degree(&self, key: Whole) -> Whole {
+        let key = self.brought_round(key);
         (self.inverse * (key / self.cycles)).rem_euclid(self.reduced)
     }
 
     /// The cycle, "absent when n is 1".
     pub fn cycle(&self, key: Whole) -> Option<Whole> {
+        let key = self.brought_round(key);
         (self.cycles != 1).then(|| key.rem_euclid(self.cycles))
+    }
+
+    /// W-201: "by first bringing the number round the octave with the remainder that
+    /// is never negative".
+    fn brought_round(&self, key: Whole) -> Whole {
+        key.rem_euclid(self.period)
     }
 
     /// Questions 5 and 6 on a free format, then the spellings of a key.
@@ -135,6 +143,21 @@ mod tests {
         };
         assert_eq!(indices(1), (5, 0));
         assert_eq!(indices(2), (2, 2));
+    }
+
+    #[test]
+    fn a_key_is_first_brought_round_the_period() {
+        let pergen = Pergen::new(24, 14).unwrap();
+        let found = |key| (pergen.degree(key), pergen.cycle(key));
+        // Key 23 is 11 × 2 + 1.
+        assert_eq!(found(-1), (7 * 11 % 12, Some(1)));
+        assert_eq!(found(-24), (0, Some(0)));
+        for key in -100..100 {
+            assert_eq!(found(key), found(key + 24));
+        }
+        // 2^31 leaves 8 on division by 24.
+        assert_eq!(found(i32::MIN.into()), found(16));
+        assert_eq!(found(i32::MAX.into()), found(7));
     }
 
     #[test]

@@ -25,7 +25,7 @@ fn table(input: &[u8]) -> Outcome<String> {
     let strip = layout.strip()?;
     Ok((0..octave)
         .zip(strip)
-        .map(|(key, lamp)| format!("{key} {} {lamp}\n", names::name(&layout, key)))
+        .map(|(key, lamp)| format!("{key} {} {lamp}\n", names::name(&layout, key.into())))
         .collect())
 }
 

@@ -6,6 +6,7 @@ use std::fmt::Display;
 use std::fmt::Write;
 
 use judge::asking::Answer;
+use judge::keys::asked_at;
 use judge::layouts;
 use judge::numbers;
 use judge::patterns;
@@ -17,6 +18,7 @@ use reading::Outcome;
 use reading::ask;
 use reading::books;
 use reading::chains;
+use reading::layouts::repeated;
 use reading::numbers::remainder;
 use reading::pergens::Format;
 use reading::tables;
@@ -109,8 +111,11 @@ fn text(question: &Question) -> Text {
             settled(read, numbers::divided(*numer, *denom)).map(divided_text)
         }
         Question::Pergen(pergen) => pergen_text(&created(*pergen)?),
-        Question::Generation(pergen, key) => given(spelling::generation(&created(*pergen)?, *key))
-            .map(|generation| format!("{} {}", generation.degree, words(generation.cycle))),
+        Question::Generation(pergen, key) => {
+            let key = asked_at(*key, pergen.period);
+            given(spelling::generation(&created(*pergen)?, key))
+                .map(|generation| format!("{} {}", generation.degree, words(generation.cycle)))
+        }
         Question::Accidentals {
             pergen,
             num_symbols,
@@ -126,7 +131,8 @@ fn text(question: &Question) -> Text {
                 num_symbols: *num_symbols,
                 genchain_origin: *genchain_origin,
             };
-            given(spelling::accidentals(&created(*pergen)?, &format, *key)).map(words::spelling)
+            let key = asked_at(*key, pergen.period);
+            given(spelling::accidentals(&created(*pergen)?, &format, key)).map(words::spelling)
         }
         Question::NewGenesis(pergen) => {
             let genesis = patterns::create_genesis(pergen.period, pergen.generator);
@@ -146,12 +152,25 @@ fn text(question: &Question) -> Text {
         }
         Question::OfLayout(asked, layout) => of_layout(*asked, &created_layout(*layout)?),
         Question::Spelling(layout, key) => {
-            given(layouts::accidentals(&created_layout(*layout)?, *key)).map(words::spelling)
+            let key = asked_at(*key, layout.octave);
+            given(layouts::accidentals(&created_layout(*layout)?, key)).map(words::spelling)
         }
-        Question::Name(layout, key) => given(layouts::note_name(&created_layout(*layout)?, *key)),
+        Question::Name(layout, key) => {
+            let key = asked_at(*key, layout.octave);
+            given(layouts::note_name(&created_layout(*layout)?, key))
+        }
+        // The original has lists of all keys alone.
+        Question::Layer(layout, key) => {
+            let layers = given(layouts::layers(&created_layout(*layout)?))?;
+            Ok(layer_text(repeated(&layers, *key)))
+        }
+        Question::Lamp(layout, key) => {
+            let strip = given(layouts::strip(&created_layout(*layout)?))??;
+            Ok(repeated(&strip, *key).to_string())
+        }
         Question::BookLength(layout) => Ok(book(*layout)?.len().to_string()),
         Question::Book(layout) => book(*layout).map(words),
-        Question::Find(layout, key) => Ok(found_text(&book(*layout)?, (*key).into())),
+        Question::Find(layout, key) => Ok(found_text(&book(*layout)?, *key)),
         Question::FindIn(key, book) => Ok(found_text(book, *key)),
         Question::Table(line) => table_text(line),
         Question::InRoom(..) => unreachable!("a question has one room"),
@@ -272,7 +291,7 @@ fn book(layout: Layout) -> Result<Vec<u8>, Absent> {
 }
 
 /// Offset and length, and the name; or the refusal, which both calls tell.
-fn found_text(book: &[u8], key: u32) -> String {
+fn found_text(book: &[u8], key: i32) -> String {
     match books::find(book, key) {
         Ok([offset, length]) => {
             let name = &book[offset as usize..][..length as usize];

@@ -33,11 +33,14 @@ pub fn all(random: &mut Random) -> Vec<Question> {
         let [small, larger, large] = books.map(layout);
         questions.extend([Question::Book(small), Question::Book(larger)]);
         questions.extend([small, larger, large].map(Question::BookLength));
-        questions.extend((0..small.octave + 2).map(|key| Question::Find(small, key)));
+        let beyond = i32::from(small.octave) + 2;
+        questions.extend((-2..beyond).map(|key| Question::Find(small, key)));
         for layout in [larger, large] {
             let last = layout.octave - 1;
-            let some = [1, random.up_to(last), last, layout.octave, u16::MAX];
+            let some = [1, random.up_to(last), last, layout.octave, u16::MAX].map(i32::from);
             questions.extend(some.map(|key| Question::Find(layout, key)));
+            let none = [i32::MIN, -i32::from(layout.octave), -1, 65_536, i32::MAX];
+            questions.extend(none.map(|key| Question::Find(layout, key)));
         }
         questions.extend(rooms(small));
         questions.extend(rooms(larger));
@@ -75,6 +78,7 @@ fn around(elements: usize, question: &Question) -> Vec<Question> {
 fn rooms(layout: Layout) -> Vec<Question> {
     let read = layout.read().expect("an accepted layout");
     let octave = usize::from(layout.octave);
+    let keys = i32::from(layout.octave);
     let book = reading::books::book(&read).len();
     let name = reading::names::name(&read, 1).len();
     let table = Question::Table(layout.to_string());
@@ -87,8 +91,9 @@ fn rooms(layout: Layout) -> Vec<Question> {
             &Question::OfLayout(OfLayout::KeyLayers, layout),
         ),
         around(book, &Question::Book(layout)),
-        around(book, &Question::Find(layout, layout.octave - 1)),
-        around(book, &Question::Find(layout, layout.octave)),
+        around(book, &Question::Find(layout, keys - 1)),
+        around(book, &Question::Find(layout, keys)),
+        around(book, &Question::Find(layout, -1)),
         around(printed, &table),
     ]
     .concat()
@@ -101,7 +106,8 @@ fn in_no_room(layout: Layout) -> Vec<Question> {
         Question::OfLayout(OfLayout::Lamps, layout),
         Question::OfLayout(OfLayout::KeyLayers, layout),
         Question::Book(layout),
-        Question::Find(layout, u16::MAX),
+        Question::Find(layout, 65_535),
+        Question::Find(layout, -1),
         Question::Table(layout.to_string()),
         Question::Chain(layout.code),
     ]
@@ -240,7 +246,7 @@ fn lookups(random: &mut Random) -> Vec<Question> {
     ];
     let mut questions = Vec::new();
     for book in books {
-        for key in [0, 1, 2, 4, 5, 256, u32::MAX] {
+        for key in [0, 1, 2, 4, 5, 256, i32::MAX, -1, -2, -256, i32::MIN] {
             questions.push(Question::FindIn(key, book.bytes()));
         }
         let mut damaged = [book.counts(), book.cut_and_extended(), book.numbers(0)].concat();
@@ -249,7 +255,7 @@ fn lookups(random: &mut Random) -> Vec<Question> {
             damaged.extend(book.borders(0));
         }
         for bytes in damaged {
-            questions.extend([0, 1, 5].map(|key| Question::FindIn(key, bytes.clone())));
+            questions.extend([0, 1, 5, -1].map(|key| Question::FindIn(key, bytes.clone())));
         }
     }
     questions.extend(any_bytes(random));

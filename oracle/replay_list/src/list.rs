@@ -1,13 +1,15 @@
 //! The list of questions: the bench examples of document 01, small numbers
-//! densely, limits, and numbers of every size at random.
+//! densely, limits, and numbers of every size at random; then keys below 0.
 
 use std::collections::HashSet;
 use std::iter;
 
+use judge::keys::asked_at;
 use judge::layouts;
 use judge::patterns::Pattern;
 
 use crate::books;
+use crate::keys;
 use crate::questions::FreePergen;
 use crate::questions::Layout;
 use crate::questions::OfLayout;
@@ -36,6 +38,7 @@ pub fn all() -> Vec<Question> {
     questions.extend(tables(&mut random));
     questions.extend(books::all(&mut random));
     questions.extend(unreadable());
+    questions.extend(keys::all());
 
     let mut asked = HashSet::new();
     questions.retain(|question| asked.insert(question.to_string()));
@@ -160,7 +163,7 @@ fn of_pergens(random: &mut Random) -> Vec<Question> {
     for _ in 0..200 {
         let pergen = pergen(random.any_size(), random.any_size());
         questions.push(Question::Pergen(pergen));
-        questions.push(Question::Generation(pergen, random.any_size()));
+        questions.push(Question::Generation(pergen, random.any_size().into()));
     }
     for _ in 0..500 {
         let num_symbols = random.up_to(9);
@@ -168,7 +171,7 @@ fn of_pergens(random: &mut Random) -> Vec<Question> {
             pergen: pergen(random.up_to(14), random.up_to(16)),
             num_symbols,
             genchain_origin: random.up_to(num_symbols),
-            key: random.up_to(15),
+            key: random.up_to(15).into(),
         });
     }
     for _ in 0..200 {
@@ -177,7 +180,7 @@ fn of_pergens(random: &mut Random) -> Vec<Question> {
             pergen: pergen(random.any_size(), random.any_size()),
             num_symbols,
             genchain_origin: random.up_to(num_symbols),
-            key: random.any_size(),
+            key: random.any_size().into(),
         });
     }
     questions
@@ -306,7 +309,7 @@ fn small_layouts(random: &mut Random, code: u16, octave: u16) -> Vec<Question> {
             questions.extend(OfLayout::ALL.map(|asked| Question::OfLayout(asked, layout)));
         } else {
             questions.push(Question::OfLayout(OfLayout::Numbers, layout));
-            let key = random.up_to(2 * octave);
+            let key = random.up_to(2 * octave).into();
             questions.extend([Question::Spelling(layout, key), Question::Name(layout, key)]);
         }
     }
@@ -319,7 +322,7 @@ fn refused_layout(random: &mut Random, code: u16) -> Vec<Question> {
     if layout.read().is_ok() {
         return vec![Question::OfLayout(OfLayout::Numbers, layout)];
     }
-    let key = random.up_to(400);
+    let key = random.up_to(400).into();
     let asked = random.one_of(&OfLayout::ALL);
     vec![
         Question::OfLayout(asked, layout),
@@ -327,7 +330,7 @@ fn refused_layout(random: &mut Random, code: u16) -> Vec<Question> {
     ]
 }
 
-fn random_key_question(random: &mut Random, layout: Layout, key: u16) -> Question {
+fn random_key_question(random: &mut Random, layout: Layout, key: i32) -> Question {
     match random.up_to(1) {
         0 => Question::Spelling(layout, key),
         _ => Question::Name(layout, key),
@@ -341,7 +344,7 @@ fn large_layout(random: &mut Random, code: u16) -> Vec<Question> {
         .expect("an endless search");
     let mut questions = vec![Question::OfLayout(OfLayout::Numbers, layout)];
     let last = layout.octave - 1;
-    let keys = [1, last, random.up_to(last), random.up_to(last), u16::MAX];
+    let keys = [1, last, random.up_to(last), random.up_to(last), u16::MAX].map(i32::from);
     questions.extend(keys.map(|key| Question::Spelling(layout, key)));
     questions.extend(
         keys.into_iter()
@@ -355,26 +358,28 @@ fn large_layout(random: &mut Random, code: u16) -> Vec<Question> {
     questions
 }
 
-fn is_short_name(layout: Layout, key: u16) -> bool {
+pub fn is_short_name(layout: Layout, key: i32) -> bool {
     name_length(layout, key).is_some_and(|length| length <= NAME_LIMIT)
 }
 
 /// How long a key's name is, where the original has one.
-fn name_length(layout: Layout, key: u16) -> Option<usize> {
+fn name_length(layout: Layout, key: i32) -> Option<usize> {
+    let key = asked_at(key, layout.octave);
     let chain = layouts::chain(layout.code)?;
     let layout = layouts::create(chain, layout.octave, layout.tritave).ok()??;
     layouts::note_name(&layout, key).ok().map(|name| name.len())
 }
 
 /// The key with the longest name, the first of them.
-fn longest_key() -> u16 {
+fn longest_key() -> i32 {
     let (code, octave, tritave) = LONGEST_NAME;
     let chain = layouts::chain(code).expect("a code of 0 to 5");
     let layout = layouts::create(chain, octave, tritave)
         .expect("no panic")
         .expect("a layout");
     let length = |key: &u16| layouts::note_name(&layout, *key).map_or(0, |name| name.len());
-    (0..octave).rev().max_by_key(length).expect("a key")
+    let longest = (0..octave).rev().max_by_key(length);
+    longest.expect("a key").into()
 }
 
 // ---- key tables
@@ -469,6 +474,24 @@ fn unreadable() -> Vec<Question> {
         "layout 1 12",
         "layout 1 12 19 1",
         "name 1 12 19",
+        "name 1 12 19 2147483648",
+        "name 1 12 19 -2147483649",
+        "name 1 12 19 -0",
+        "name 1 12 19 -",
+        "name 1 12 19 - 1",
+        "name 1 12 19 -1 ",
+        "name 1 12 19 -1 0",
+        "name 1 12 -1",
+        "name 1 -12 19 0",
+        "spelling 1 12 19 +1",
+        "layer 1 12 19",
+        "layer 1 12 19 0x",
+        "lamp 1 12 65536 0",
+        "lamp 1 12 19 -4294967295",
+        "generation 12 -7 1",
+        "generation 12 7",
+        "accidentals 12 7 7 3",
+        "accidentals 12 7 7 -3 1",
         "12",
         "12 ",
         "12 12 lamps 1 12 19",
@@ -478,9 +501,12 @@ fn unreadable() -> Vec<Question> {
         "12lamps 1 12 19",
         "book 1 12",
         "find 1 12 19",
-        "find 1 12 19 65536",
+        "find 1 12 19 2147483648",
+        "find 1 12 -1",
         "find_in",
-        "find_in 4294967296 1 0 0 0",
+        "find_in 2147483648 1 0 0 0",
+        "find_in -2147483649 1 0 0 0",
+        "find_in -0 1 0 0 0",
         "find_in 0 256 0 0 0",
         "find_in 0 1 0 0 0 ",
         "find_in 0 1 0 0 -1",
@@ -499,7 +525,7 @@ pub fn layout((code, octave, tritave): (u16, u16, u16)) -> Layout {
     }
 }
 
-fn pergen(period: u16, generator: u16) -> FreePergen {
+pub fn pergen(period: u16, generator: u16) -> FreePergen {
     FreePergen { period, generator }
 }
 

@@ -4,6 +4,7 @@
 
 mod answers;
 mod books;
+mod keys;
 mod list;
 mod questions;
 mod random;

@@ -116,12 +116,12 @@ pub enum Question {
     Divide16(i32, u16),
     Divide32(i32, u32),
     Pergen(FreePergen),
-    Generation(FreePergen, u16),
+    Generation(FreePergen, i32),
     Accidentals {
         pergen: FreePergen,
         num_symbols: u16,
         genchain_origin: u16,
-        key: u16,
+        key: i32,
     },
     NewGenesis(FreePergen),
     NewCollapsed(u16, u16),
@@ -129,14 +129,17 @@ pub enum Question {
     GetKey(Pattern, i16, i16),
     Chain(u16),
     OfLayout(OfLayout, Layout),
-    Spelling(Layout, u16),
-    Name(Layout, u16),
+    Spelling(Layout, i32),
+    Name(Layout, i32),
+    /// One key's layer, and its lamp code.
+    Layer(Layout, i32),
+    Lamp(Layout, i32),
     BookLength(Layout),
     Book(Layout),
     /// A key looked up in a layout's book.
-    Find(Layout, u16),
+    Find(Layout, i32),
     /// A key looked up in any bytes.
-    FindIn(u32, Vec<u8>),
+    FindIn(i32, Vec<u8>),
     /// The line that the key table program is given, without its line feed.
     Table(String),
     /// A question, and how many elements the slice has that is lent for its answer.
@@ -188,6 +191,8 @@ impl Display for Question {
             Self::OfLayout(asked, layout) => write!(f, "{} {layout}", asked.name()),
             Self::Spelling(layout, key) => write!(f, "spelling {layout} {key}"),
             Self::Name(layout, key) => write!(f, "name {layout} {key}"),
+            Self::Layer(layout, key) => write!(f, "layer {layout} {key}"),
+            Self::Lamp(layout, key) => write!(f, "lamp {layout} {key}"),
             Self::BookLength(layout) => write!(f, "book_len {layout}"),
             Self::Book(layout) => write!(f, "book {layout}"),
             Self::Find(layout, key) => write!(f, "find {layout} {key}"),

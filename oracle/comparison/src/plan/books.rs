@@ -41,7 +41,7 @@ fn book_of((code, octave, tritave): (u16, u16, u16)) -> Vec<u8> {
 /// Every other value of every byte.
 fn single_changes(tally: &mut Tally, layout: (u16, u16, u16)) {
     let mut book = book_of(layout);
-    let keys = u32::from(layout.1);
+    let keys = layout.1;
     subject::find_all(tally, &book, keys);
     for place in 0..book.len() {
         let was = book[place];
@@ -53,9 +53,11 @@ fn single_changes(tally: &mut Tally, layout: (u16, u16, u16)) {
     }
 }
 
-/// The first key, the last and two that are none.
-fn find_some(tally: &mut Tally, book: &[u8], keys: u32) {
-    for key in [0, keys - 1, keys, u32::MAX] {
+/// The first key, the last, those next to them that are none, and the ends of 32 signed
+/// bits.
+fn find_some(tally: &mut Tally, book: &[u8], keys: u16) {
+    let keys = i32::from(keys);
+    for key in [0, keys - 1, keys, -1, i32::MIN, i32::MAX] {
         subject::find(tally, book, key);
     }
 }
@@ -63,7 +65,7 @@ fn find_some(tally: &mut Tally, book: &[u8], keys: u32) {
 /// Every beginning, every end, and bytes more than there should be.
 fn cut_and_extended(tally: &mut Tally, layout: (u16, u16, u16)) {
     let book = book_of(layout);
-    let keys = u32::from(layout.1);
+    let keys = layout.1;
     for length in 0..=book.len() {
         subject::find_all(tally, &book[..length], keys);
         subject::find_all(tally, &book[book.len() - length..], keys);
@@ -77,7 +79,7 @@ fn cut_and_extended(tally: &mut Tally, layout: (u16, u16, u16)) {
 
 fn changed_at_random(tally: &mut Tally, layout: (u16, u16, u16), mut randoms: Randoms) {
     let book = book_of(layout);
-    let keys = u32::from(layout.1);
+    let keys = layout.1;
     for _ in 0..300 {
         let mut changed = book.clone();
         match randoms.below(3) {
@@ -86,7 +88,7 @@ fn changed_at_random(tally: &mut Tally, layout: (u16, u16, u16), mut randoms: Ra
             _ => move_borders(&mut changed, keys, &mut randoms),
         }
         find_some(tally, &changed, keys);
-        subject::find(tally, &changed, randoms.below(u64::from(keys)) as u32);
+        subject::find(tally, &changed, randoms.below(u64::from(keys)) as i32);
     }
 }
 
@@ -98,7 +100,7 @@ fn change_bytes(book: &mut [u8], randoms: &mut Randoms) {
 }
 
 /// Another count, offset or length.
-fn change_number(book: &mut [u8], keys: u32, randoms: &mut Randoms) {
+fn change_number(book: &mut [u8], keys: u16, randoms: &mut Randoms) {
     let place = 4 * randoms.below(1 + 2 * u64::from(keys)) as usize;
     let was = number_at(book, place);
     let number = randoms.of(&[
@@ -115,7 +117,7 @@ fn change_number(book: &mut [u8], keys: u32, randoms: &mut Randoms) {
 /// Makes one name longer and a later one shorter by as much, with the offsets
 /// between moved, all in 32 bits that wrap. The ends then fit in wrapped numbers;
 /// by a small change they fit indeed.
-fn move_borders(book: &mut [u8], keys: u32, randoms: &mut Randoms) {
+fn move_borders(book: &mut [u8], keys: u16, randoms: &mut Randoms) {
     let first = randoms.below(u64::from(keys) - 1) as usize;
     let last = first + 1 + randoms.below(u64::from(keys) - 1 - first as u64) as usize;
     let by = randoms.of(&[1, 2, u32::MAX, 1 << 31, randoms.clone().next() as u32]);
@@ -149,16 +151,21 @@ fn put_number(book: &mut [u8], place: usize, number: u32) {
     book[place..place + 4].copy_from_slice(&number.to_le_bytes());
 }
 
+/// A key that such bytes may have, or one that no book has.
+fn any_key(randoms: &mut Randoms) -> i32 {
+    randoms.of(&[0, 1, 2, 3, -1, -2, i32::MIN, i32::MAX])
+}
+
 /// Random bytes; and small numbers, which come closer to a book.
 fn any_bytes(tally: &mut Tally, mut randoms: Randoms) {
     for _ in 0..2_000 {
         let length = randoms.below(64) as usize;
         let mut bytes = randoms.bytes(length);
-        subject::find(tally, &bytes, randoms.below(4) as u32);
+        subject::find(tally, &bytes, any_key(&mut randoms));
         for (place, byte) in bytes.iter_mut().enumerate() {
             *byte = if place % 4 == 0 { *byte % 40 } else { 0 };
         }
-        subject::find(tally, &bytes, randoms.below(4) as u32);
+        subject::find(tally, &bytes, any_key(&mut randoms));
     }
 }
 

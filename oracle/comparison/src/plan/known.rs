@@ -30,10 +30,11 @@ fn compare_input(tally: &mut Tally, input: Input) {
         Input::Remainder(numer, denom) => numbers::remainder(tally, numer, denom),
         Input::Pergen(period, generator) => FreePergen::new(period, generator).compare(tally),
         Input::Generation(period, generator, key) => {
-            FreePergen::new(period, generator).compare_generation(tally, key);
+            FreePergen::new(period, generator).compare_generation(tally, key.into());
         }
         Input::Accidentals(period, generator, symbols, origin, key) => {
-            FreePergen::new(period, generator).compare_accidentals(tally, symbols, origin, key);
+            let pergen = FreePergen::new(period, generator);
+            pergen.compare_accidentals(tally, symbols, origin, key.into());
         }
         Input::Genesis(period, generator) => patterns::find(tally, period, generator, 0),
         Input::PatternLayers(pattern) | Input::Coprime(pattern) => {
@@ -48,7 +49,7 @@ fn compare_input(tally: &mut Tally, input: Input) {
         Input::NoteName(code, octave, tritave, key) => {
             let layout = GivenLayout::new(code, octave, tritave);
             layout.compare(tally);
-            layout.compare_key(tally, key);
+            layout.compare_key(tally, key.into());
         }
         Input::LayoutLayers(code, octave, tritave) => {
             GivenLayout::new(code, octave, tritave).compare_octave(tally);
@@ -56,10 +57,14 @@ fn compare_input(tally: &mut Tally, input: Input) {
     }
 }
 
-/// A product with the inverse that is too large, in a format and in a name.
+/// A product with the inverse that is too large, in a format and in a name; and the
+/// same at a key below 0, which is asked for at such a remainder.
 fn others_of_classes(tally: &mut Tally) {
-    FreePergen::new(32_770, 32_769).compare_accidentals(tally, 1, 0, u16::MAX);
-    GivenLayout::new(5, 46_342, 6).compare_key(tally, 46_341);
+    FreePergen::new(32_770, 32_769).compare_accidentals(tally, 1, 0, 65_535);
+    FreePergen::new(46_342, 46_341).compare_generation(tally, -1);
+    let layout = GivenLayout::new(5, 46_342, 6);
+    layout.compare_key(tally, 46_341);
+    layout.compare_key(tally, -1);
 }
 
 fn bench_examples(tally: &mut Tally) {
@@ -80,7 +85,7 @@ fn bench_examples(tally: &mut Tally) {
         layout.compare(tally);
         layout.compare_octave(tally);
         layout.compare_book(tally);
-        for key in 0..octave {
+        for key in -i32::from(octave)..i32::from(octave) {
             layout.compare_key(tally, key);
         }
         tables::print(tally, format!("{code} {octave} {tritave}\n").as_bytes());

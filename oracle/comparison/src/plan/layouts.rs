@@ -40,7 +40,8 @@ pub fn plan(tasks: &mut Vec<Task>, mode: Mode, seed: u64) {
     }
 }
 
-/// Every chain with each tritave up to 6 × octave + 6, and every key of two octaves.
+/// Every chain with each tritave up to 6 × octave + 6, and every key of three octaves,
+/// one of them below 0, with a key more on both sides and the ends of 32 signed bits.
 fn all_of_octave(tally: &mut Tally, octave: u16) {
     for code in CODES {
         for tritave in 0..=6 * octave + 6 {
@@ -48,8 +49,11 @@ fn all_of_octave(tally: &mut Tally, octave: u16) {
             layout.compare(tally);
             layout.compare_octave(tally);
             layout.compare_book(tally);
-            let keys = if layout.is_accepted() { 2 * octave } else { 2 };
-            for key in 0..keys {
+            let octaves = match layout.is_accepted() {
+                true => -i32::from(octave) - 1..=2 * i32::from(octave),
+                false => -1..=1,
+            };
+            for key in octaves.chain([i32::MIN, i32::MAX]) {
                 layout.compare_key(tally, key);
             }
             compare_small_spellings(tally, &layout);
@@ -146,15 +150,18 @@ fn likely_tritave(code: u16, octave: u16, randoms: &mut Randoms) -> u16 {
     u16::try_from(tritave).unwrap_or_else(|_| randoms.any())
 }
 
-/// The layout itself, nine keys and nine spellings.
+/// The layout itself, thirteen keys and nine spellings.
 fn compare_some(tally: &mut Tally, code: u16, octave: u16, tritave: u16, randoms: &mut Randoms) {
     let layout = GivenLayout::new(code, octave, tritave);
     layout.compare(tally);
-    for key in [0, 1, octave.saturating_sub(1), octave, u16::MAX] {
+    let steps = i32::from(octave);
+    let around_0 = [-steps, -1, 0, 1, steps - 1, steps];
+    let at_ends = [i32::MIN, 65_535, i32::MAX];
+    for key in around_0.into_iter().chain(at_ends) {
         layout.compare_key(tally, key);
     }
     for _ in 0..4 {
-        layout.compare_key(tally, randoms.any());
+        layout.compare_key(tally, randoms.key());
     }
     for _ in 0..9 {
         let spelling = random_spelling(&layout, randoms);
@@ -219,20 +226,44 @@ fn large_layout(randoms: &mut Randoms) -> (u16, u16, u16) {
     (code, octave, likely_tritave(code, octave, randoms))
 }
 
-/// Everything about a layout: its numbers, layers, strip, book and every key.
+/// Everything about a layout: its numbers, layers, strip, book, every key, and another
+/// of each note.
 fn whole(tally: &mut Tally, (code, octave, tritave): (u16, u16, u16), mut randoms: Randoms) {
     compare_some(tally, code, octave, tritave, &mut randoms);
     let layout = GivenLayout::new(code, octave, tritave);
     layout.compare_octave(tally);
     layout.compare_book(tally);
-    for key in 0..octave {
+    for key in 0..i32::from(octave) {
         layout.compare_key(tally, key);
+        layout.compare_key(tally, same_note(key, octave, &mut randoms));
     }
+}
+
+/// A key that is whole octaves, up or down, away from a key of the octave.
+fn same_note(key: i32, octave: u16, randoms: &mut Randoms) -> i32 {
+    let (key, octave) = (Whole::from(key), Whole::from(octave));
+    let most = Whole::from(i32::MAX) / octave;
+    let octaves = Whole::from(randoms.below(2 * most as u64)) - most;
+    fitted(key + octaves * octave)
 }
 
 #[cfg(test)]
 mod tests {
     use super::*;
+
+    #[test]
+    fn another_key_of_a_note_is_whole_octaves_away() {
+        let mut randoms = Randoms::new(1, 1);
+        for octave in [1, 2, 12, 65_535] {
+            for key in [0, i32::from(octave) - 1] {
+                let others = [(); 100].map(|()| same_note(key, octave, &mut randoms));
+                assert!(others.iter().any(|other| *other < 0));
+                assert!(others.iter().any(|other| *other > key));
+                let same = |other: &i32| other.rem_euclid(octave.into()) == key;
+                assert!(others.iter().all(same));
+            }
+        }
+    }
 
     #[test]
     fn the_large_layouts_are_accepted() {

@@ -2,6 +2,7 @@
 
 use super::Mode;
 use super::Task;
+use crate::randoms::KEY_LIMITS;
 use crate::randoms::LIMITS;
 use crate::randoms::Randoms;
 use crate::subjects::numbers;
@@ -28,13 +29,19 @@ pub fn plan(tasks: &mut Vec<Task>, mode: Mode, seed: u64) {
     tasks.push(Box::new(small_numbers));
 }
 
-/// Every generator up to twice the period, every key of two periods, every format
-/// of up to ten symbols, and origins up to one that is no symbol's.
+/// Every generator up to twice the period, every key of two periods on both sides of 0,
+/// every format of up to ten symbols, and origins up to one that is no symbol's; and
+/// the limits of keys.
 fn all_of_period(tally: &mut Tally, period: u16) {
     for generator in 0..=2 * period {
         let pergen = FreePergen::new(period, generator);
         pergen.compare(tally);
-        for key in 0..=2 * period {
+        for key in KEY_LIMITS {
+            pergen.compare_generation(tally, key);
+            pergen.compare_accidentals(tally, 7, 3, key);
+        }
+        let two_periods = 2 * i32::from(period);
+        for key in -two_periods..=two_periods {
             pergen.compare_generation(tally, key);
             for symbols in 0..=10 {
                 for origin in 0..=symbols {
@@ -50,7 +57,7 @@ fn limits_of_period(tally: &mut Tally, period: u16) {
         numbers::gcd(tally, period, other);
         let pergen = FreePergen::new(period, other);
         pergen.compare(tally);
-        for key in LIMITS {
+        for key in LIMITS.map(i32::from).into_iter().chain(KEY_LIMITS) {
             pergen.compare_generation(tally, key);
             for (symbols, origin) in [(1, 0), (7, 3), (32_768, 32_767), (65_535, 65_534)] {
                 pergen.compare_accidentals(tally, symbols, origin, key);
@@ -67,7 +74,7 @@ fn at_random(tally: &mut Tally, mut randoms: Randoms) {
         let pergen = FreePergen::new(randoms.limit_or_any(), randoms.any_length());
         pergen.compare(tally);
         for _ in 0..8 {
-            let key = randoms.limit_or_any();
+            let key = randoms.key();
             pergen.compare_generation(tally, key);
             let symbols = randoms.any_length();
             let origin = randoms.between(0, symbols);

@@ -14,7 +14,7 @@ const PAIR: usize = 2;
 
 /// Looks a key up, and compares the part of the book that the Rust package makes
 /// of offset and length; a part that is none would make it panic.
-pub fn find(tally: &mut Tally, book: &[u8], key: u32) {
+pub fn find(tally: &mut Tally, book: &[u8], key: i32) {
     let arguments: Vec<i64> = std::iter::once(key.into())
         .chain(book.iter().map(|byte| i64::from(*byte)))
         .collect();
@@ -35,21 +35,24 @@ pub fn find(tally: &mut Tally, book: &[u8], key: u32) {
     tally.compare_filling_after_room(question, PAIR, reading, call);
 }
 
-/// Every key of a book, some beyond, and the largest number.
-pub fn find_all(tally: &mut Tally, book: &[u8], keys: u32) {
-    for key in 0..keys + 2 {
+/// Every key of a book, some on both sides, and the ends of 32 signed bits.
+pub fn find_all(tally: &mut Tally, book: &[u8], keys: u16) {
+    let keys = i32::from(keys);
+    for key in -2..keys + 2 {
         find(tally, book, key);
     }
-    find(tally, book, u32::MAX);
+    for key in [-keys, i32::MIN, i32::MAX] {
+        find(tally, book, key);
+    }
 }
 
 /// The C call itself: the Rust package lends a slice of its own.
-fn find_into(book: &[u8], key: u32, out: &mut [u32]) -> Result<usize, Refused> {
+fn find_into(book: &[u8], key: i32, out: &mut [u32]) -> Result<usize, Refused> {
     unsafe extern "C" {
         fn vn_book_find(
             book: *const u8,
             book_len: usize,
-            key: u32,
+            key: i32,
             out: *mut u32,
             len: usize,
         ) -> i64;

@@ -1,7 +1,9 @@
 //! Keys of a layout: spellings, names, and what spellings sound.
 
+use judge::keys::asked_at;
 use judge::layouts;
 use reading::Outcome;
+use reading::Whole;
 use reading::fitted;
 use reading::names;
 use reading::names::Spelling;
@@ -19,16 +21,17 @@ use crate::tally::outcome;
 
 impl GivenLayout {
     /// Every question about one key.
-    pub fn compare_key(&self, tally: &mut Tally, key: u16) {
+    pub fn compare_key(&self, tally: &mut Tally, key: i32) {
         self.compare_accidentals(tally, key);
         self.compare_name(tally, key);
         self.compare_printed_spellings(tally, key);
     }
 
-    fn compare_accidentals(&self, tally: &mut Tally, key: u16) {
+    fn compare_accidentals(&self, tally: &mut Tally, key: i32) {
         let reading = self.read(|layout| pergens::spellings(layout.spellings(key)));
         let original = self.original.then(|layout| {
-            Original::of(layouts::accidentals(layout, key).map(pergens::original_spellings))
+            let answer = layouts::accidentals(layout, self.asked_at(key));
+            Original::of(answer.map(pergens::original_spellings))
         });
         let arguments = self.arguments_with(key);
         let question = Question {
@@ -41,11 +44,11 @@ impl GivenLayout {
         tally.compare_filling(question, reading, original, self.key_class(key), call);
     }
 
-    fn compare_name(&self, tally: &mut Tally, key: u16) {
+    fn compare_name(&self, tally: &mut Tally, key: i32) {
         let reading = self.read(|layout| names::name(layout, key).into_bytes());
         let original = self
             .original
-            .then(|layout| Original::of(layouts::note_name(layout, key)));
+            .then(|layout| Original::of(layouts::note_name(layout, self.asked_at(key))));
         let arguments = self.arguments_with(key);
 
         let length = Answers {
@@ -77,14 +80,15 @@ impl GivenLayout {
 
     /// "Each spelling in the key's name sounds that key." The expected key is the
     /// key itself here, and not the formula's.
-    fn compare_printed_spellings(&self, tally: &mut Tally, key: u16) {
+    fn compare_printed_spellings(&self, tally: &mut Tally, key: i32) {
         let Ok(layout) = &self.reading else {
             return;
         };
+        let octave = layout.pergen.period;
         for spelling in names::printed(layout, key) {
             let answers = Answers {
                 library: self.sounded(spelling),
-                reading: Ok(key % self.octave),
+                reading: Ok(fitted(Whole::from(key).rem_euclid(octave))),
                 original: Original::Silent,
             };
             let arguments = self.arguments_of(spelling);
@@ -117,8 +121,14 @@ impl GivenLayout {
         ))
     }
 
-    fn arguments_with(&self, key: u16) -> [i64; 4] {
-        [self.code, self.octave, self.tritave, key].map(i64::from)
+    /// The key that the original is asked for.
+    fn asked_at(&self, key: i32) -> u16 {
+        asked_at(key, self.octave)
+    }
+
+    pub fn arguments_with(&self, key: i32) -> [i64; 4] {
+        let [code, octave, tritave] = [self.code, self.octave, self.tritave].map(i64::from);
+        [code, octave, tritave, key.into()]
     }
 
     fn arguments_of(&self, spelling: Spelling) -> [i64; 6] {
@@ -132,8 +142,8 @@ impl GivenLayout {
         ]
     }
 
-    fn key_class(&self, key: u16) -> Option<Class> {
-        self.class(|layout| classes::of_layout_key(layout, key))
+    fn key_class(&self, key: i32) -> Option<Class> {
+        self.class(|layout| classes::of_layout_key(layout, self.asked_at(key)))
     }
 }
 

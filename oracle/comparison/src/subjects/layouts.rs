@@ -14,6 +14,7 @@ use reading::fitted;
 use reading::layers;
 use reading::layers::Kind;
 use reading::layouts::Layout;
+use reading::layouts::repeated;
 use tune::layout::IsomorphicLayout;
 use tune::layout::Layer;
 use vetchnoon::Refused;
@@ -22,6 +23,7 @@ use crate::classes;
 use crate::classes::Class;
 use crate::question::Call;
 use crate::question::Question;
+use crate::randoms::KEY_LIMITS;
 use crate::tally::Answers;
 use crate::tally::Original;
 use crate::tally::Tally;
@@ -159,8 +161,15 @@ impl GivenLayout {
         let original = self
             .original_layers()
             .then(|layers| numbers_of(layers, total));
-        self.compare_each(tally, Call::Layer, &reading, vetchnoon::layer);
         let class = self.class(classes::of_layout_layers);
+        self.compare_each(
+            tally,
+            Call::Layer,
+            &reading,
+            &original,
+            class,
+            vetchnoon::layer,
+        );
         let question = self.asking(Call::LayoutLayers);
         let call =
             |out: &mut [u16]| vetchnoon::layout_layers(self.code, self.octave, self.tritave, out);
@@ -168,32 +177,37 @@ impl GivenLayout {
     }
 
     /// A call for one key against the list of all, which repeats: each key that has
-    /// an entry, some beyond, and two keys where the layout is refused. The original
-    /// has lists alone.
+    /// an entry, as many below 0, some beyond both, and the limits of keys; a few keys
+    /// where the layout is refused. The original has lists alone, which are read at the
+    /// same remainder.
     fn compare_each<T: Copy + PartialEq + Debug>(
         &self,
         tally: &mut Tally,
         call: Call,
         reading: &Outcome<Vec<T>>,
-        library: impl Fn(u16, u16, u16, u16) -> Result<T, Refused>,
+        original: &Original<Vec<T>>,
+        class: Option<Class>,
+        library: impl Fn(u16, u16, u16, i32) -> Result<T, Refused>,
     ) {
-        let entries = reading.as_ref().map_or(1, Vec::len);
-        let keys = (0..entries).chain([entries, entries + 1, usize::from(u16::MAX)]);
-        for key in keys.filter_map(|key| u16::try_from(key).ok()) {
+        let keys: Vec<i32> = match reading.as_ref().map(|list| list.len() as i32) {
+            Ok(entries) => (-entries - 1..=entries + 1).chain(KEY_LIMITS).collect(),
+            Err(_) => vec![i32::MIN, -1, 0, 1, i32::MAX],
+        };
+        for key in keys {
             let answers = Answers {
                 library: outcome(library(self.code, self.octave, self.tritave, key)),
                 reading: match reading {
-                    Ok(list) => Ok(list[usize::from(key) % entries]),
+                    Ok(list) => Ok(repeated(list, key)),
                     Err(number) => Err(*number),
                 },
-                original: Original::Silent,
+                original: original.then(|list| Original::Answered(repeated(list, key))),
             };
-            let arguments = [self.code, self.octave, self.tritave, key].map(i64::from);
+            let arguments = self.arguments_with(key);
             let question = Question {
                 call,
                 arguments: &arguments,
             };
-            tally.compare(question, &answers, None);
+            tally.compare(question, &answers, class);
         }
     }
 
@@ -211,8 +225,15 @@ impl GivenLayout {
         let original = self
             .original
             .then(|layout| Original::of_option(layouts::strip(layout).map(Result::ok)));
-        self.compare_each(tally, Call::Lamp, &reading, vetchnoon::lamp);
         let class = self.class(classes::of_layout_layers);
+        self.compare_each(
+            tally,
+            Call::Lamp,
+            &reading,
+            &original,
+            class,
+            vetchnoon::lamp,
+        );
         let question = self.asking(Call::LampStrip);
         let call =
             |out: &mut [u8]| vetchnoon::lamp_strip(self.code, self.octave, self.tritave, out);

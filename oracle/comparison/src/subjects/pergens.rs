@@ -1,5 +1,6 @@
 //! Free pergens with free formats.
 
+use judge::keys::asked_at;
 use judge::spelling;
 use reading::Outcome;
 use reading::fitted;
@@ -58,7 +59,7 @@ impl FreePergen {
         tally.compare_filling(question, reading, original, self.period_class(), call);
     }
 
-    pub fn compare_generation(&self, tally: &mut Tally, key: u16) {
+    pub fn compare_generation(&self, tally: &mut Tally, key: i32) {
         let question = Question {
             call: Call::Generation,
             arguments: &[self.period.into(), self.generator.into(), key.into()],
@@ -68,17 +69,19 @@ impl FreePergen {
             generation(degree, pergen.cycle(key.into()).map(fitted))
         });
         let original = self.original.then(|pergen| {
-            let answer = spelling::generation(pergen, key);
+            let answer = spelling::generation(pergen, self.asked_at(key));
             Original::of(answer.map(|found| generation(found.degree, found.cycle)))
         });
         let call = |out: &mut [u16]| vetchnoon::generation(self.period, self.generator, key, out);
         tally.compare_filling(question, reading, original, self.key_class(key), call);
     }
 
-    pub fn compare_accidentals(&self, tally: &mut Tally, symbols: u16, origin: u16, key: u16) {
+    pub fn compare_accidentals(&self, tally: &mut Tally, symbols: u16, origin: u16, key: i32) {
+        let numbers = [self.period, self.generator, symbols, origin].map(i64::from);
+        let [period, generator, symbol_count, first] = numbers;
         let question = Question {
             call: Call::Accidentals,
-            arguments: &[self.period, self.generator, symbols, origin, key].map(i64::from),
+            arguments: &[period, generator, symbol_count, first, key.into()],
         };
         let format = Format {
             symbols: symbols.into(),
@@ -93,10 +96,11 @@ impl FreePergen {
                 num_symbols: symbols,
                 genchain_origin: origin,
             };
-            Original::of(spelling::accidentals(pergen, &format, key).map(original_spellings))
+            let answer = spelling::accidentals(pergen, &format, self.asked_at(key));
+            Original::of(answer.map(original_spellings))
         });
         let class = match &self.reading {
-            Ok(pergen) => classes::of_accidentals(pergen, format, key.into()),
+            Ok(pergen) => classes::of_accidentals(pergen, format, self.asked_at(key)),
             Err(_) => self.period_class(),
         };
         let original = match (class, &self.reading) {
@@ -116,9 +120,14 @@ impl FreePergen {
         (self.period == 0).then_some(Class::PeriodZero)
     }
 
-    fn key_class(&self, key: u16) -> Option<Class> {
+    /// The key that the original is asked for.
+    fn asked_at(&self, key: i32) -> u16 {
+        asked_at(key, self.period)
+    }
+
+    fn key_class(&self, key: i32) -> Option<Class> {
         match &self.reading {
-            Ok(pergen) => classes::of_generation(pergen, key.into()),
+            Ok(pergen) => classes::of_generation(pergen, self.asked_at(key)),
             Err(_) => self.period_class(),
         }
     }

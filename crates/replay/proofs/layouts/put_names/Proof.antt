@@ -18,6 +18,9 @@ loop-holds c = search needs
 space-requires : tie.Need-space-requires Inv-loop μ-loop
 space-requires c κs = search needs
 
+cast-put-name : tie.Need-cast-put-name Inv-loop μ-loop
+cast-put-name c = search needs
+
 put-name-requires : tie.Need-put-name-requires Inv-loop μ-loop
 put-name-requires c κs = search needs
 
@@ -47,6 +50,7 @@ put-names-spec =
     μ-loop
     loop-holds
     space-requires
+    cast-put-name
     put-name-requires
     add-key
     loop-less

@@ -1,14 +1,14 @@
--- One number is read in each turn, and there is room for five.
+-- One number is read in each turn, and there is room for four.
 use Prim.Native.Nat.{_≤_, _-_}
 use borrow.Author.Needs.{needs}
 use Rattle.replay.proofs.words.numbers_after.Statement.{statement}
 use Rattle.replay.proofs.words.numbers_after.Tie as tie
 
 abbrev Inv-loop : tie.InvT-loop
-Inv-loop line from count values₀ at₀ i₀ values at i = i ≤ 5
+Inv-loop line from count values₀ at₀ i₀ values at i = i ≤ 4
 
 abbrev μ-loop : tie.MeasureT-loop
-μ-loop line from count values₀ at₀ i₀ values at i = 5 - i
+μ-loop line from count values₀ at₀ i₀ values at i = 4 - i
 
 loop-holds : tie.Need-loop-holds Inv-loop μ-loop
 loop-holds c = search needs
@@ -40,11 +40,11 @@ loop-less c = search needs
 loop-again : tie.Need-loop-again Inv-loop μ-loop
 loop-again c = search needs
 
-is-at-requires : tie.Need-is-at-requires Inv-loop μ-loop
-is-at-requires c κs = search needs
-
 returns-2 : tie.Need-returns-2 Inv-loop μ-loop
 returns-2 c = search needs
+
+returns-3 : tie.Need-returns-3 Inv-loop μ-loop
+returns-3 c = search needs
 
 pub numbers-after-spec : {M : Type 1} → statement M
 numbers-after-spec =
@@ -62,5 +62,5 @@ numbers-after-spec =
     add-i
     loop-less
     loop-again
-    is-at-requires
-    returns-2)
+    returns-2
+    returns-3)
