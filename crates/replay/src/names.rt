@@ -72,6 +72,7 @@ pub(crate) const FIND: usize = 30;
 // On layouts and books again, from `LAYOUT` to `FIND` in the same order, with a start.
 pub(crate) const LAYOUT_FROM: usize = 31;
 
+// How many places lie between a question and the same with a start.
 const FROM: usize = 11;
 
 pub(crate) const LAST_PLAIN: usize = 41;

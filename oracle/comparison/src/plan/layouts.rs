@@ -1,5 +1,6 @@
 //! Layouts.
 
+use reading::LARGEST;
 use reading::Outcome;
 use reading::Whole;
 use reading::chains;
@@ -92,8 +93,8 @@ fn all_starts_of_octave(tally: &mut Tally, octave: u16) {
     }
 }
 
-/// All starts of an accepted layout but the chain's own, and the first two that are
-/// none; a few where another question has the answer no before.
+/// All starts of an accepted layout but the chain's own, and three numbers that are
+/// none; some where another question has the answer no before.
 fn starts(code: u16, octave: u16, tritave: u16) -> Vec<u16> {
     let layout = GivenLayout::new(code, octave, tritave);
     let letters: Outcome<u16> = layout.read(|layout| fitted(layout.chain.count()));
@@ -106,12 +107,12 @@ fn starts(code: u16, octave: u16, tritave: u16) -> Vec<u16> {
     }
 }
 
-/// All letters and one beyond, up to two signs of each kind and as many flats as can
-/// be asked for, and stars up to one that is too many.
+/// All letters, one beyond and the largest number, up to two signs of each kind and as
+/// many flats as can be asked for, and stars up to one that is too many.
 fn compare_small_spellings(tally: &mut Tally, layout: &GivenLayout) {
     let letters = layout.read(|layout| layout.chain.count()).unwrap_or(0);
     let cycles = layout.read(|layout| layout.pergen.cycles).unwrap_or(0);
-    for letter in 0..=letters {
+    for letter in (0..=letters).chain([LARGEST]) {
         for signs in [0, 1, 2, -1, -2, i32::MIN] {
             for stars in [0, cycles - 1, cycles, cycles + 1] {
                 let spelling = Spelling {
