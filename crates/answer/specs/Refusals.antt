@@ -1,4 +1,4 @@
--- The number of each refusal, and what the shared answers mean (document 01, "Questions before an answer"; 16 and 21 of document 02).
+-- The number of each refusal, and what the shared answers mean (document 01, "Questions before an answer"; 16, 18 and 21 of document 02).
 use Prim.Native.Nat.{ℕ}
 use Rattle.answer.specs.Outcome.{Outcome, given, refused}
 use Rattle.answer.specs.declared.Refusal.{Refusal}
@@ -18,6 +18,7 @@ use Rattle.answer.specs.declared.Refusal.the-variants.{
   BookKey,
   Line,
   Letter,
+  Start,
   Stars,
 }
 use Rattle.answer.specs.declared.NumberAnswer.{NumberAnswer}
@@ -42,6 +43,7 @@ numberOf BookCover = 12
 numberOf BookKey = 13
 numberOf Line = 14
 numberOf Letter = 16
+numberOf Start = 18
 numberOf Stars = 21
 
 -- A number that was given, or the number of the question.

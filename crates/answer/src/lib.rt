@@ -1,6 +1,6 @@
 // What every entry point answers: a value, or the number of the first question that it says no to.
 //
-// Holds the fourteen questions of document 01 ("Questions before an answer") and two of document 02 as one enum with their numbers,
+// Holds the fourteen questions of document 01 ("Questions before an answer") and three of document 02 as one enum with their numbers,
 // and the answers that several crates share.
 // specs/: an outcome and how questions are asked (Outcome), the numbers (Refusals), what a lent slice holds
 // after an answer (Lent). Nothing is assumed.
@@ -39,6 +39,8 @@ pub enum Refusal {
     Line,
     // 16: is the letter's place below the number of letters? (document 02)
     Letter,
+    // 18: is the start below the number of letters? (document 02)
+    Start,
     // 21: are the stars below the cycles? (document 02)
     Stars,
 }
@@ -64,6 +66,7 @@ impl Refusal {
             Refusal::BookKey => 13,
             Refusal::Line => 14,
             Refusal::Letter => 16,
+            Refusal::Start => 18,
             Refusal::Stars => 21,
         }
     }

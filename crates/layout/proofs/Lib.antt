@@ -5,3 +5,4 @@ pub mod Calls
 pub mod Naming
 pub mod SoundedKeys
 pub mod Examples
+pub mod KeyZero

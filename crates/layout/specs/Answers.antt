@@ -18,7 +18,7 @@ use Rattle.layout.specs.declared.IsomorphicLayout.{IsomorphicLayout}
 use Rattle.layout.specs.declared.LayoutAnswer.{LayoutAnswer}
 use Rattle.layout.specs.declared.LayoutAnswer.the-variants as LayoutAnswer
 
--- Questions 1 to 4 of a caller's record, then what is asked of the layout.
+-- Questions 1 to 4 and 18 of a caller's record, then what is asked of the layout.
 abbrev pub ofLayout : {A : Type 0} → IsomorphicLayout → (Layout → Outcome A) → Outcome A
 ofLayout r next = andThen (layoutOutcome r) next
 
@@ -42,12 +42,12 @@ unfoldable pub getAccidentals : IsomorphicLayout → ℤ → Outcome Accidentals
 unfolding layoutOutcome accidentalsIn
 getAccidentals r key = ofLayout r (λ (l : Layout). given (accidentalsIn l key))
 
--- Questions 1 to 4, then the scale's name.
+-- Questions 1 to 4 and 18, then the scale's name.
 unfoldable pub getScaleName : IsomorphicLayout → Outcome (List ℕ)
 unfolding layoutOutcome scaleName
 getScaleName r = ofLayout r (λ (l : Layout). given (scaleName (l .chain) (l .pattern)))
 
--- Questions 1 to 4, then the key's name.
+-- Questions 1 to 4 and 18, then the key's name.
 unfoldable pub getNoteName : IsomorphicLayout → ℤ → Outcome (List ℕ)
 unfolding layoutOutcome nameIn
 getNoteName r key = ofLayout r (λ (l : Layout). given (nameIn l key))
@@ -58,7 +58,7 @@ unfoldable pub soundedIn : Layout → Spelling → Outcome ℕ
 unfolding cycles keyOf
 soundedIn l x = ask 16 (ltb (x .index) (l .letters)) (ask 21 (ltb (x .stars) (cyclesIn l)) (given (keyOf l x)))
 
--- Questions 1 to 4, then those of the spelling.
+-- Questions 1 to 4 and 18, then those of the spelling.
 unfoldable pub getSoundedKey : IsomorphicLayout → Spelling → Outcome ℕ
 unfolding layoutOutcome soundedIn
 getSoundedKey r x = ofLayout r (λ (l : Layout). soundedIn l x)

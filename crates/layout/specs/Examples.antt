@@ -9,13 +9,18 @@ use Rattle.mos.specs.Patterns.{mos}
 use Rattle.pergen.specs.declared.Signs.{Signs}
 use Rattle.pergen.specs.declared.Signs.the-variants.{Sharps, Flats}
 use Rattle.pergen.specs.declared.Spelling.{Spelling}
-use Rattle.layout.specs.Layouts.{Layout, Accepted}
+use Rattle.layout.specs.Layouts.{Layout, Accepted, defaultLayout}
 use Rattle.layout.specs.Names.{IsSpelling, placeIn, printedIn}
 use Rattle.layout.specs.Answers.{ofLayout, getMos, getScaleName, getNoteName, getSoundedKey}
 use Rattle.layout.specs.declared.IsomorphicLayout.{IsomorphicLayout}
 
+-- With the chain's own start.
 abbrev pub layout : ℕ → ℕ → ℕ → IsomorphicLayout
-layout code octave tritave = record { genchain = code; octave = octave; tritave = tritave }
+layout code octave tritave = defaultLayout code octave tritave
+
+-- Beginning at another letter.
+abbrev pub beginning : ℕ → ℕ → ℕ → ℕ → IsomorphicLayout
+beginning start code octave tritave = record { genchain = code; octave = octave; tritave = tritave; start = start }
 
 pub record ScaleExample : Type 0 where
   pub layout : IsomorphicLayout
@@ -40,6 +45,14 @@ scaleExamples =
       pattern = given (mos 5 2 2 3);
       scale = given (97 ∷ 110 ∷ 116 ∷ 105 ∷ 100 ∷ 105 ∷ 97 ∷ 116 ∷ 111 ∷ 110 ∷ 105 ∷ 99 ∷ []);
     }
+    -- 18, of seven letters and of nine, behind each of the others; the last letter is a start
+    ∷ record { layout = beginning 7 1 12 19; pattern = refused 18; scale = refused 18 }
+    ∷ record { layout = beginning 9 0 16 25; pattern = refused 18; scale = refused 18 }
+    ∷ record { layout = beginning 65535 6 0 0; pattern = refused 1; scale = refused 1 }
+    ∷ record { layout = beginning 65535 5 0 1; pattern = refused 2; scale = refused 2 }
+    ∷ record { layout = beginning 65535 1 12 11; pattern = refused 3; scale = refused 3 }
+    ∷ record { layout = beginning 65535 2 4 6; pattern = refused 4; scale = refused 4 }
+    ∷ record { layout = beginning 6 1 12 19; pattern = given (mos 5 2 2 1); scale = given (100 ∷ 105 ∷ 97 ∷ 116 ∷ 111 ∷ 110 ∷ 105 ∷ 99 ∷ []) }
     ∷ record { layout = layout 6 0 0; pattern = refused 1; scale = refused 1 }
     ∷ record { layout = layout 5 0 1; pattern = refused 2; scale = refused 2 }
     ∷ record { layout = layout 1 12 11; pattern = refused 3; scale = refused 3 }
@@ -58,6 +71,16 @@ nameExamples =
     ∷ record { layout = layout 0 16 25; key = pos 12; name = given (206 ∷ 178 ∷ []) }
     ∷ record { layout = layout 1 24 38; key = pos 8; name = given (40 ∷ 70 ∷ 35 ∷ 47 ∷ 71 ∷ 98 ∷ 41 ∷ []) }
     ∷ record { layout = layout 1 24 38; key = pos 33; name = given (40 ∷ 70 ∷ 35 ∷ 47 ∷ 71 ∷ 98 ∷ 41 ∷ 42 ∷ []) }
+    -- beginning on C: C, C#/Db, D, D#/Eb, and B below
+    ∷ record { layout = beginning 1 1 12 19; key = pos 0; name = given (67 ∷ []) }
+    ∷ record { layout = beginning 1 1 12 19; key = pos 1; name = given (67 ∷ 35 ∷ 47 ∷ 68 ∷ 98 ∷ []) }
+    ∷ record { layout = beginning 1 1 12 19; key = pos 2; name = given (68 ∷ []) }
+    ∷ record { layout = beginning 1 1 12 19; key = pos 3; name = given (68 ∷ 35 ∷ 47 ∷ 69 ∷ 98 ∷ []) }
+    ∷ record { layout = beginning 1 1 12 19; key = negsuc 0; name = given (66 ∷ []) }
+    -- both ends of a chain, β and φ
+    ∷ record { layout = beginning 0 0 16 25; key = pos 0; name = given (206 ∷ 178 ∷ []) }
+    ∷ record { layout = beginning 8 0 16 25; key = pos 0; name = given (207 ∷ 134 ∷ []) }
+    ∷ record { layout = beginning 9 0 16 25; key = pos 0; name = refused 18 }
     -- below 0 (`negsuc k` is −1 − k): −1 is C#/Db, −12 is D as 0 is; −1 of two cycles is (C#/Db)*; both ends of 32 signed bits, F#/Gb and A
     ∷ record { layout = layout 1 12 19; key = negsuc 0; name = given (67 ∷ 35 ∷ 47 ∷ 68 ∷ 98 ∷ []) }
     ∷ record { layout = layout 1 12 19; key = negsuc 11; name = given (68 ∷ []) }
@@ -87,6 +110,10 @@ spellingExamples =
     ∷ record { layout = layout 1 12 19; spelling = spelt 0 (Sharps 0) 0; place = negsuc 2; key = given 3 }
     ∷ record { layout = layout 1 12 19; spelling = spelt 3 (Sharps 1) 0; place = pos 7; key = given 1 }
     ∷ record { layout = layout 1 12 19; spelling = spelt 5 (Flats 1) 0; place = negsuc 4; key = given 1 }
+    -- beginning on C: C is at place 0, D at 2, B at 5
+    ∷ record { layout = beginning 1 1 12 19; spelling = spelt 1 (Sharps 0) 0; place = pos 0; key = given 0 }
+    ∷ record { layout = beginning 1 1 12 19; spelling = spelt 3 (Sharps 0) 0; place = pos 2; key = given 2 }
+    ∷ record { layout = beginning 1 1 12 19; spelling = spelt 6 (Sharps 0) 0; place = pos 5; key = given 11 }
     -- D# with a star
     ∷ record { layout = layout 1 24 38; spelling = spelt 3 (Sharps 1) 1; place = pos 7; key = given 3 }
     -- the first letters of other chains: C, β and C
@@ -109,7 +136,8 @@ refusedSpellings =
     record { layout = layout 1 24 38; spelling = spelt 3 (Sharps 0) 2; question = 21 }
     ∷ record { layout = layout 1 24 38; spelling = spelt 7 (Sharps 0) 1; question = 16 }
     ∷ record { layout = layout 1 24 38; spelling = spelt 7 (Sharps 0) 2; question = 16 }
-    -- the layout's questions come first
+    -- the layout's questions come first; 18 before 16
+    ∷ record { layout = beginning 7 1 24 38; spelling = spelt 7 (Sharps 0) 2; question = 18 }
     ∷ record { layout = layout 6 0 0; spelling = spelt 9 (Sharps 0) 9; question = 1 }
     ∷ record { layout = layout 1 0 19; spelling = spelt 9 (Sharps 0) 9; question = 2 }
     ∷ record { layout = layout 1 12 11; spelling = spelt 9 (Sharps 0) 9; question = 3 }

@@ -1,12 +1,13 @@
--- A layout of a chain in a tuning: questions 1 to 4 (document 01, "Questions before an answer" and "The six chains").
+-- A layout of a chain in a tuning: questions 1 to 4 (document 01, "Questions before an answer" and "The six chains") and 18 (document
+-- 02, W-209).
 use Prim.Native.Nat.{ℕ}
 use mathlib.Core.Bool.{Bool}
 use mathlib.Core.Option.{Option, none, some}
 use mathlib.Core.Path.{_≡_}
 use lib.ListN.{length}
-use lib.Dec.{leb}
+use lib.Dec.{leb, ltb}
 use lib.IntN.{ℤ}
-use Rattle.answer.specs.Outcome.{Outcome, given, refused, andThen}
+use Rattle.answer.specs.Outcome.{Outcome, given, refused, ask, andThen}
 use Rattle.genchain.specs.Chains.{chainOf}
 use Rattle.genchain.specs.Answers.{generatorOutcome}
 use Rattle.mos.specs.declared.Mos.{Mos}
@@ -37,30 +38,38 @@ pub record Layout : Type 0 where
   -- the pattern with N steps
   pub pattern : Mos
 
--- 4. "Does the walk of step patterns meet one with as many steps as the chain has letters? No: 4."
-abbrev pub withPattern : IsomorphicLayout → ℕ → Option Mos → Outcome Layout
-withPattern r G none = refused 4
-withPattern r G (some m) =
-    given
-    (record {
+-- What a caller's record, a generator and a pattern make; the start is the record's.
+abbrev pub layoutWith : IsomorphicLayout → ℕ → Mos → Layout
+layoutWith r G m =
+    record {
       chain = r .genchain;
       octave = r .octave;
       generator = G;
       letters = lettersOf (r .genchain);
-      start = chainOf (r .genchain) .start;
+      start = r .start;
       pattern = m;
-    })
+    }
 
--- Of a caller's three numbers, questions 1 to 3 give the generator, and the walk from its genesis the pattern.
+-- 4. "Does the walk of step patterns meet one with as many steps as the chain has letters? No: 4."
+-- 18. "18 when the start is not below the number of letters, after question 4" (document 02, W-209)
+abbrev pub withPattern : IsomorphicLayout → ℕ → Option Mos → Outcome Layout
+withPattern r G none = refused 4
+withPattern r G (some m) = ask 18 (ltb (r .start) (lettersOf (r .genchain))) (given (layoutWith r G m))
+
+-- Of a caller's numbers, questions 1 to 3 give the generator, and the walk from its genesis the pattern.
 unfoldable pub layoutOutcome : IsomorphicLayout → Outcome Layout
 unfolding generatorOutcome children
 layoutOutcome r =
     andThen (generatorOutcome (r .genchain) (r .octave) (r .tritave))
     (λ (G : ℕ). withPattern r G (firstWith (lettersOf (r .genchain)) (children (genesis (r .octave) G))))
 
--- "A layout is accepted when the questions on it, here 1 to 4, all have the answer yes."
+-- "A layout is accepted when the questions on it, here 1 to 4, all have the answer yes": and 18.
 abbrev pub Accepted : IsomorphicLayout → Layout → Type 0
 Accepted r l = layoutOutcome r ≡ given l
+
+-- "Document 01's start column becomes the default": the record of three numbers, with the chain's own start.
+abbrev pub defaultLayout : (code octave tritave : ℕ) → IsomorphicLayout
+defaultLayout code octave tritave = record { genchain = code; octave = octave; tritave = tritave; start = chainOf code .start }
 
 -- "n their greatest common divisor (cycles)"
 abbrev pub cyclesIn : Layout → ℕ

@@ -1,16 +1,23 @@
--- What a reader of key names may rely on, for every accepted layout: every chain code, octave and tritave that questions 1 to 4
--- let through. `Apart d x y` says that x and y differ by a multiple of d; "whole octaves" are multiples of the octave. Proofs: proofs/.
+-- What a reader of key names may rely on, for every accepted layout: every chain code, octave, tritave and start that questions 1 to 4
+-- and 18 let through. Spellings are compared within one layout, so within one start. `Apart d x y` says that x and y differ by a multiple of d; "whole octaves" are multiples of the octave. Proofs: proofs/.
 use Prim.Native.Nat.{ℕ, _≤_, _<_}
 use mathlib.Core.Path.{_≡_}
 use mathlib.Core.Logic.{_↔_}
 use mathlib.Core.List.{List·Memᴰ}
-use lib.IntN.{ℤ}
+use lib.IntN.{ℤ, pos}
 use lib.ListN.{length}
-use Rattle.answer.specs.Outcome.{given}
+use mathlib.Core.Option.{Option, none, some}
+use Rattle.answer.specs.Outcome.{Outcome, given, refused, andThen}
+use Rattle.genchain.specs.Chains.{chainOf}
+use Rattle.genchain.specs.Answers.{generatorOutcome}
+use Rattle.mos.specs.declared.Mos.{Mos}
+use Rattle.mos.specs.Patterns.{genesis}
+use Rattle.mos.specs.Walks.{children, firstWith}
+use Rattle.notes.specs.Names.{letterText, letterAt}
 use Rattle.math.specs.Division.{remainder, Apart}
 use Rattle.pergen.specs.declared.Spelling.{Spelling}
 use Rattle.pergen.specs.Spelling.{starsOf}
-use Rattle.layout.specs.Layouts.{Layout, Accepted, reducedIn}
+use Rattle.layout.specs.Layouts.{lettersOf, Layout, layoutWith, layoutOutcome, Accepted, defaultLayout, reducedIn}
 use Rattle.layout.specs.Names.{IsSpelling, placeIn, keyOf, printedIn, cycleIn, textIn}
 use Rattle.layout.specs.Answers.{getNoteName, getSoundedKey}
 use Rattle.layout.specs.declared.IsomorphicLayout.{IsomorphicLayout}
@@ -63,3 +70,26 @@ abbrev pub SpellingsHaveAKey : Type 0
 SpellingsHaveAKey =
     (r : IsomorphicLayout) (x : Spelling) (key : ℕ)
     → (getSoundedKey r x ≡ given key) ↔ ((l : Layout) × Accepted r l × IsSpelling l x × (key ≡ keyOf l x))
+
+-- The name of key 0 is the bare letter at the start, in every layout: no sign, no star.
+abbrev pub KeyZeroIsTheStart : Type 0
+KeyZeroIsTheStart =
+    (r : IsomorphicLayout) (l : Layout) → Accepted r l
+    → getNoteName r (pos 0) ≡ given (letterText (letterAt (chainOf (l .chain) .letters) (l .start)))
+
+-- ---- at the default start every answer is the old one
+
+-- Document 01's layouts, of three numbers and with the chain's own start; it has no question 18.
+abbrev pub firstWithPattern : IsomorphicLayout → ℕ → Option Mos → Outcome Layout
+firstWithPattern r G none = refused 4
+firstWithPattern r G (some m) = given (layoutWith r G m)
+
+unfoldable pub firstLayout : (code octave tritave : ℕ) → Outcome Layout
+unfolding generatorOutcome children
+firstLayout code octave tritave =
+    andThen (generatorOutcome code octave tritave)
+    (λ (G : ℕ). firstWithPattern (defaultLayout code octave tritave) G (firstWith (lettersOf code) (children (genesis octave G))))
+
+-- The layout of three numbers is document 01's; and whatever is answered about a layout is answered from it.
+abbrev pub DefaultStartStays : Type 0
+DefaultStartStays = (code octave tritave : ℕ) → layoutOutcome (defaultLayout code octave tritave) ≡ firstLayout code octave tritave

@@ -36,7 +36,7 @@ ghost use Rattle.layout.specs.Names.{nameIn};
 ghost use Rattle.layout.specs.Answers.{soundedIn};
 ghost use Rattle.layout.specs.Parts.{layoutOf, foundOutcome, Laid};
 
-// What questions 1 to 4 find: all that keys and names are made from.
+// What questions 1 to 4 and 18 find: all that keys and names are made from.
 pub struct Found {
     pub chain: u16,
     pub octave: u16,
@@ -62,14 +62,9 @@ pub fn within_octave(octave: u16, generator: u16) -> u16
     generator % octave
 }
 
-// The layout with this generator, and the pattern that the walk from its genesis meets (4).
-fn with_pattern(
-    layout: IsomorphicLayout,
-    num_letters: u16,
-    start: u16,
-    generator: u16,
-) -> FoundAnswer
-    requires { ⌜ («num_letters» ≡ lettersOf (layout .genchain)) × (start ≡ chainOf (layout .genchain) .start) × (0 < layout .octave) ⌝ }
+// The layout with this generator, and the pattern that the walk from its genesis meets (4, 18).
+fn with_pattern(layout: IsomorphicLayout, num_letters: u16, generator: u16) -> FoundAnswer
+    requires { ⌜ («num_letters» ≡ lettersOf (layout .genchain)) × (0 < layout .octave) ⌝ }
     ensures { λ r. ⌜ foundOutcome r ≡ withPattern layout generator (firstWith (lettersOf (layout .genchain)) (children (genesis (layout .octave) generator))) ⌝ }
 {
     let octave = layout.octave;
@@ -77,6 +72,10 @@ fn with_pattern(
     let mut found: [u16; 4] = [0, 0, 0, 0];
     // from the genesis: both counts 1, and the steps
     if mos_walks::parts::seek(1, 1, step, octave - step, num_letters as u32, &mut found) {
+        let start = layout.start;
+        if num_letters <= start {
+            return FoundAnswer::Refused(Refusal::Start);
+        }
         return FoundAnswer::Given(Found {
             chain: layout.genchain,
             octave,
@@ -89,31 +88,31 @@ fn with_pattern(
     FoundAnswer::Refused(Refusal::Pattern)
 }
 
-// Questions 1 to 4, of a layout whose chain has so many letters and this start. Two numbers, and no row: they stay in registers.
-fn ask_with_numbers(layout: IsomorphicLayout, num_letters: u16, start: u16) -> FoundAnswer
-    requires { ⌜ («num_letters» ≡ lettersOf (layout .genchain)) × (start ≡ chainOf (layout .genchain) .start) ⌝ }
+// Questions 1 to 4 and 18, of a layout whose chain has so many letters. A number, and no row: it stays in a register.
+fn ask_with_letters(layout: IsomorphicLayout, num_letters: u16) -> FoundAnswer
+    requires { ⌜ «num_letters» ≡ lettersOf (layout .genchain) ⌝ }
     ensures { λ r. ⌜ foundOutcome r ≡ layoutOutcome layout ⌝ }
 {
     match genchain_generators::generator(layout.genchain, layout.octave, layout.tritave) {
         NumberAnswer::Refused(q) => FoundAnswer::Refused(q),
-        NumberAnswer::Given(generator) => with_pattern(layout, num_letters, start, generator),
+        NumberAnswer::Given(generator) => with_pattern(layout, num_letters, generator),
     }
 }
 
-// Questions 1 to 4, of a layout whose chain has this row.
+// Questions 1 to 4 and 18, of a layout whose chain has this row.
 pub fn ask_with_row(layout: IsomorphicLayout, row: ChainRow) -> FoundAnswer
     requires { ⌜ row ≡ rowOf (chainOf (layout .genchain)) ⌝ }
     ensures { λ r. ⌜ foundOutcome r ≡ layoutOutcome layout ⌝ }
 {
-    ask_with_numbers(layout, row.num_letters, row.start)
+    ask_with_letters(layout, row.num_letters)
 }
 
-// Questions 1 to 4.
+// Questions 1 to 4 and 18.
 pub fn ask(layout: IsomorphicLayout) -> FoundAnswer
     ensures { λ r. ⌜ foundOutcome r ≡ layoutOutcome layout ⌝ }
 {
     let chain = rows::numbers(layout.genchain);
-    ask_with_numbers(layout, chain.num_letters, chain.start)
+    ask_with_letters(layout, chain.num_letters)
 }
 
 // The two spellings of a key, by a layout's numbers, which go one by one: a record would be copied.

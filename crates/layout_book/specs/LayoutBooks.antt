@@ -13,7 +13,7 @@ unfoldable pub bookIn : Layout → List ℕ
 unfolding bookText nameIn
 bookIn l = bookText (listedName l) (l .octave)
 
--- Questions 1 to 4, then the book: what `write_book` writes, where there is room for it (10).
+-- Questions 1 to 4 and 18, then the book: what `write_book` writes, where there is room for it (10).
 unfoldable pub getBook : IsomorphicLayout → Outcome (List ℕ)
 unfolding layoutOutcome bookIn
 getBook r = ofLayout r (λ (l : Layout). given (bookIn l))

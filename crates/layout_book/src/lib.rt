@@ -19,7 +19,7 @@ ghost use Rattle.answer.specs.Refusals.{countOutcome};
 ghost use Rattle.layout.specs.Answers.{inRoom};
 ghost use Rattle.layout_book.specs.LayoutBooks.{getBook};
 
-// How many bytes the book of a layout's key names has (1, 2, 3, 4).
+// How many bytes the book of a layout's key names has (1, 2, 3, 4, 18).
 pub fn book_len(layout: IsomorphicLayout) -> CountAnswer
     ensures { λ r. ⌜ countOutcome r ≡ counted (getBook layout) ⌝ }
 {
@@ -33,7 +33,7 @@ pub fn book_len(layout: IsomorphicLayout) -> CountAnswer
     }
 }
 
-// The book of the names of an octave's keys, which `book` looks a key up in (1, 2, 3, 4, 10).
+// The book of the names of an octave's keys, which `book` looks a key up in (1, 2, 3, 4, 18, 10).
 pub fn write_book(layout: IsomorphicLayout, out: &mut [u8]) -> CountAnswer
     ensures { λ r. ⌜ Filled (inRoom (length (now (out .entry))) (getBook layout)) (countOutcome r) (now (out .entry)) (now (out .exit)) ⌝ }
 {

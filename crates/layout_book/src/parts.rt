@@ -1,4 +1,4 @@
-// A layout's book: parts, and no entry points. Callers have asked questions 1 to 4, and 10 before they write.
+// A layout's book: parts, and no entry points. Callers have asked questions 1 to 4 and 18, and 10 before they write.
 //
 // The names are written turn by turn, each degree's planned once for all cycles.
 use answer::CountAnswer;

@@ -1,4 +1,4 @@
-// The codes of all keys of an octave: parts, and no entry points. Callers have asked questions 1 to 4, 9 and 10.
+// The codes of all keys of an octave: parts, and no entry points. Callers have asked questions 1 to 4, 18, 9 and 10.
 //
 // The walk along the chain that `layout_layers::parts` makes for layers, once more, for elements of one byte. Once codes are as wide as
 // layers, layers can be written in place and each be turned into its code by `parts::code`: this module then goes.

@@ -20,7 +20,7 @@ ghost use Rattle.answer.specs.Refusals.{numberOutcome, countOutcome};
 ghost use Rattle.layout.specs.Answers.{inRoom};
 ghost use Rattle.layout_lamps.specs.Answers.{getStrip, getLamp};
 
-// The lamp code of each key of an octave (1, 2, 3, 4, 9, 10).
+// The lamp code of each key of an octave (1, 2, 3, 4, 18, 9, 10).
 pub fn lamp_strip(layout: IsomorphicLayout, out: &mut [u8]) -> CountAnswer
     ensures { λ r. ⌜ Filled (inRoom (length (now (out .entry))) (getStrip layout)) (countOutcome r) (now (out .entry)) (now (out .exit)) ⌝ }
 {
@@ -37,7 +37,7 @@ pub fn lamp_strip(layout: IsomorphicLayout, out: &mut [u8]) -> CountAnswer
     }
 }
 
-// How many codes `lamp_strip` writes (1, 2, 3, 4, 9).
+// How many codes `lamp_strip` writes (1, 2, 3, 4, 18, 9).
 pub fn strip_len(layout: IsomorphicLayout) -> CountAnswer
     ensures { λ r. ⌜ countOutcome r ≡ counted (getStrip layout) ⌝ }
 {
@@ -53,7 +53,7 @@ pub fn strip_len(layout: IsomorphicLayout) -> CountAnswer
     }
 }
 
-// The lamp code of one key, whatever its octave, below 0 too (1, 2, 3, 4, 9).
+// The lamp code of one key, whatever its octave, below 0 too (1, 2, 3, 4, 18, 9).
 pub fn lamp(layout: IsomorphicLayout, key: i32) -> NumberAnswer
     ensures { λ r. ⌜ numberOutcome r ≡ getLamp layout key ⌝ }
 {

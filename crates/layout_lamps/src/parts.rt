@@ -1,4 +1,4 @@
-// How a strip is written: parts, and no entry points. Callers have asked questions 1 to 4 and 9, and 10 before they write.
+// How a strip is written: parts, and no entry points. Callers have asked questions 1 to 4, 18 and 9, and 10 before they write.
 use crate::key_codes;
 use answer::CountAnswer;
 use answer::Refusal;

@@ -29,7 +29,7 @@ pub enum Layer {
     Flat(u16),
 }
 
-// The layer number of each key of an octave, of two octaves where the scale is equalized (1, 2, 3, 4, 10).
+// The layer number of each key of an octave, of two octaves where the scale is equalized (1, 2, 3, 4, 18, 10).
 pub fn get_layers(layout: IsomorphicLayout, out: &mut [u16]) -> CountAnswer
     ensures { λ r. ⌜ Filled (inRoom (length (now (out .entry))) (getLayers layout)) (countOutcome r) (now (out .entry)) (now (out .exit)) ⌝ }
 {
@@ -39,7 +39,7 @@ pub fn get_layers(layout: IsomorphicLayout, out: &mut [u16]) -> CountAnswer
     }
 }
 
-// How many numbers `get_layers` writes (1, 2, 3, 4).
+// How many numbers `get_layers` writes (1, 2, 3, 4, 18).
 pub fn layers_len(layout: IsomorphicLayout) -> CountAnswer
     ensures { λ r. ⌜ countOutcome r ≡ counted (getLayers layout) ⌝ }
 {
@@ -49,7 +49,7 @@ pub fn layers_len(layout: IsomorphicLayout) -> CountAnswer
     }
 }
 
-// How many layer numbers there are, from 0 on (1, 2, 3, 4).
+// How many layer numbers there are, from 0 on (1, 2, 3, 4, 18).
 pub fn layer_count(layout: IsomorphicLayout) -> NumberAnswer
     ensures { λ r. ⌜ numberOutcome r ≡ getLayerCount layout ⌝ }
 {
@@ -59,7 +59,7 @@ pub fn layer_count(layout: IsomorphicLayout) -> NumberAnswer
     }
 }
 
-// The layer number of one key, whatever its octave, below 0 too: what `get_layers` writes repeats (1, 2, 3, 4).
+// The layer number of one key, whatever its octave, below 0 too: what `get_layers` writes repeats (1, 2, 3, 4, 18).
 pub fn get_layer(layout: IsomorphicLayout, key: i32) -> NumberAnswer
     ensures { λ r. ⌜ numberOutcome r ≡ getLayer layout key ⌝ }
 {

@@ -1,4 +1,4 @@
-// The plan of a layout's layers: parts, and no entry points. Callers have asked questions 1 to 4, and 10 before they write.
+// The plan of a layout's layers: parts, and no entry points. Callers have asked questions 1 to 4 and 18, and 10 before they write.
 //
 // The keys of a scale degree have one layer, and their numbers follow each other. Entries are written along the chain, layer by layer;
 // an equalized scale, whose layers alternate, is written degree by degree.

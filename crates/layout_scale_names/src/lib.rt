@@ -31,7 +31,7 @@ fn place_of(code: u16, pattern: Mos) -> u16
     0
 }
 
-// How many bytes the scale's name has (1, 2, 3, 4).
+// How many bytes the scale's name has (1, 2, 3, 4, 18).
 pub fn scale_name_len(layout: IsomorphicLayout) -> CountAnswer
     ensures { λ r. ⌜ countOutcome r ≡ counted (getScaleName layout) ⌝ }
 {
@@ -43,7 +43,7 @@ pub fn scale_name_len(layout: IsomorphicLayout) -> CountAnswer
     }
 }
 
-// The scale's name, as "diatonic" (1, 2, 3, 4, 10).
+// The scale's name, as "diatonic" (1, 2, 3, 4, 18, 10).
 pub fn get_scale_name(layout: IsomorphicLayout, out: &mut [u8]) -> CountAnswer
     ensures { λ r. ⌜ Filled (inRoom (length (now (out .entry))) (getScaleName layout)) (countOutcome r) (now (out .entry)) (now (out .exit)) ⌝ }
 {

@@ -1,4 +1,4 @@
-// What all names of a layout have in common, and the plan of one of them: parts, and no entry points. Callers have asked questions 1 to 4.
+// What all names of a layout have in common, and the plan of one of them: parts, and no entry points. Callers have asked questions 1 to 4 and 18.
 use genchain::rows::ChainRow;
 use layout::parts::Found;
 use notes::plans;

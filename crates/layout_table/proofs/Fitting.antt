@@ -13,7 +13,7 @@ use Rattle.genchain.specs.Answers.{generatorOutcome}
 use Rattle.mos.specs.declared.Mos.{Mos}
 use Rattle.notes.proofs.ShortNames.{names-are-short}
 use Rattle.layout.specs.declared.IsomorphicLayout.{IsomorphicLayout}
-use Rattle.layout.specs.Layouts.{Layout, withPattern, layoutOutcome, Accepted, accidentalsIn, sharpFirst}
+use Rattle.layout.specs.Layouts.{Layout, lettersOf, withPattern, layoutOutcome, Accepted, accidentalsIn, sharpFirst}
 use Rattle.layout.proofs.Finding.{generatorOf, walked}
 use lib.IntN.{pos}
 use Rattle.layout.specs.Names.{nameIn, listedName}
@@ -66,13 +66,13 @@ module _ (r : IsomorphicLayout) (l : Layout) (ok : Accepted r l) (has : hasLamps
   table-most =
       omega (arith, short-texts 222 (λ key. keyLine key (name key) (lamp key)) (l .octave) line-most, few-keys)
 
--- ---- a refusal's number is at most 14
+-- ---- a refusal's number is at most 22
 
 abbrev Low : {A : Type 0} → Outcome A → Type 0
 Low (given a) = Unit
-Low (refused n) = n ≤ 14
+Low (refused n) = n ≤ 22
 
-ask-low : {A : Type 0} (n : ℕ) (test : Bool) (rest : Outcome A) → n ≤ 14 → Low rest → Low (ask n test rest)
+ask-low : {A : Type 0} (n : ℕ) (test : Bool) (rest : Outcome A) → n ≤ 22 → Low rest → Low (ask n test rest)
 ask-low n true rest h low = low
 ask-low n false rest h low = h
 
@@ -112,7 +112,7 @@ generator-low code octave tritave =
 
 pattern-low : (r : IsomorphicLayout) (G : ℕ) (met : Option Mos) → Low (withPattern r G met)
 pattern-low r G none = omega arith
-pattern-low r G (some m) = tt
+pattern-low r G (some m) = ask-low 18 (ltb (r .start) (lettersOf (r .genchain))) _ (omega arith) tt
 
 layout-low : (r : IsomorphicLayout) → Low (layoutOutcome r)
 unfolding layoutOutcome
@@ -124,7 +124,7 @@ line-low : (line : List ℕ) → Low (lineOutcome line)
 unfolding lineOutcome
 line-low line = ask-low 14 (isLine line) _ (omega arith) tt
 
-refusal-most : (n : ℕ) → n ≤ 14 → length (refusalLine n) ≤ 403596
+refusal-most : (n : ℕ) → n ≤ 22 → length (refusalLine n) ≤ 403596
 refusal-most n h = omega (arith, length-refusal n, digits-length n (omega arith) .few)
 
 -- ---- an output

@@ -21,7 +21,7 @@ pub record Tabled (r : IsomorphicLayout) (l : Layout) : Type 0 where
   pub accepted : Accepted r l
   pub has-lamps : hasLampsIn l ≡ true
 
--- The answer to questions 1 to 4 and 9: no table without it.
+-- The answer to questions 1 to 4, 18 and 9: no table without it.
 abbrev pub Asked : IsomorphicLayout → FoundAnswer → Type 0
 Asked r (FoundAnswer.Given f) = Tabled r (layoutOf f)
 Asked r (FoundAnswer.Refused q) = refused (numberOf q) ≡ getTable r

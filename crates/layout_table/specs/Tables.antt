@@ -5,7 +5,7 @@ use Rattle.answer.specs.Outcome.{Outcome, given, refused, ask, andThen}
 use Rattle.text.specs.Writing.{joined}
 use Rattle.layout_lamps.specs.Lamps.{lampOf, hasLamps, lampIn, hasLampsIn}
 use Rattle.layout.specs.declared.IsomorphicLayout.{IsomorphicLayout}
-use Rattle.layout.specs.Layouts.{Layout, layoutOutcome}
+use Rattle.layout.specs.Layouts.{Layout, layoutOutcome, defaultLayout}
 use Rattle.layout.specs.Names.{nameIn, listedName}
 use Rattle.layout.specs.Answers.{ofLayout}
 use Rattle.text.specs.Decimal.{digits}
@@ -22,14 +22,14 @@ unfoldable pub tableIn : Layout → List ℕ
 unfolding joined keyLine nameIn lampOf
 tableIn l = joined (λ key. keyLine key (listedName l key) (lampIn l key)) (l .octave)
 
--- Questions 1 to 4, question 9, then the table.
+-- Questions 1 to 4 and 18, question 9, then the table.
 unfoldable pub getTable : IsomorphicLayout → Outcome (List ℕ)
 unfolding layoutOutcome hasLamps tableIn
 getTable r = ofLayout r (λ (l : Layout). ask 9 (hasLampsIn l) (given (tableIn l)))
 
--- The layout that a line asks for.
+-- The layout that a line asks for, with the chain's own start.
 abbrev pub layoutOn : Line → IsomorphicLayout
-layoutOn a = record { genchain = a .genchain; octave = a .octave; tritave = a .tritave }
+layoutOn a = defaultLayout (a .genchain) (a .octave) (a .tritave)
 
 -- "The key table program reads one line, ignores bytes after it": question 14, then the table of the layout.
 unfoldable pub lineTable : List ℕ → Outcome (List ℕ)

@@ -17,7 +17,7 @@ ghost use Rattle.answer.specs.Refusals.{countOutcome};
 ghost use Rattle.layout.specs.Answers.{inRoom};
 ghost use Rattle.layout_table.specs.Tables.{getTable, output};
 
-// How many bytes a layout's table has (1, 2, 3, 4, 9).
+// How many bytes a layout's table has (1, 2, 3, 4, 18, 9).
 pub fn table_len(layout: IsomorphicLayout) -> CountAnswer
     ensures { λ r. ⌜ countOutcome r ≡ counted (getTable layout) ⌝ }
 {
@@ -28,7 +28,7 @@ pub fn table_len(layout: IsomorphicLayout) -> CountAnswer
     }
 }
 
-// A layout's table: a line for each key of the octave (1, 2, 3, 4, 9, 10).
+// A layout's table: a line for each key of the octave (1, 2, 3, 4, 18, 9, 10).
 pub fn write_table(layout: IsomorphicLayout, out: &mut [u8]) -> CountAnswer
     ensures { λ r. ⌜ Filled (inRoom (length (now (out .entry))) (getTable layout)) (countOutcome r) (now (out .entry)) (now (out .exit)) ⌝ }
 {
@@ -47,11 +47,7 @@ pub fn respond(line: &[u8], out: &mut [u8]) -> CountAnswer
     match line::parse(line) {
         LineAnswer::Refused(q) => parts::write_refusal(q.number() as u16, out),
         LineAnswer::Given(asked) => {
-            let layout = IsomorphicLayout {
-                genchain: asked.genchain,
-                octave: asked.octave,
-                tritave: asked.tritave,
-            };
+            let layout = layout::default_layout(asked.genchain, asked.octave, asked.tritave);
             let row = rows::row(asked.genchain);
             match parts::ask_for_lamps(layout, row) {
                 FoundAnswer::Refused(q) => parts::write_refusal(q.number() as u16, out),

@@ -1,4 +1,4 @@
-// How a table is written: parts, and no entry points. `ask_for_lamps` asks questions 1 to 4 and 9; 10 is asked before a byte is written.
+// How a table is written: parts, and no entry points. `ask_for_lamps` asks questions 1 to 4, 18 and 9; 10 is asked before a byte is written.
 //
 // Row, pergen and lamps are read and solved once for all keys; degree and cycle are carried from key to key.
 use answer::CountAnswer;
@@ -27,7 +27,7 @@ ghost use Rattle.layout_table.specs.Tables.{keyLine, tableIn, refusalLin
 ghost use Rattle.layout_speller.specs.Parts.{Sound};
 ghost use Rattle.layout_table.specs.Parts.{Asked, Printable, LampsIn, numbersLine, lineOf};
 
-// Questions 1 to 4 and 9, of a layout whose chain has this row.
+// Questions 1 to 4, 18 and 9, of a layout whose chain has this row.
 pub(crate) fn ask_for_lamps(layout: IsomorphicLayout, row: ChainRow) -> FoundAnswer
     requires { ⌜ row ≡ rowOf (chainOf (layout .genchain)) ⌝ }
     ensures { λ r. ⌜ Asked layout r ⌝ }

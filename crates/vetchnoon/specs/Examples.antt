@@ -13,25 +13,29 @@ use Rattle.pergen.specs.Answers.{getGeneration, getAccidentals}
 use Rattle.vetchnoon_codes.specs.Numbers.{asNumbers, accidentalsNumbers, walkNumbers}
 use Rattle.vetchnoon.specs.Written.{pergen, format, layout, spelling, pergenOutput, generationNumbers, findOutput, lettersOutput, nameOutput, layoutOutput, kindNumbers}
 
--- A layout's three numbers, and what is written for it.
+-- A layout's numbers, and what is written for it.
 pub record LayoutExample : Type 0 where
   pub code : ℕ
   pub octave : ℕ
   pub tritave : ℕ
+  pub start : ℕ
   pub output : Outcome (List ℕ)
 
 abbrev pub layoutExamples : List LayoutExample
 layoutExamples =
     -- generator, cycles, reduced period, inverse; counts and steps
-    record { code = 1; octave = 12; tritave = 19; output = given (7 ∷ 1 ∷ 12 ∷ 7 ∷ 5 ∷ 2 ∷ 2 ∷ 1 ∷ []) }
-    ∷ record { code = 1; octave = 31; tritave = 49; output = given (18 ∷ 1 ∷ 31 ∷ 19 ∷ 5 ∷ 2 ∷ 5 ∷ 3 ∷ []) }
-    ∷ record { code = 1; octave = 24; tritave = 38; output = given (14 ∷ 2 ∷ 12 ∷ 7 ∷ 5 ∷ 2 ∷ 4 ∷ 2 ∷ []) }
-    ∷ record { code = 5; octave = 19; tritave = 30; output = given (14 ∷ 1 ∷ 19 ∷ 15 ∷ 4 ∷ 3 ∷ 4 ∷ 1 ∷ []) }
+    record { code = 1; octave = 12; tritave = 19; start = 3; output = given (7 ∷ 1 ∷ 12 ∷ 7 ∷ 5 ∷ 2 ∷ 2 ∷ 1 ∷ []) }
+    ∷ record { code = 1; octave = 31; tritave = 49; start = 3; output = given (18 ∷ 1 ∷ 31 ∷ 19 ∷ 5 ∷ 2 ∷ 5 ∷ 3 ∷ []) }
+    ∷ record { code = 1; octave = 24; tritave = 38; start = 3; output = given (14 ∷ 2 ∷ 12 ∷ 7 ∷ 5 ∷ 2 ∷ 4 ∷ 2 ∷ []) }
+    ∷ record { code = 5; octave = 19; tritave = 30; start = 3; output = given (14 ∷ 1 ∷ 19 ∷ 15 ∷ 4 ∷ 3 ∷ 4 ∷ 1 ∷ []) }
     -- the questions
-    ∷ record { code = 6; octave = 0; tritave = 0; output = refused 1 }
-    ∷ record { code = 1; octave = 0; tritave = 19; output = refused 2 }
-    ∷ record { code = 3; octave = 12; tritave = 19; output = refused 3 }
-    ∷ record { code = 0; octave = 12; tritave = 19; output = refused 4 }
+    ∷ record { code = 6; octave = 0; tritave = 0; start = 65535; output = refused 1 }
+    ∷ record { code = 1; octave = 0; tritave = 19; start = 65535; output = refused 2 }
+    ∷ record { code = 3; octave = 12; tritave = 19; start = 65535; output = refused 3 }
+    ∷ record { code = 0; octave = 12; tritave = 19; start = 65535; output = refused 4 }
+    -- the last letter's index, and one more
+    ∷ record { code = 1; octave = 12; tritave = 19; start = 6; output = given (7 ∷ 1 ∷ 12 ∷ 7 ∷ 5 ∷ 2 ∷ 2 ∷ 1 ∷ []) }
+    ∷ record { code = 1; octave = 12; tritave = 19; start = 7; output = refused 18 }
     ∷ []
 
 -- A layout, a letter with signs and stars, and the key that it sounds.
@@ -79,9 +83,9 @@ pub record ExamplesHold : Type 0 where
   -- the numbers 0 to 5 of 6: natural, sharp 0 and 1, enharmonic 2, flat 1 and 0
   pub kinds : map (λ (j : ℕ). kindNumbers (kindOf 6 j)) (0 ∷ 1 ∷ 2 ∷ 3 ∷ 4 ∷ 5 ∷ [])
       ≡ (0 ∷ 0 ∷ []) ∷ (1 ∷ 0 ∷ []) ∷ (1 ∷ 1 ∷ []) ∷ (2 ∷ 2 ∷ []) ∷ (3 ∷ 1 ∷ []) ∷ (3 ∷ 0 ∷ []) ∷ []
-  pub layouts : map (λ (e : LayoutExample). layoutOutput (layout (e .code) (e .octave) (e .tritave))) layoutExamples
+  pub layouts : map (λ (e : LayoutExample). layoutOutput (layout (e .code) (e .octave) (e .tritave) (e .start))) layoutExamples
       ≡ map (λ (e : LayoutExample). e .output) layoutExamples
   pub spellings : map
-      (λ (e : SpellingExample). getSoundedKey (layout 1 (e .octave) (e .tritave)) (spelling (e .letter) (e .signs) (e .stars)))
+      (λ (e : SpellingExample). getSoundedKey (layout 1 (e .octave) (e .tritave) 3) (spelling (e .letter) (e .signs) (e .stars)))
       spellingExamples
       ≡ map (λ (e : SpellingExample). e .key) spellingExamples

@@ -36,9 +36,9 @@ pergen P G = record { period = P; generator = G }
 abbrev pub format : ℕ → ℕ → AccidentalsFormat
 format N origin = record { «num_symbols» = N; «genchain_origin» = origin }
 
--- A chain code, an octave and a tritave.
-abbrev pub layout : ℕ → ℕ → ℕ → IsomorphicLayout
-layout code octave tritave = record { genchain = code; octave = octave; tritave = tritave }
+-- A chain code, an octave, a tritave and a start.
+abbrev pub layout : ℕ → ℕ → ℕ → ℕ → IsomorphicLayout
+layout code octave tritave start = record { genchain = code; octave = octave; tritave = tritave; start = start }
 
 -- A letter's index along the chain, a signed number of signs, and stars.
 abbrev pub spelling : ℕ → ℤ → ℕ → Spelling
@@ -90,7 +90,7 @@ unfoldable pub layoutNumbers : Layout → List ℕ
 unfolding pergenNumbers
 layoutNumbers l = l .generator ∷ (pergenNumbers (l .octave) (l .generator) ++ fields (l .pattern))
 
--- Questions 1 to 4, then these.
+-- Questions 1 to 4 and 18, then these.
 unfoldable pub layoutOutput : IsomorphicLayout → Outcome (List ℕ)
 unfolding layoutOutcome layoutNumbers
 layoutOutput r = ofLayout r (λ (l : Layout). given (layoutNumbers l))

@@ -11,28 +11,30 @@ ghost use Rattle.layout_table.specs.Tables.{output};
 ghost use Rattle.vetchnoon_codes.specs.Codes.{codeOf, Fills};
 ghost use Rattle.vetchnoon.specs.Written.{layout, pairOutput};
 
-// How many bytes a layout's book has (1, 2, 3, 4).
+// How many bytes a layout's book has (1, 2, 3, 4, 18).
 #[no_mangle]
-pub extern "C" fn vn_book_len(chain: u16, octave: u16, tritave: u16) -> i64
-    ensures { λ r. ⌜ r ≡ codeOf (counted (getBook (layout chain octave tritave))) ⌝ }
+pub extern "C" fn vn_book_len(chain: u16, octave: u16, tritave: u16, start: u16) -> i64
+    ensures { λ r. ⌜ r ≡ codeOf (counted (getBook (layout chain octave tritave start))) ⌝ }
 {
     let layout = IsomorphicLayout {
         genchain: chain,
         octave,
         tritave,
+        start,
     };
     vetchnoon_codes::count(layout_book::book_len(layout))
 }
 
-// The book of a layout's key names (1, 2, 3, 4, 10).
+// The book of a layout's key names (1, 2, 3, 4, 18, 10).
 #[no_mangle]
-pub extern "C" fn vn_book(chain: u16, octave: u16, tritave: u16, out: &mut [u8]) -> i64
-    ensures { λ r. ⌜ Fills (getBook (layout chain octave tritave)) r (now (out .entry)) (now (out .exit)) ⌝ }
+pub extern "C" fn vn_book(chain: u16, octave: u16, tritave: u16, start: u16, out: &mut [u8]) -> i64
+    ensures { λ r. ⌜ Fills (getBook (layout chain octave tritave start)) r (now (out .entry)) (now (out .exit)) ⌝ }
 {
     let layout = IsomorphicLayout {
         genchain: chain,
         octave,
         tritave,
+        start,
     };
     vetchnoon_codes::count(layout_book::write_book(layout, out))
 }

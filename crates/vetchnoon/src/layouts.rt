@@ -1,4 +1,4 @@
-// Layouts: a chain code, an octave and a tritave; their numbers, names, spellings, layers and lamps.
+// Layouts: a chain code, an octave, a tritave and a start; their numbers, names, spellings, layers and lamps.
 use layout::IsomorphicLayout;
 use layout::parts::FoundAnswer;
 use layout_layers::Layer;
@@ -16,15 +16,22 @@ ghost use Rattle.vetchnoon_codes.specs.Codes.{codeOf, Fills};
 ghost use Rattle.vetchnoon_codes.specs.Numbers.{asNumbers, accidentalsNumbers};
 ghost use Rattle.vetchnoon.specs.Written.{layout, layoutOutput, spelling, kindNumber, kindLevel, kindNumbers};
 
-// Generator, cycles, reduced period, inverse, then the pattern's four numbers (1, 2, 3, 4, 10).
+// Generator, cycles, reduced period, inverse, then the pattern's four numbers (1, 2, 3, 4, 18, 10).
 #[no_mangle]
-pub extern "C" fn vn_layout(chain: u16, octave: u16, tritave: u16, out: &mut [u16]) -> i64
-    ensures { λ r. ⌜ Fills (layoutOutput (layout chain octave tritave)) r (now (out .entry)) (now (out .exit)) ⌝ }
+pub extern "C" fn vn_layout(
+    chain: u16,
+    octave: u16,
+    tritave: u16,
+    start: u16,
+    out: &mut [u16],
+) -> i64
+    ensures { λ r. ⌜ Fills (layoutOutput (layout chain octave tritave start)) r (now (out .entry)) (now (out .exit)) ⌝ }
 {
     let layout = IsomorphicLayout {
         genchain: chain,
         octave,
         tritave,
+        start,
     };
     match layout::parts::ask(layout) {
         FoundAnswer::Refused(question) => vetchnoon_codes::refused(question),
@@ -46,86 +53,106 @@ pub extern "C" fn vn_layout(chain: u16, octave: u16, tritave: u16, out: &mut [u1
     }
 }
 
-// The scale's name (1, 2, 3, 4, 10).
+// The scale's name (1, 2, 3, 4, 18, 10).
 #[no_mangle]
-pub extern "C" fn vn_scale_name(chain: u16, octave: u16, tritave: u16, out: &mut [u8]) -> i64
-    ensures { λ r. ⌜ Fills (getScaleName (layout chain octave tritave)) r (now (out .entry)) (now (out .exit)) ⌝ }
+pub extern "C" fn vn_scale_name(
+    chain: u16,
+    octave: u16,
+    tritave: u16,
+    start: u16,
+    out: &mut [u8],
+) -> i64
+    ensures { λ r. ⌜ Fills (getScaleName (layout chain octave tritave start)) r (now (out .entry)) (now (out .exit)) ⌝ }
 {
     let layout = IsomorphicLayout {
         genchain: chain,
         octave,
         tritave,
+        start,
     };
     vetchnoon_codes::count(layout_scale_names::get_scale_name(layout, out))
 }
 
-// How many bytes a key's name has (1, 2, 3, 4).
+// How many bytes a key's name has (1, 2, 3, 4, 18).
 #[no_mangle]
-pub extern "C" fn vn_note_name_len(chain: u16, octave: u16, tritave: u16, key: i32) -> i64
-    ensures { λ r. ⌜ r ≡ codeOf (counted (getNoteName (layout chain octave tritave) key)) ⌝ }
+pub extern "C" fn vn_note_name_len(
+    chain: u16,
+    octave: u16,
+    tritave: u16,
+    start: u16,
+    key: i32,
+) -> i64
+    ensures { λ r. ⌜ r ≡ codeOf (counted (getNoteName (layout chain octave tritave start) key)) ⌝ }
 {
     let layout = IsomorphicLayout {
         genchain: chain,
         octave,
         tritave,
+        start,
     };
     vetchnoon_codes::count(layout.note_name_len(key))
 }
 
-// A key's name (1, 2, 3, 4, 10).
+// A key's name (1, 2, 3, 4, 18, 10).
 #[no_mangle]
 pub extern "C" fn vn_note_name(
     chain: u16,
     octave: u16,
     tritave: u16,
+    start: u16,
     key: i32,
     out: &mut [u8],
 ) -> i64
-    ensures { λ r. ⌜ Fills (getNoteName (layout chain octave tritave) key) r (now (out .entry)) (now (out .exit)) ⌝ }
+    ensures { λ r. ⌜ Fills (getNoteName (layout chain octave tritave start) key) r (now (out .entry)) (now (out .exit)) ⌝ }
 {
     let layout = IsomorphicLayout {
         genchain: chain,
         octave,
         tritave,
+        start,
     };
     vetchnoon_codes::count(layout.get_note_name(key, out))
 }
 
-// A key's sharp index and count, flat index and count (1, 2, 3, 4, 10).
+// A key's sharp index and count, flat index and count (1, 2, 3, 4, 18, 10).
 #[no_mangle]
 pub extern "C" fn vn_layout_accidentals(
     chain: u16,
     octave: u16,
     tritave: u16,
+    start: u16,
     key: i32,
     out: &mut [u16],
 ) -> i64
-    ensures { λ r. ⌜ Fills (asNumbers accidentalsNumbers (getAccidentals (layout chain octave tritave) key)) r (now (out .entry)) (now (out .exit)) ⌝ }
+    ensures { λ r. ⌜ Fills (asNumbers accidentalsNumbers (getAccidentals (layout chain octave tritave start) key)) r (now (out .entry)) (now (out .exit)) ⌝ }
 {
     let layout = IsomorphicLayout {
         genchain: chain,
         octave,
         tritave,
+        start,
     };
     vetchnoon_codes::accidentals(out, layout.get_accidentals(key))
 }
 
-// The key of the octave that a spelling sounds: a letter, signs (sharps above 0, flats below), stars (1, 2, 3, 4, 16, 21).
+// The key of the octave that a spelling sounds: a letter, signs (sharps above 0, flats below), stars (1, 2, 3, 4, 18, 16, 21).
 #[no_mangle]
 pub extern "C" fn vn_sounded_key(
     chain: u16,
     octave: u16,
     tritave: u16,
+    start: u16,
     letter: u16,
     signs: i32,
     stars: u16,
 ) -> i64
-    ensures { λ r. ⌜ r ≡ codeOf (getSoundedKey (layout chain octave tritave) (spelling letter signs stars)) ⌝ }
+    ensures { λ r. ⌜ r ≡ codeOf (getSoundedKey (layout chain octave tritave start) (spelling letter signs stars)) ⌝ }
 {
     let layout = IsomorphicLayout {
         genchain: chain,
         octave,
         tritave,
+        start,
     };
     let spelling = Spelling {
         index: letter,
@@ -135,41 +162,50 @@ pub extern "C" fn vn_sounded_key(
     vetchnoon_codes::number(layout.get_sounded_key(spelling))
 }
 
-// How many layer numbers there are (1, 2, 3, 4).
+// How many layer numbers there are (1, 2, 3, 4, 18).
 #[no_mangle]
-pub extern "C" fn vn_layer_count(chain: u16, octave: u16, tritave: u16) -> i64
-    ensures { λ r. ⌜ r ≡ codeOf (getLayerCount (layout chain octave tritave)) ⌝ }
+pub extern "C" fn vn_layer_count(chain: u16, octave: u16, tritave: u16, start: u16) -> i64
+    ensures { λ r. ⌜ r ≡ codeOf (getLayerCount (layout chain octave tritave start)) ⌝ }
 {
     let layout = IsomorphicLayout {
         genchain: chain,
         octave,
         tritave,
+        start,
     };
     vetchnoon_codes::number(layout_layers::layer_count(layout))
 }
 
-// The layer number of each key (1, 2, 3, 4, 10).
+// The layer number of each key (1, 2, 3, 4, 18, 10).
 #[no_mangle]
-pub extern "C" fn vn_layout_layers(chain: u16, octave: u16, tritave: u16, out: &mut [u16]) -> i64
-    ensures { λ r. ⌜ Fills (getLayers (layout chain octave tritave)) r (now (out .entry)) (now (out .exit)) ⌝ }
+pub extern "C" fn vn_layout_layers(
+    chain: u16,
+    octave: u16,
+    tritave: u16,
+    start: u16,
+    out: &mut [u16],
+) -> i64
+    ensures { λ r. ⌜ Fills (getLayers (layout chain octave tritave start)) r (now (out .entry)) (now (out .exit)) ⌝ }
 {
     let layout = IsomorphicLayout {
         genchain: chain,
         octave,
         tritave,
+        start,
     };
     vetchnoon_codes::count(layout_layers::get_layers(layout, out))
 }
 
-// The layer number of one key (1, 2, 3, 4).
+// The layer number of one key (1, 2, 3, 4, 18).
 #[no_mangle]
-pub extern "C" fn vn_layer(chain: u16, octave: u16, tritave: u16, key: i32) -> i64
-    ensures { λ r. ⌜ r ≡ codeOf (getLayer (layout chain octave tritave) key) ⌝ }
+pub extern "C" fn vn_layer(chain: u16, octave: u16, tritave: u16, start: u16, key: i32) -> i64
+    ensures { λ r. ⌜ r ≡ codeOf (getLayer (layout chain octave tritave start) key) ⌝ }
 {
     let layout = IsomorphicLayout {
         genchain: chain,
         octave,
         tritave,
+        start,
     };
     vetchnoon_codes::number(layout_layers::get_layer(layout, key))
 }
@@ -208,28 +244,36 @@ pub extern "C" fn vn_layer_kind(total: u16, number: u16, out: &mut [u16]) -> i64
     vetchnoon_codes::put(out, &numbers)
 }
 
-// The lamp code of each key (1, 2, 3, 4, 9, 10).
+// The lamp code of each key (1, 2, 3, 4, 18, 9, 10).
 #[no_mangle]
-pub extern "C" fn vn_lamp_strip(chain: u16, octave: u16, tritave: u16, out: &mut [u8]) -> i64
-    ensures { λ r. ⌜ Fills (getStrip (layout chain octave tritave)) r (now (out .entry)) (now (out .exit)) ⌝ }
+pub extern "C" fn vn_lamp_strip(
+    chain: u16,
+    octave: u16,
+    tritave: u16,
+    start: u16,
+    out: &mut [u8],
+) -> i64
+    ensures { λ r. ⌜ Fills (getStrip (layout chain octave tritave start)) r (now (out .entry)) (now (out .exit)) ⌝ }
 {
     let layout = IsomorphicLayout {
         genchain: chain,
         octave,
         tritave,
+        start,
     };
     vetchnoon_codes::count(layout_lamps::lamp_strip(layout, out))
 }
 
-// The lamp code of one key (1, 2, 3, 4, 9).
+// The lamp code of one key (1, 2, 3, 4, 18, 9).
 #[no_mangle]
-pub extern "C" fn vn_lamp(chain: u16, octave: u16, tritave: u16, key: i32) -> i64
-    ensures { λ r. ⌜ r ≡ codeOf (getLamp (layout chain octave tritave) key) ⌝ }
+pub extern "C" fn vn_lamp(chain: u16, octave: u16, tritave: u16, start: u16, key: i32) -> i64
+    ensures { λ r. ⌜ r ≡ codeOf (getLamp (layout chain octave tritave start) key) ⌝ }
 {
     let layout = IsomorphicLayout {
         genchain: chain,
         octave,
         tritave,
+        start,
     };
     vetchnoon_codes::number(layout_lamps::lamp(layout, key))
 }

@@ -1,25 +1,18 @@
--- Questions 1 to 4, then the three numbers as they came.
-use mathlib.Core.Path.{sym, ap, _∙_}
-use Rattle.layout.specs.Parts.{foundOutcome}
-use Rattle.layout.proofs.Calls.{create-refused, create-given}
+-- The record with the chain's own start.
+use mathlib.Core.Path.{ap, _∙_}
+use Rattle.layout.specs.Answers.{createOutcome}
 use borrow.Author.Needs.{needs}
 use Rattle.layout.proofs.create_layout.Statement.{statement}
 use Rattle.layout.proofs.create_layout.Tie as tie
 
-ask-requires : tie.Need-ask-requires
-ask-requires c κs = search needs
+default-layout-requires : tie.Need-default-layout-requires
+default-layout-requires c κs = search needs
 
-enum-known-q : tie.Need-enum-known-q
-enum-known-q c = search needs
-
-enum-told : tie.Need-enum-told
-enum-told c = search needs
+accept-requires : tie.Need-accept-requires
+accept-requires c κs = search needs
 
 returns : tie.Need-returns
-returns c = create-refused _ _ (sym (ap foundOutcome (c .before .q .given .1)) ∙ c .before .before .before .ask .ensures)
-
-returns-2 : tie.Need-returns-2
-returns-2 c = create-given _ _ (sym (ap foundOutcome (c .enum-told .given .1)) ∙ c .before .before .ask .ensures)
+returns c = c .accept .ensures ∙ ap createOutcome (c .before .default-layout .ensures)
 
 pub create-layout-spec : {M : Type 1} → statement M
-create-layout-spec = tie.close (tie.spec ask-requires enum-known-q enum-told returns returns-2)
+create-layout-spec = tie.close (tie.spec default-layout-requires accept-requires returns)

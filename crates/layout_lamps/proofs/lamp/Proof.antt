@@ -1,4 +1,4 @@
--- Questions 1 to 4 and 9, then home or the code of the number of the key round the octave.
+-- Questions 1 to 4, 18 and 9, then home or the code of the number of the key round the octave.
 use mathlib.Core.Path.{sym, ap, _∙_}
 use mir.Syntax.{w32}
 use Rattle.math.proofs.Answers.{remainder-read}

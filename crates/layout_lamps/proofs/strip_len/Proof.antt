@@ -1,4 +1,4 @@
--- Questions 1 to 4 and 9, then the octave.
+-- Questions 1 to 4, 18 and 9, then the octave.
 use mathlib.Core.Path.{sym, ap, _∙_}
 use Rattle.answer.specs.Lent.{counted}
 use Rattle.layout.specs.Parts.{foundOutcome}

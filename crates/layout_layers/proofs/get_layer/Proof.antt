@@ -1,4 +1,4 @@
--- Questions 1 to 4, then the number of the entry at the key's remainder.
+-- Questions 1 to 4 and 18, then the number of the entry at the key's remainder.
 use mathlib.Core.Path.{sym, ap, _∙_}
 use mir.Syntax.{w32}
 use native.Mathlib.Omega.{arith}

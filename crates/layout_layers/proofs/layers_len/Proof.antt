@@ -1,4 +1,4 @@
--- Questions 1 to 4, then the number of entries.
+-- Questions 1 to 4 and 18, then the number of entries.
 use mathlib.Core.Path.{sym, ap, _∙_}
 use Rattle.answer.specs.Lent.{counted}
 use Rattle.layout.specs.Parts.{foundOutcome}

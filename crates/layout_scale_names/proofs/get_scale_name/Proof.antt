@@ -1,4 +1,4 @@
--- Questions 1 to 4, then the text at the place of the scale's name, which asks 10.
+-- Questions 1 to 4 and 18, then the text at the place of the scale's name, which asks 10.
 use mathlib.Core.Path.{refl, sym, ap, _∙_}
 use Rattle.answer.proofs.Lent.{filled-refused}
 use Rattle.layout.specs.Parts.{foundOutcome}

@@ -1,4 +1,4 @@
--- Questions 1 to 4, then the length of the text at the place of the scale's name.
+-- Questions 1 to 4 and 18, then the length of the text at the place of the scale's name.
 use mathlib.Core.Path.{sym, ap, _∙_}
 use Rattle.answer.specs.Lent.{counted}
 use Rattle.layout.specs.Parts.{foundOutcome}

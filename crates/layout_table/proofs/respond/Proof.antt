@@ -1,8 +1,9 @@
 -- The line, then the layout: one law for each way in which the output is made.
 use mathlib.Core.Path.{sym, ap, subst, _∙_}
+use Rattle.genchain.specs.Chains.{chainOf, rowOf}
+use Rattle.layout.specs.declared.IsomorphicLayout.{IsomorphicLayout}
 use Rattle.line.specs.Lines.{lineAnswered}
 use Rattle.layout.proofs.Calls.{filled-as, row-found}
-use Rattle.layout_table.specs.Tables.{layoutOn}
 use Rattle.layout_table.specs.Parts.{Asked}
 use Rattle.layout_table.proofs.Calls.{printable, table-given, output-no-line, output-refused, output-given}
 use borrow.Author.Needs.{needs}
@@ -34,11 +35,15 @@ write-refusal-requires c κs = search needs
 enum-known-asked : tie.Need-enum-known-asked
 enum-known-asked c = search needs
 
+default-layout-requires : tie.Need-default-layout-requires
+default-layout-requires c κs = search needs
+
 row-requires : tie.Need-row-requires
 row-requires c κs = search needs
 
 ask-for-lamps-requires : tie.Need-ask-for-lamps-requires
-ask-for-lamps-requires c κs = search needs
+ask-for-lamps-requires c κs =
+    c .row .ensures ∙ ap (λ (r : IsomorphicLayout). rowOf (chainOf (r .genchain))) (sym (c .before .default-layout .ensures))
 
 enum-known-q-2 : tie.Need-enum-known-q-2
 enum-known-q-2 c = search needs
@@ -57,9 +62,11 @@ enum-known-found c = search needs
 
 print-table-requires : tie.Need-print-table-requires
 print-table-requires c κs =
-    let asked = c .before .before .before .before .before .before .before .asked .given .0 .0 in
-    let ok = subst (Asked (layoutOn asked)) (c .before .before .found .given .1) (c .before .before .before .before .ask-for-lamps .ensures) in
-    (row-found _ _ (sym (ok .accepted)) _ (c .before .before .before .before .before .row .ensures), printable _ _ ok)
+    let a = c .before .before .before .before in
+    let ok
+    = subst (Asked _) (c .before .before .found .given .1)
+    (subst (λ (r : IsomorphicLayout). Asked r (a .ask-for-lamps .result)) (a .before .before .default-layout .ensures) (a .ask-for-lamps .ensures)) in
+    (row-found _ _ (sym (ok .accepted)) _ (a .before .row .ensures), printable _ _ ok)
 
 same-length : tie.Need-same-length
 same-length c = search needs
@@ -76,9 +83,11 @@ returns-2 c =
     let n = w .before .before in
     let q = n .before .before in
     let a = q .before .before in
-    let g = a .before .before .before in
+    let g = a .before .before .before .before in
     let asked = sym (ap lineAnswered (g .asked .given .1)) ∙ g .before .before .parse .ensures in
-    filled-as (output-refused _ _ _ asked _ _ (n .number2 .ensures) (subst (Asked _) (q .q2 .given .1) (a .ask-for-lamps .ensures))) (w .write-refusal2 .ensures)
+    let answered
+    = subst (λ (r : IsomorphicLayout). Asked r (a .ask-for-lamps .result)) (a .before .before .default-layout .ensures) (a .ask-for-lamps .ensures) in
+    filled-as (output-refused _ _ _ asked _ _ (n .number2 .ensures) (subst (Asked _) (q .q2 .given .1) answered)) (w .write-refusal2 .ensures)
 
 same-length-3 : tie.Need-same-length-3
 same-length-3 c = search needs
@@ -88,9 +97,11 @@ returns-3 c =
     let t = c .before .before in
     let f = t .before .before .before in
     let a = f .before .before in
-    let g = a .before .before .before in
+    let g = a .before .before .before .before in
     let asked = sym (ap lineAnswered (g .asked .given .1)) ∙ g .before .before .parse .ensures in
-    filled-as (output-given _ _ _ asked _ (table-given _ _ (subst (Asked _) (f .found .given .1) (a .ask-for-lamps .ensures)))) (t .print-table .ensures)
+    let answered
+    = subst (λ (r : IsomorphicLayout). Asked r (a .ask-for-lamps .result)) (a .before .before .default-layout .ensures) (a .ask-for-lamps .ensures) in
+    filled-as (output-given _ _ _ asked _ (table-given _ _ (subst (Asked _) (f .found .given .1) answered))) (t .print-table .ensures)
 
 pub respond-spec : {M : Type 1} → statement M
 respond-spec =
@@ -102,6 +113,7 @@ respond-spec =
     cast-write-refusal
     write-refusal-requires
     enum-known-asked
+    default-layout-requires
     row-requires
     ask-for-lamps-requires
     enum-known-q-2

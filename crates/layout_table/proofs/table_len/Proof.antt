@@ -1,4 +1,4 @@
--- Questions 1 to 4 and 9, then the length of the layout's table.
+-- Questions 1 to 4, 18 and 9, then the length of the layout's table.
 use mathlib.Core.Path.{sym, ap, subst}
 use Rattle.answer.specs.Lent.{counted}
 use Rattle.layout.proofs.Calls.{row-found}

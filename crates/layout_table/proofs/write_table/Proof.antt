@@ -1,4 +1,4 @@
--- Questions 1 to 4 and 9, then 10, then the layout's table.
+-- Questions 1 to 4, 18 and 9, then 10, then the layout's table.
 use mathlib.Core.Path.{refl, sym, subst}
 use Rattle.answer.proofs.Lent.{filled-refused}
 use Rattle.layout.proofs.Calls.{filled-as, refused-in-room, row-found}

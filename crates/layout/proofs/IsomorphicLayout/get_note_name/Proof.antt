@@ -1,4 +1,4 @@
--- Questions 1 to 4, then 10, then the name of the key round the octave, along the chain's row.
+-- Questions 1 to 4 and 18, then 10, then the name of the key round the octave, along the chain's row.
 use mir.Syntax.{w32}
 use mathlib.Core.Path.{refl, sym, ap, _∙_}
 use Rattle.answer.proofs.Lent.{filled-refused}

@@ -1,4 +1,4 @@
--- Questions 1 to 4, then 16, 21 and the key.
+-- Questions 1 to 4 and 18, then 16, 21 and the key.
 use mathlib.Core.Path.{sym, ap, _∙_}
 use Rattle.layout.specs.Parts.{foundOutcome}
 use Rattle.layout.proofs.Calls.{laid-of}

@@ -1,4 +1,4 @@
--- Questions 1 to 4, then octave and generator.
+-- Questions 1 to 4 and 18, then octave and generator.
 use mathlib.Core.Path.{sym, ap, _∙_}
 use Rattle.layout.specs.Parts.{foundOutcome}
 use Rattle.layout.proofs.Calls.{pergen-refused, pergen-given}

@@ -1,4 +1,4 @@
--- Questions 1 to 4 by the search, question 9 by the plan's number of layer numbers.
+-- Questions 1 to 4 and 18 by the search, question 9 by the plan's number of layer numbers.
 use mathlib.Core.Path.{sym, ap, _∙_}
 use Rattle.layout.specs.Parts.{foundOutcome}
 use Rattle.layout.proofs.Calls.{laid-of}

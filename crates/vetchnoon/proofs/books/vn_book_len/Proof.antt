@@ -14,7 +14,7 @@ book-len-requires : tie.Need-book-len-requires
 book-len-requires c κs = search needs
 
 count-requires : tie.Need-count-requires
-count-requires c κs = small-counted (getBook (layout (c .before .args .chain) (c .before .args .octave) (c .before .args .tritave))) (c .book-len .result) (c .book-len .ensures) (books-fit _ (omega arith))
+count-requires c κs = small-counted (getBook (layout (c .before .args .chain) (c .before .args .octave) (c .before .args .tritave) (c .before .args .start))) (c .book-len .result) (c .book-len .ensures) (books-fit _ (omega arith))
 
 returns : tie.Need-returns
 returns c = coded (c .count .ok) (c .count .ensures ∙ ap codeOf (c .before .book-len .ensures))

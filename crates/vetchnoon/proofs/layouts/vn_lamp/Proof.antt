@@ -21,7 +21,7 @@ returns c =
     coded (c .number .ok)
     (c .number .ensures
     ∙ ap codeOf
-    (c .before .lamp .ensures ∙ key-handed-on (getLamp (layout (start .args .chain) (start .args .octave) (start .args .tritave))) (start .args .key) (start .fits .key)))
+    (c .before .lamp .ensures ∙ key-handed-on (getLamp (layout (start .args .chain) (start .args .octave) (start .args .tritave) (start .args .start))) (start .args .key) (start .fits .key)))
 
 pub vn-lamp-spec : {M : Type 1} → statement M
 vn-lamp-spec = tie.close (tie.spec lamp-requires number-requires returns)

@@ -21,7 +21,7 @@ returns c =
     coded (c .number .ok)
     (c .number .ensures
     ∙ ap codeOf
-    (c .before .get-layer .ensures ∙ key-handed-on (getLayer (layout (start .args .chain) (start .args .octave) (start .args .tritave))) (start .args .key) (start .fits .key)))
+    (c .before .get-layer .ensures ∙ key-handed-on (getLayer (layout (start .args .chain) (start .args .octave) (start .args .tritave) (start .args .start))) (start .args .key) (start .fits .key)))
 
 pub vn-layer-spec : {M : Type 1} → statement M
 vn-layer-spec = tie.close (tie.spec get-layer-requires number-requires returns)

@@ -24,7 +24,7 @@ returns c =
     fills-as
     (ap (asNumbers accidentalsNumbers)
     (c .before .before .before .get-accidentals .ensures
-    ∙ key-handed-on (getAccidentals (layout (start .args .chain) (start .args .octave) (start .args .tritave))) (start .args .key) (start .fits .key)))
+    ∙ key-handed-on (getAccidentals (layout (start .args .chain) (start .args .octave) (start .args .tritave) (start .args .start))) (start .args .key) (start .fits .key)))
     (c .before .before .accidentals .ok) (c .before .before .accidentals .ensures)
 
 pub vn-layout-accidentals-spec : {M : Type 1} → statement M

@@ -26,7 +26,7 @@ returns c =
     let start = c .before .before .before .before .before .before in
     fills-filled
     (sym
-    (key-handed-on (λ (z : ℤ). inRoom (length (now (start .args .out))) (getNoteName (layout (start .args .chain) (start .args .octave) (start .args .tritave)) z))
+    (key-handed-on (λ (z : ℤ). inRoom (length (now (start .args .out))) (getNoteName (layout (start .args .chain) (start .args .octave) (start .args .tritave) (start .args .start)) z))
     (start .args .key) (start .fits .key)))
     (c .before .before .before .get-note-name .ensures) (coded (c .count .ok) (c .count .ensures))
 

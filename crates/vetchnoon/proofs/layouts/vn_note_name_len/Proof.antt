@@ -18,9 +18,9 @@ note-name-len-requires c κs = search needs
 count-requires : tie.Need-count-requires
 count-requires c κs =
     let start = c .before in
-    small-counted (getNoteName (layout (start .args .chain) (start .args .octave) (start .args .tritave)) (start .args .key)) (c .note-name-len .result)
+    small-counted (getNoteName (layout (start .args .chain) (start .args .octave) (start .args .tritave) (start .args .start)) (start .args .key)) (c .note-name-len .result)
     (c .note-name-len .ensures
-    ∙ key-handed-on (λ (z : ℤ). counted (getNoteName (layout (start .args .chain) (start .args .octave) (start .args .tritave)) z)) (start .args .key) (start .fits .key))
+    ∙ key-handed-on (λ (z : ℤ). counted (getNoteName (layout (start .args .chain) (start .args .octave) (start .args .tritave) (start .args .start)) z)) (start .args .key) (start .fits .key))
     (names-fit _ (omega arith) _)
 
 returns : tie.Need-returns
@@ -30,7 +30,7 @@ returns c =
     (c .count .ensures
     ∙ ap codeOf
     (c .before .note-name-len .ensures
-    ∙ key-handed-on (λ (z : ℤ). counted (getNoteName (layout (start .args .chain) (start .args .octave) (start .args .tritave)) z)) (start .args .key) (start .fits .key)))
+    ∙ key-handed-on (λ (z : ℤ). counted (getNoteName (layout (start .args .chain) (start .args .octave) (start .args .tritave) (start .args .start)) z)) (start .args .key) (start .fits .key)))
 
 pub vn-note-name-len-spec : {M : Type 1} → statement M
 vn-note-name-len-spec = tie.close (tie.spec note-name-len-requires count-requires returns)

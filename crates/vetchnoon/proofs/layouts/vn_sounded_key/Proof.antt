@@ -28,7 +28,7 @@ returns c =
     ∙ ap codeOf
     (c .before .get-sounded-key .ensures
     ∙ ap
-    (λ (s : Signs). getSoundedKey (layout (c .before .before .before .args .chain) (c .before .before .before .args .octave) (c .before .before .before .args .tritave)) (record { index = c .before .before .before .args .letter; signs = s; stars = c .before .before .before .args .stars }))
+    (λ (s : Signs). getSoundedKey (layout (c .before .before .before .args .chain) (c .before .before .before .args .octave) (c .before .before .before .args .tritave) (c .before .before .before .args .start)) (record { index = c .before .before .before .args .letter; signs = s; stars = c .before .before .before .args .stars }))
     (c .before .before .from-number .ensures ∙ ap signsOf (read-back w32 (c .before .before .before .args .signs) (c .before .before .before .fits .signs)))))
 
 pub vn-sounded-key-spec : {M : Type 1} → statement M
