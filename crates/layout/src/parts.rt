@@ -6,6 +6,8 @@ use answer::Refusal;
 use genchain::rows;
 use genchain::rows::ChainRow;
 use mos::Mos;
+use mos_walks::search;
+use mos_walks::search::SearchAnswer;
 use notes::plans;
 use notes::plans::NamePlan;
 use notes::texts;
@@ -73,19 +75,24 @@ fn with_pattern(
 {
     let octave = layout.octave;
     let step = within_octave(octave, generator);
-    let mut found: [u16; 4] = [0, 0, 0, 0];
-    // from the genesis: both counts 1, and the steps
-    if mos_walks::parts::seek(1, 1, step, octave - step, num_letters as u32, &mut found) {
-        return FoundAnswer::Given(Found {
-            chain: layout.genchain,
-            octave,
-            generator,
-            num_letters,
-            start,
-            pattern: mos::parts::pattern_of(found),
-        });
-    }
-    FoundAnswer::Refused(Refusal::Pattern)
+    let rest = octave - step;
+    let genesis = Mos {
+        num_primary_steps: 1,
+        num_secondary_steps: 1,
+        primary_step: step,
+        secondary_step: rest,
+    };
+    let SearchAnswer::Found(pattern) = search::first_with(genesis, num_letters as u32) else {
+        return FoundAnswer::Refused(Refusal::Pattern);
+    };
+    FoundAnswer::Given(Found {
+        chain: layout.genchain,
+        octave,
+        generator,
+        num_letters,
+        start,
+        pattern,
+    })
 }
 
 // Questions 1 to 4, of a layout whose chain has so many letters and this start. Two numbers, and no row: they stay in registers.

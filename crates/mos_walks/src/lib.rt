@@ -7,6 +7,7 @@
 // The definitions and theorems are those of `mos`: Walks defines, Answers says what each call answers, Theorems, Scale and
 // IntervalClasses state what holds of every walk. Nothing is assumed; that the self calls become loops is measured and not proved.
 pub mod parts;
+pub mod search;
 
 use answer::Refusal;
 use mos::Mos;
