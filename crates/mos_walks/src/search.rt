@@ -1,5 +1,5 @@
-// The search for a pattern with so many steps, as a loop, which making a layout goes by: whoever steps through it with a debugger sees
-// one frame, and in it the one variable `pattern` with both counts and both steps. Nothing here calls itself, nor does what it calls.
+// The search for a pattern with so many steps, as a loop, which making a layout goes by: for a class that steps through it there is one
+// frame, and in it one variable, `pattern`, with both counts and both steps. Nothing here calls itself, nor does what it calls.
 //
 // Parts, and no entry points. `parts::seek`, which calls itself for each pattern, is held to the same definition.
 use mos::Mos;
@@ -15,21 +15,21 @@ pub enum SearchAnswer {
     Nothing,
 }
 
-// The first pattern with n steps of the walk of children from m, m itself included. Counts only grow, so the loop goes on while there
-// are fewer. The missing child has a return of its own: with both tests in the loop's head the counts would be packed in every turn.
+// The first pattern with n steps of the walk of children from m, m itself included. Counts only grow, so a pattern with more ends the
+// search. Each end has a return of its own: where they met behind the loop, the counts would be packed in every turn.
 pub fn first_with(m: Mos, n: u32) -> SearchAnswer
     requires { ⌜ isPattern m ≡ true ⌝ }
     ensures { λ r. ⌜ foundBy r ≡ firstWith n (children m) ⌝ }
 {
     let mut pattern = m;
-    while mos::parts::count_of(pattern) < n {
+    while mos::parts::count_of(pattern) != n {
+        if n < mos::parts::count_of(pattern) {
+            return SearchAnswer::Nothing;
+        }
         if !mos::parts::has_child(pattern) {
             return SearchAnswer::Nothing;
         }
         pattern = mos::parts::child_of(pattern);
     }
-    if mos::parts::count_of(pattern) == n {
-        return SearchAnswer::Found(pattern);
-    }
-    SearchAnswer::Nothing
+    SearchAnswer::Found(pattern)
 }

@@ -70,6 +70,7 @@ fn show_answer(genesis: Mos, n: u32)
     }
 }
 
+// A genesis always is a pattern: the test spares this program the proof.
 fn show(genesis: Mos, n: u32) {
     if mos::parts::is_pattern(genesis) {
         show_patterns(genesis, n);
@@ -99,6 +100,7 @@ fn show_line(text: &[u8]) {
     }
 }
 
+// The longest line has 18 bytes. The input is read to its end, or so far.
 fn main() {
     let mut text = [0u8; 18];
     io::read_full(STDIN_FILENO, &mut text);

@@ -23,37 +23,37 @@ loop-holds c = (c .pre, refl)
 count-of-requires : tie.Need-count-of-requires Inv-loop μ-loop
 count-of-requires c κs = search needs
 
+count-of-requires-2 : tie.Need-count-of-requires-2 Inv-loop μ-loop
+count-of-requires-2 c κs = search needs
+
+returns : tie.Need-returns Inv-loop μ-loop
+returns c = find-past _ _ (omega arith) ∙ c .before .before .before .before .loop .inv .1
+
 has-child-requires : tie.Need-has-child-requires Inv-loop μ-loop
 has-child-requires c κs = search needs
 
-returns : tie.Need-returns Inv-loop μ-loop
-returns c =
-    find-end _ _ (omega arith) (sym (c .before .has-child .ensures) ∙ not-true _ (c .if2 .taken))
-    ∙ c .before .before .before .before .loop .inv .1
+returns-2 : tie.Need-returns-2 Inv-loop μ-loop
+returns-2 c =
+    find-end _ _ (omega arith) (sym (c .before .has-child .ensures) ∙ not-true _ (c .if3 .taken))
+    ∙ c .before .before .before .before .before .before .loop .inv .1
 
 child-of-requires : tie.Need-child-of-requires Inv-loop μ-loop
 child-of-requires c κs =
-    (c .before .before .before .before .loop .inv .0, sym (c .before .has-child .ensures) ∙ not-false _ (c .if2 .left))
+    let loop = c .before .before .before .before .before .before .loop in
+    (loop .inv .0, sym (c .before .has-child .ensures) ∙ not-false _ (c .if3 .left))
 
 loop-less : tie.Need-loop-less Inv-loop μ-loop
 loop-less c = child-falls (child-at (c .child-of .ensures))
 
 loop-again : tie.Need-loop-again Inv-loop μ-loop
 loop-again c =
-    let loop = c .before .before .before .before .before .loop in (
+    let loop = c .before .before .before .before .before .before .before .loop in (
       child-keeps-pattern (child-at (c .child-of .ensures)) (loop .inv .0),
       find-next _ _ _ (omega arith) (c .child-of .ensures) ∙ loop .inv .1,
     )
 
-count-of-requires-2 : tie.Need-count-of-requires-2 Inv-loop μ-loop
-count-of-requires-2 c κs = search needs
-
-returns-2 : tie.Need-returns-2 Inv-loop μ-loop
-returns-2 c =
-    find-here _ _ (sym (c .before .count-of2 .ensures) ∙ c .if3 .taken) ∙ c .before .before .before .before .loop .inv .1
-
 returns-3 : tie.Need-returns-3 Inv-loop μ-loop
-returns-3 c = find-past _ _ (omega arith) ∙ c .before .before .before .before .loop .inv .1
+returns-3 c = find-here _ _ (omega arith) ∙ c .before .before .loop .inv .1
 
 pub first-with-spec : {M : Type 1} → statement M
 first-with-spec =
@@ -63,11 +63,11 @@ first-with-spec =
     μ-loop
     loop-holds
     count-of-requires
-    has-child-requires
+    count-of-requires-2
     returns
+    has-child-requires
+    returns-2
     child-of-requires
     loop-less
     loop-again
-    count-of-requires-2
-    returns-2
     returns-3)
