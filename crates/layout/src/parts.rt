@@ -6,6 +6,8 @@ use answer::Refusal;
 use genchain::rows;
 use genchain::rows::ChainRow;
 use mos::Mos;
+use mos_walks::search;
+use mos_walks::search::SearchAnswer;
 use notes::plans;
 use notes::plans::NamePlan;
 use notes::texts;
@@ -69,23 +71,28 @@ fn with_pattern(layout: IsomorphicLayout, num_letters: u16, generator: u16) -> F
 {
     let octave = layout.octave;
     let step = within_octave(octave, generator);
-    let mut found: [u16; 4] = [0, 0, 0, 0];
-    // from the genesis: both counts 1, and the steps
-    if mos_walks::parts::seek(1, 1, step, octave - step, num_letters as u32, &mut found) {
-        let start = layout.start;
-        if num_letters <= start {
-            return FoundAnswer::Refused(Refusal::Start);
-        }
-        return FoundAnswer::Given(Found {
-            chain: layout.genchain,
-            octave,
-            generator,
-            num_letters,
-            start,
-            pattern: mos::parts::pattern_of(found),
-        });
+    let rest = octave - step;
+    let genesis = Mos {
+        num_primary_steps: 1,
+        num_secondary_steps: 1,
+        primary_step: step,
+        secondary_step: rest,
+    };
+    let SearchAnswer::Found(pattern) = search::first_with(genesis, num_letters as u32) else {
+        return FoundAnswer::Refused(Refusal::Pattern);
+    };
+    let start = layout.start;
+    if num_letters <= start {
+        return FoundAnswer::Refused(Refusal::Start);
     }
-    FoundAnswer::Refused(Refusal::Pattern)
+    FoundAnswer::Given(Found {
+        chain: layout.genchain,
+        octave,
+        generator,
+        num_letters,
+        start,
+        pattern,
+    })
 }
 
 // Questions 1 to 4 and 18, of a layout whose chain has so many letters. A number, and no row: it stays in a register.

@@ -2,11 +2,12 @@
 // src/pergen.rs of the original.
 //
 // Holds what asks for one pattern of a walk (document 01, "Step patterns"); `mos_listings` writes whole walks. `parts` holds the
-// walks themselves.
+// walks themselves, which call themselves; `search` holds the search that making a layout goes by, a loop (document 02, W-205).
 // Every entry point answers any four numbers; what is no pattern is refused (7).
 // The definitions and theorems are those of `mos`: Walks defines, Answers says what each call answers, Theorems, Scale and
 // IntervalClasses state what holds of every walk. Nothing is assumed; that the self calls become loops is measured and not proved.
 pub mod parts;
+pub mod search;
 
 use answer::Refusal;
 use mos::Mos;

@@ -1,10 +1,9 @@
--- The walk from the genesis, the pattern that it left in the array, and the start.
-use mathlib.Core.Path.{ap, _∙_}
-use mathlib.Core.Option.{some}
+-- The search from the genesis, the pattern that it found, and the start.
+use mathlib.Core.Path.{ap, sym, _∙_}
 use native.Mathlib.Nat.{mod-lt}
 use native.Mathlib.Omega.{arith}
 use Rattle.mos.proofs.Theorems.{made-patterns}
-use Rattle.mos.proofs.Sequences.{meets-found, meets-nothing}
+use Rattle.mos_walks.specs.Answers.{foundBy}
 use Rattle.layout.proofs.Finding.{walk-met, no-start, walk-without}
 use borrow.Author.Needs.{needs}
 use Rattle.layout.proofs.parts.with_pattern.Statement.{statement}
@@ -13,39 +12,45 @@ use Rattle.layout.proofs.parts.with_pattern.Tie as tie
 within-octave-requires : tie.Need-within-octave-requires
 within-octave-requires c κs = search needs
 
-sub-seek : tie.Need-sub-seek
-sub-seek c = omega (arith, c .within-octave .ensures, mod-lt (c .before .args .generator) (c .before .pre .1))
+sub-rest : tie.Need-sub-rest
+sub-rest c = omega (arith, c .within-octave .ensures, mod-lt (c .before .args .generator) (c .before .pre .1))
 
-seek-requires : tie.Need-seek-requires
-seek-requires c κs = rw (c .before .within-octave .ensures) (made-patterns .of-genesis _ _ (c .before .before .pre .1) (search needs))
+first-with-requires : tie.Need-first-with-requires
+first-with-requires c κs = rw (c .within-octave .ensures) (made-patterns .of-genesis _ _ (c .before .pre .1) (search needs))
+
+enum-known-pattern : tie.Need-enum-known-pattern
+enum-known-pattern c = search needs
+
+enum-told : tie.Need-enum-told
+enum-told c = search needs
 
 returns : tie.Need-returns
 returns c =
-    no-start _ _ (c .before .before .before .before .before .pre .0) _ _ (c .before .before .before .before .within-octave .ensures) _
-    (meets-found _ _ (c .before .before .seek .ensures) (c .before .if1 .taken)) (c .if2 .taken)
-
-pattern-of-requires : tie.Need-pattern-of-requires
-pattern-of-requires c κs = search needs
+    let start = c .before .before .before .before in
+    walk-without _ _ (start .pre .0) _ _ (c .before .before .before .within-octave .ensures)
+    (sym (ap foundBy (c .enum-told .given .1)) ∙ c .before .before .first-with .ensures)
 
 returns-2 : tie.Need-returns-2
 returns-2 c =
-    walk-met _ _ (c .before .before .before .before .before .before .pre .0) _ _ (c .before .before .before .before .before .within-octave .ensures) _
-    (ap some (c .pattern-of .ensures) ∙ meets-found _ _ (c .before .before .before .seek .ensures) (c .before .before .if1 .taken))
-    (c .before .if2 .left)
+    let start = c .before .before .before .before .before .before in
+    no-start _ _ (start .pre .0) _ _ (c .before .before .before .before .before .within-octave .ensures) _
+    (sym (ap foundBy (c .before .before .pattern .given .1)) ∙ c .before .before .before .before .first-with .ensures) (c .if1 .taken)
 
 returns-3 : tie.Need-returns-3
 returns-3 c =
-    walk-without _ _ (c .before .before .before .before .pre .0) _ _ (c .before .before .before .within-octave .ensures)
-    (meets-nothing _ _ (c .before .seek .ensures) (c .if1 .left))
+    let start = c .before .before .before .before .before .before in
+    walk-met _ _ (start .pre .0) _ _ (c .before .before .before .before .before .within-octave .ensures) _
+    (sym (ap foundBy (c .before .before .pattern .given .1)) ∙ c .before .before .before .before .first-with .ensures) (c .if1 .left)
 
 pub with-pattern-spec : {M : Type 1} → statement M
 with-pattern-spec =
     tie.close
     (tie.spec
     within-octave-requires
-    sub-seek
-    seek-requires
+    sub-rest
+    first-with-requires
+    enum-known-pattern
+    enum-told
     returns
-    pattern-of-requires
     returns-2
     returns-3)
