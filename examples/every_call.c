@@ -104,59 +104,59 @@ static void call_chains(void)
 
 static void call_layouts(void)
 {
-    IS(vn_layout(1, 12, 19, numbers, 8), 8);
+    IS(vn_layout(1, 12, 19, 3, numbers, 8), 8);
     NUMBERS(7, 1, 12, 7, 5, 2, 2, 1);
-    IS(vn_scale_name(1, 12, 19, text, 8), 8);
+    IS(vn_scale_name(1, 12, 19, 3, text, 8), 8);
     TEXT("diatonic");
-    IS(vn_note_name_len(1, 12, 19, 1), 5);
-    IS(vn_note_name(1, 12, 19, 1, text, 5), 5);
+    IS(vn_note_name_len(1, 12, 19, 3, 1), 5);
+    IS(vn_note_name(1, 12, 19, 3, 1, text, 5), 5);
     TEXT("D#/Eb");
-    IS(vn_note_name_len(1, 24, 38, -1), 8);
-    IS(vn_note_name_len(1, 24, 38, 65536), 7);
-    IS(vn_note_name_len(1, 24, 38, INT32_MIN), 7);
-    IS(vn_note_name_len(1, 24, 38, INT32_MAX), 2);
-    IS(vn_note_name(1, 12, 19, -1, text, 5), 5);
+    IS(vn_note_name_len(1, 24, 38, 3, -1), 8);
+    IS(vn_note_name_len(1, 24, 38, 3, 65536), 7);
+    IS(vn_note_name_len(1, 24, 38, 3, INT32_MIN), 7);
+    IS(vn_note_name_len(1, 24, 38, 3, INT32_MAX), 2);
+    IS(vn_note_name(1, 12, 19, 3, -1, text, 5), 5);
     TEXT("C#/Db");
-    IS(vn_note_name(1, 12, 19, -32769, text, 1), 1);
+    IS(vn_note_name(1, 12, 19, 3, -32769, text, 1), 1);
     TEXT("F");
-    IS(vn_note_name(1, 12, 19, INT32_MIN, text, 5), 5);
+    IS(vn_note_name(1, 12, 19, 3, INT32_MIN, text, 5), 5);
     TEXT("F#/Gb");
-    IS(vn_note_name(1, 12, 19, INT32_MAX, text, 1), 1);
+    IS(vn_note_name(1, 12, 19, 3, INT32_MAX, text, 1), 1);
     TEXT("A");
-    IS(vn_layout_accidentals(1, 12, 19, 1, numbers, 4), 4);
+    IS(vn_layout_accidentals(1, 12, 19, 3, 1, numbers, 4), 4);
     NUMBERS(3, 1, 5, 1);
-    IS(vn_layout_accidentals(1, 12, 19, -1, numbers, 4), 4);
+    IS(vn_layout_accidentals(1, 12, 19, 3, -1, numbers, 4), 4);
     NUMBERS(1, 1, 3, 1);
-    IS(vn_layout_accidentals(1, 12, 19, INT32_MIN, numbers, 4), 4);
+    IS(vn_layout_accidentals(1, 12, 19, 3, INT32_MIN, numbers, 4), 4);
     NUMBERS(0, 1, 2, 1);
-    IS(vn_layout_accidentals(1, 12, 19, INT32_MAX, numbers, 4), 4);
+    IS(vn_layout_accidentals(1, 12, 19, 3, INT32_MAX, numbers, 4), 4);
     NUMBERS(4, 0, 4, 0);
-    IS(vn_sounded_key(1, 12, 19, 3, 65537, 0), 5);
-    IS(vn_sounded_key(1, 12, 19, 4, -65537, 0), 2);
-    IS(vn_sounded_key(1, 12, 19, 3, INT32_MAX, 0), 7);
-    IS(vn_sounded_key(1, 12, 19, 3, INT32_MIN, 0), 4);
-    IS(vn_sounded_key(1, 24, 38, 3, 0, 1), 1);
-    IS(vn_sounded_key(1, 24, 38, 7, 0, 2), -VN_LETTER);
-    IS(vn_sounded_key(1, 24, 38, 6, 0, 2), -VN_STARS);
-    IS(vn_layout(6, 12, 19, numbers, 8), -VN_CHAIN);
-    IS(vn_layout(1, 0, 19, numbers, 8), -VN_PERIOD);
-    IS(vn_layout(1, 19, 12, numbers, 8), -VN_GENERATOR);
-    IS(vn_layout(1, 12, 12, numbers, 8), -VN_PATTERN);
-    IS(vn_layout(1, 12, 19, numbers, 7), -VN_ROOM);
+    IS(vn_sounded_key(1, 12, 19, 3, 3, 65537, 0), 5);
+    IS(vn_sounded_key(1, 12, 19, 3, 4, -65537, 0), 2);
+    IS(vn_sounded_key(1, 12, 19, 3, 3, INT32_MAX, 0), 7);
+    IS(vn_sounded_key(1, 12, 19, 3, 3, INT32_MIN, 0), 4);
+    IS(vn_sounded_key(1, 24, 38, 3, 3, 0, 1), 1);
+    IS(vn_sounded_key(1, 24, 38, 3, 7, 0, 2), -VN_LETTER);
+    IS(vn_sounded_key(1, 24, 38, 3, 6, 0, 2), -VN_STARS);
+    IS(vn_layout(6, 12, 19, 0, numbers, 8), -VN_CHAIN);
+    IS(vn_layout(1, 0, 19, 3, numbers, 8), -VN_PERIOD);
+    IS(vn_layout(1, 19, 12, 3, numbers, 8), -VN_GENERATOR);
+    IS(vn_layout(1, 12, 12, 3, numbers, 8), -VN_PATTERN);
+    IS(vn_layout(1, 12, 19, 3, numbers, 7), -VN_ROOM);
 }
 
 static void call_layers(void)
 {
-    IS(vn_layer_count(1, 12, 19), 2);
-    IS(vn_layout_layers(1, 12, 19, numbers, 12), 12);
+    IS(vn_layer_count(1, 12, 19, 3), 2);
+    IS(vn_layout_layers(1, 12, 19, 3, numbers, 12), 12);
     NUMBERS(0, 1, 0, 0, 1, 0, 1, 0, 1, 0, 0, 1);
-    IS(vn_layer(1, 31, 49, 65535), 3);
-    IS(vn_layer(1, 31, 49, 6), 4);
-    IS(vn_layer(1, 31, 49, -1), 2);
-    IS(vn_layer(1, 31, 49, INT32_MIN), 4);
-    IS(vn_layer(1, 31, 49, INT32_MAX), 3);
-    IS(vn_layer(3, 8, 13, -8), 1);
-    IS(vn_layer(3, 8, 13, -16), 0);
+    IS(vn_layer(1, 31, 49, 3, 65535), 3);
+    IS(vn_layer(1, 31, 49, 3, 6), 4);
+    IS(vn_layer(1, 31, 49, 3, -1), 2);
+    IS(vn_layer(1, 31, 49, 3, INT32_MIN), 4);
+    IS(vn_layer(1, 31, 49, 3, INT32_MAX), 3);
+    IS(vn_layer(3, 8, 13, 3, -8), 1);
+    IS(vn_layer(3, 8, 13, 3, -16), 0);
     IS(vn_layer_kind(65535, 0, numbers, 2), 2);
     NUMBERS(VN_NATURAL, 0);
     IS(vn_layer_kind(65535, 32767, numbers, 2), 2);
@@ -166,24 +166,24 @@ static void call_layers(void)
     IS(vn_layer_kind(5, 3, numbers, 2), 2);
     NUMBERS(VN_FLAT, 1);
     IS(vn_layer_kind(5, 3, numbers, 1), -VN_ROOM);
-    IS(vn_lamp_strip(1, 12, 19, text, 12), 12);
+    IS(vn_lamp_strip(1, 12, 19, 3, text, 12), 12);
     holds(__LINE__, text, "\0\377\1\1\377\1\377\1\377\1\1\377", 12);
-    IS(vn_lamp_strip(1, 2400, 3800, text, sizeof text), -VN_LAMP_LAYER);
-    IS(vn_lamp(1, 31, 49, 65535), 103);
-    IS(vn_lamp(1, 31, 49, 31), 0);
-    IS(vn_lamp(1, 31, 49, -31), 0);
-    IS(vn_lamp(1, 31, 49, -1), 3);
-    IS(vn_lamp(1, 31, 49, INT32_MIN), 102);
-    IS(vn_lamp(1, 31, 49, INT32_MAX), 103);
-    IS(vn_lamp(1, 2400, 3800, 31), -VN_LAMP_LAYER);
+    IS(vn_lamp_strip(1, 2400, 3800, 3, text, sizeof text), -VN_LAMP_LAYER);
+    IS(vn_lamp(1, 31, 49, 3, 65535), 103);
+    IS(vn_lamp(1, 31, 49, 3, 31), 0);
+    IS(vn_lamp(1, 31, 49, 3, -31), 0);
+    IS(vn_lamp(1, 31, 49, 3, -1), 3);
+    IS(vn_lamp(1, 31, 49, 3, INT32_MIN), 102);
+    IS(vn_lamp(1, 31, 49, 3, INT32_MAX), 103);
+    IS(vn_lamp(1, 2400, 3800, 3, 31), -VN_LAMP_LAYER);
 }
 
 static void call_books(void)
 {
     uint32_t found[2];
-    int64_t length = vn_book_len(1, 12, 19);
+    int64_t length = vn_book_len(1, 12, 19, 3);
     IS(length, 132);
-    IS(vn_book(1, 12, 19, text, sizeof text), length);
+    IS(vn_book(1, 12, 19, 3, text, sizeof text), length);
     IS(vn_book_find(text, (size_t)length, 1, found, 2), 2);
     IS(found[0], 101);
     IS(found[1], 5);
@@ -201,6 +201,67 @@ static void call_books(void)
     TEXT("refused 2\n");
 }
 
+/* The chain's own start stands in the calls above; other letters stand on key 0 here. */
+static void call_starts(void)
+{
+    uint32_t found[2];
+    IS(vn_layout(1, 12, 19, 1, numbers, 8), 8);
+    NUMBERS(7, 1, 12, 7, 5, 2, 2, 1);
+    IS(vn_scale_name(1, 12, 19, 1, text, 8), 8);
+    TEXT("diatonic");
+    IS(vn_note_name_len(1, 31, 49, 1, 1), 7);
+    IS(vn_note_name(1, 31, 49, 1, 1, text, 7), 7);
+    TEXT("B##/Dbb");
+    IS(vn_note_name(1, 31, 49, 6, 0, text, 1), 1);
+    TEXT("B");
+    IS(vn_layout_accidentals(1, 31, 49, 1, 1, numbers, 4), 4);
+    NUMBERS(6, 2, 3, 2);
+    IS(vn_sounded_key(1, 31, 49, 1, 4, -1, 0), 21);
+    IS(vn_layer_count(1, 31, 49, 1), 5);
+    IS(vn_layout_layers(1, 12, 19, 1, numbers, 12), 12);
+    NUMBERS(0, 1, 0, 1, 0, 0, 1, 0, 1, 0, 1, 0);
+    IS(vn_layer(1, 31, 49, 1, 6), 3);
+    IS(vn_lamp_strip(1, 12, 19, 1, text, 12), 12);
+    holds(__LINE__, text, "\0\377\1\377\1\1\377\1\377\1\377\1", 12);
+    IS(vn_lamp(1, 31, 49, 1, 6), 103);
+    IS(vn_book_len(1, 12, 19, 1), 132);
+    IS(vn_book(1, 12, 19, 1, text, sizeof text), 132);
+    IS(vn_book_find(text, 132, 1, found, 2), 2);
+    IS(found[0], 101);
+    IS(found[1], 5);
+    holds(__LINE__, text + found[0], "C#/Db", 5);
+}
+
+/* What no letter's index is. 257 and 65,535 would be 1 and 255 in eight bits. */
+static void call_no_starts(void)
+{
+    IS(vn_layout(1, 12, 19, 7, numbers, 8), -VN_START);
+    IS(vn_scale_name(1, 12, 19, 7, text, 8), -VN_START);
+    IS(vn_note_name_len(1, 12, 19, 257, 1), -VN_START);
+    IS(vn_note_name(1, 12, 19, 65535, 1, text, 5), -VN_START);
+    IS(vn_layout_accidentals(1, 12, 19, 7, 1, numbers, 4), -VN_START);
+    IS(vn_layer_count(1, 12, 19, 7), -VN_START);
+    IS(vn_layout_layers(1, 12, 19, 7, numbers, 12), -VN_START);
+    IS(vn_layer(1, 31, 49, 7, 6), -VN_START);
+    IS(vn_book_len(1, 12, 19, 257), -VN_START);
+    IS(vn_layout(0, 9, 14, 8, numbers, 8), 8);
+    IS(vn_layout(0, 9, 14, 9, numbers, 8), -VN_START);
+    IS(vn_layout(2, 12, 19, 4, numbers, 8), 8);
+    IS(vn_layout(2, 12, 19, 5, numbers, 8), -VN_START);
+
+    /* 1, 2, 3 and 4 are asked before it, 16, 21, 9 and 10 after it. */
+    IS(vn_layout(6, 12, 19, 9, numbers, 8), -VN_CHAIN);
+    IS(vn_layout(1, 0, 19, 9, numbers, 8), -VN_PERIOD);
+    IS(vn_layout(1, 19, 12, 9, numbers, 8), -VN_GENERATOR);
+    IS(vn_layout(1, 12, 12, 9, numbers, 8), -VN_PATTERN);
+    IS(vn_sounded_key(1, 24, 38, 7, 7, 0, 1), -VN_START);
+    IS(vn_sounded_key(1, 24, 38, 7, 6, 0, 2), -VN_START);
+    IS(vn_lamp_strip(1, 2400, 3800, 7, text, sizeof text), -VN_START);
+    IS(vn_lamp(1, 2400, 3800, 7, 31), -VN_START);
+    IS(vn_book(1, 12, 19, 7, text, 131), -VN_START);
+    IS(vn_layout(1, 12, 19, 7, numbers, 7), -VN_START);
+}
+
 int main(void)
 {
     call_numbers();
@@ -210,5 +271,7 @@ int main(void)
     call_layouts();
     call_layers();
     call_books();
+    call_starts();
+    call_no_starts();
     return wrong;
 }

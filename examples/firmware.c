@@ -5,7 +5,8 @@
 
 #include "vetchnoon.h"
 
-enum { CHAIN = 1, OCTAVE = 24, TRITAVE = 38 }; /* Meantone[7] in quarter tones */
+enum { CHAIN = 1, OCTAVE = 24, TRITAVE = 38, START = 3 }; /* Meantone[7] in quarter tones, with D on key 0 */
+enum { FROM_C = 1, FROM_NOTHING = 7 };                    /* the letters are F C G D A E B */
 
 static uint8_t lamps[OCTAVE];
 static uint8_t book[512];
@@ -28,16 +29,16 @@ static void press(size_t book_len, int32_t key)
     printf("key %" PRId32 ": %.*s, lamp %d\n", key, (int)name[1], (const char *)book + name[0], lamps[in_octave]);
 }
 
-/* The same without a book or a strip: each call takes any key. */
-static void show(int32_t key)
+/* The same without a book or a strip: each call takes any key, and any letter on key 0. */
+static void show(uint16_t start, int32_t key)
 {
     uint8_t name[16];
-    int64_t bytes = vn_note_name(CHAIN, OCTAVE, TRITAVE, key, name, sizeof name);
+    int64_t bytes = vn_note_name(CHAIN, OCTAVE, TRITAVE, start, key, name, sizeof name);
 
     if (refused("name", bytes))
         return;
     printf("key %" PRId32 ": %.*s, lamp %" PRId64 "\n", key, (int)bytes, (const char *)name,
-           vn_lamp(CHAIN, OCTAVE, TRITAVE, key));
+           vn_lamp(CHAIN, OCTAVE, TRITAVE, start, key));
 }
 
 int main(void)
@@ -45,14 +46,14 @@ int main(void)
     uint16_t layout[8]; /* generator, cycles, reduced period, inverse, counts, steps */
     int64_t length;
 
-    if (refused("layout", vn_layout(CHAIN, OCTAVE, TRITAVE, layout, 8)))
+    if (refused("layout", vn_layout(CHAIN, OCTAVE, TRITAVE, START, layout, 8)))
         return 1;
     printf("%d keys, %d cycles, steps %d and %d\n", OCTAVE, layout[1], layout[6], layout[7]);
 
-    if (refused("lamps", vn_lamp_strip(CHAIN, OCTAVE, TRITAVE, lamps, sizeof lamps)))
+    if (refused("lamps", vn_lamp_strip(CHAIN, OCTAVE, TRITAVE, START, lamps, sizeof lamps)))
         return 1;
 
-    length = vn_book(CHAIN, OCTAVE, TRITAVE, book, sizeof book);
+    length = vn_book(CHAIN, OCTAVE, TRITAVE, START, book, sizeof book);
     if (refused("book", length))
         return 1;
     printf("book of %" PRId64 " bytes\n", length);
@@ -62,12 +63,15 @@ int main(void)
     press((size_t)length, 2);
     press((size_t)length, 24 + 3); /* an octave higher */
     press((size_t)length, -1);     /* the board shifted down */
-    show(-1);
+    show(START, -1);
+    show(FROM_C, 0); /* a player of another school */
+    show(FROM_C, 2);
+    show(FROM_NOTHING, 0);
 
     book[4]++; /* a damaged book is seen at the next key */
     press((size_t)length, 4);
 
-    refused("book in 100 bytes", vn_book(CHAIN, OCTAVE, TRITAVE, book, 100));
-    refused("Mavila[9] in 12 keys", vn_layout(0, 12, 19, layout, 8));
+    refused("book in 100 bytes", vn_book(CHAIN, OCTAVE, TRITAVE, START, book, 100));
+    refused("Mavila[9] in 12 keys", vn_layout(0, 12, 19, 4, layout, 8));
     return 0;
 }

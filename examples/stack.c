@@ -36,20 +36,20 @@ static uint32_t found[2];
     CALL(vn_chain_letters(0, numbers, 9)) \
     CALL(vn_chain_name(3, text, 12)) \
     CALL(vn_start(5)) \
-    CALL(vn_layout(2, 65534, 65535, numbers, 8)) \
-    CALL(vn_scale_name(1, 2400, 3800, text, 12)) \
-    CALL(vn_note_name_len(2, 65534, 65535, -32767)) \
-    CALL(vn_note_name(2, 65534, 65535, -32767, text, sizeof text)) \
-    CALL(vn_layout_accidentals(2, 65534, 65535, -32767, numbers, 4)) \
-    CALL(vn_sounded_key(2, 65534, 65535, 4, INT32_MIN, 0)) \
-    CALL(vn_layer_count(2, 65534, 65535)) \
-    CALL(vn_layout_layers(2, 65534, 65535, numbers, sizeof numbers / 2)) \
-    CALL(vn_layer(2, 65534, 65535, -1)) \
+    CALL(vn_layout(2, 65534, 65535, 4, numbers, 8)) \
+    CALL(vn_scale_name(1, 2400, 3800, 6, text, 12)) \
+    CALL(vn_note_name_len(2, 65534, 65535, 4, -32767)) \
+    CALL(vn_note_name(2, 65534, 65535, 4, -32767, text, sizeof text)) \
+    CALL(vn_layout_accidentals(2, 65534, 65535, 4, -32767, numbers, 4)) \
+    CALL(vn_sounded_key(2, 65534, 65535, 4, 4, INT32_MIN, 0)) \
+    CALL(vn_layer_count(2, 65534, 65535, 4)) \
+    CALL(vn_layout_layers(2, 65534, 65535, 4, numbers, sizeof numbers / 2)) \
+    CALL(vn_layer(2, 65534, 65535, 4, -1)) \
     CALL(vn_layer_kind(65535, 32768, numbers, 2)) \
-    CALL(vn_lamp_strip(1, 311, 493, text, sizeof text)) \
-    CALL(vn_lamp(1, 311, 493, -1)) \
-    CALL(vn_book_len(1, 2400, 3800)) \
-    CALL(vn_book(1, 2400, 3800, text, sizeof text)) \
+    CALL(vn_lamp_strip(1, 311, 493, 6, text, sizeof text)) \
+    CALL(vn_lamp(1, 311, 493, 6, -1)) \
+    CALL(vn_book_len(1, 2400, 3800, 6)) \
+    CALL(vn_book(1, 2400, 3800, 6, text, sizeof text)) \
     CALL(vn_book_find(text, 266404, 2399, found, 2)) \
     CALL(vn_key_table((const uint8_t *)"1 311 493\n", 10, text, sizeof text))
 

@@ -5,8 +5,8 @@
  * What the library runs on
  *   x86-64 Linux, C calling convention, size_t of 64 bits. It needs memset and memcpy, which a C library has, and nothing
  *   else; it makes no system calls.
- *   Stack: at most 2.5 KiB for vn_key_table and 1 KiB for any other call, measured (2,424 bytes, and 600 for
- *   vn_layout_layers, with the memset and memcpy of glibc); examples/check measures it again.
+ *   Stack: at most 2.5 KiB for vn_key_table and 1 KiB for any other call, measured (2,272 bytes, and 512 for
+ *   vn_scale_name, with the memset and memcpy of glibc); examples/check measures it again.
  *
  * What a call returns
  *   0 or more: the answer, or how many elements were written to the front of the slice that was lent.
@@ -28,13 +28,19 @@
  *   VN_BOOK_KEY     13  Is the key at least 0 and below the book's count?
  *   VN_LINE         14  Is the key table's line well formed? (The table prints this number; no call returns it.)
  *   VN_LETTER       16  Is the letter's place below the chain's number of letters?
+ *   VN_START        18  Is the layout's start below the chain's number of letters?
  *   VN_STARS        21  Are the stars below the number of cycles?
- * A refusal is compared as in vn_layout(chain, octave, tritave, out, len) == -VN_PATTERN.
+ * A refusal is compared as in vn_layout(chain, octave, tritave, start, out, len) == -VN_PATTERN.
  *
  * What a key is
  *   A signed number of 32 bits, and each of them is a key. It is first brought round the octave (in a pergen the period, for
  *   a layer all entries of vn_layout_layers) with the remainder that is never negative: in 12 steps key -1 is named as key
  *   11 is. A book alone has the keys from 0 to its count - 1 and no others (question 13).
+ *
+ * What a start is
+ *   The index of key 0's letter among the chain's letters, from 0; each letter may stand on key 0. The chain's own start, which
+ *   vn_start gives, is D's: vn_note_name(1, 12, 19, 3, 0, out, len) writes D, and with start 1 it writes C. Spellings are to be
+ *   compared only within layouts of one start.
  *
  * What a caller owes
  *   A slice is a pointer to its first element and the number of its elements. All of them are readable, and those of an
@@ -66,6 +72,7 @@ extern "C" {
 #define VN_BOOK_KEY 13
 #define VN_LINE 14
 #define VN_LETTER 16
+#define VN_START 18
 #define VN_STARS 21
 
 /* The kinds of layers, which vn_layer_kind tells. */
@@ -76,11 +83,13 @@ extern "C" {
 
 /* The version of this header. The first number changes where a call, a number above or an answer is changed or taken away,
  * the second where some are added, the third where neither is so.
+ *   4.0.0: a layout has a start, a uint16_t behind its tritave in every call, and each of these calls asks 18. With the
+ *          chain's own start they have the answers that they had.
  *   3.0.0: a key is an int32_t; it was a uint16_t, and a uint32_t in vn_book_find. Keys from 0 to 65,535 have the answers
  *          that they had.
  *   2.0.0: vn_sounded_key takes signs as one number, and asks 16 and 21.
  *   1.0.0, before these numbers stood here: it took sharps and flats as two numbers, and asked 15, VN_SPELLING. */
-#define VN_VERSION_MAJOR 3
+#define VN_VERSION_MAJOR 4
 #define VN_VERSION_MINOR 0
 #define VN_VERSION_PATCH 0
 
@@ -157,32 +166,34 @@ int64_t vn_chain_letters(uint16_t chain, uint16_t *out, size_t len);
 /* Writes a chain's name, such as Meantone[7], in ASCII, at most 12 bytes, without a 0 at the end. Asks 1, 10. */
 int64_t vn_chain_name(uint16_t chain, uint8_t *out, size_t len);
 
-/* The index of key 0's letter among the chain's letters. Asks 1. */
+/* The chain's own start: the index of key 0's letter among its letters. Asks 1. */
 int64_t vn_start(uint16_t chain);
 
-/* ---- layouts: a chain code from 0 to 5, and the step counts of octave and tritave. Each call asks 1, 2, 3, 4 first. */
+/* ---- layouts: a chain code from 0 to 5, the step counts of octave and tritave, and a start. Each call asks 1, 2, 3, 4, 18
+ * first, in that order. */
 
 /* Writes 8 numbers: generator, cycles, reduced period, inverse, and the pattern's counts and steps, primary first.
- * Asks 1, 2, 3, 4, 10. */
-int64_t vn_layout(uint16_t chain, uint16_t octave, uint16_t tritave, uint16_t *out, size_t len);
+ * Asks 1, 2, 3, 4, 18, 10. */
+int64_t vn_layout(uint16_t chain, uint16_t octave, uint16_t tritave, uint16_t start, uint16_t *out, size_t len);
 
-/* Writes the scale's name in ASCII, at most 12 bytes, without a 0 at the end. Asks 1, 2, 3, 4, 10. */
-int64_t vn_scale_name(uint16_t chain, uint16_t octave, uint16_t tritave, uint8_t *out, size_t len);
+/* Writes the scale's name in ASCII, at most 12 bytes, without a 0 at the end. Asks 1, 2, 3, 4, 18, 10. */
+int64_t vn_scale_name(uint16_t chain, uint16_t octave, uint16_t tritave, uint16_t start, uint8_t *out, size_t len);
 
-/* How many bytes a key's name has: at most 39,325. Asks 1, 2, 3, 4. */
-int64_t vn_note_name_len(uint16_t chain, uint16_t octave, uint16_t tritave, int32_t key);
+/* How many bytes a key's name has: at most 39,325. Asks 1, 2, 3, 4, 18. */
+int64_t vn_note_name_len(uint16_t chain, uint16_t octave, uint16_t tritave, uint16_t start, int32_t key);
 
-/* Writes a key's name in UTF-8, without a 0 at the end. Asks 1, 2, 3, 4, 10. */
-int64_t vn_note_name(uint16_t chain, uint16_t octave, uint16_t tritave, int32_t key, uint8_t *out, size_t len);
+/* Writes a key's name in UTF-8, without a 0 at the end. Asks 1, 2, 3, 4, 18, 10. */
+int64_t vn_note_name(uint16_t chain, uint16_t octave, uint16_t tritave, uint16_t start, int32_t key, uint8_t *out,
+                     size_t len);
 
 /* Writes 4 numbers of a key: sharp index, sharp count, flat index, flat count; an index is counted along the chain's
- * letters, from 0. Asks 1, 2, 3, 4, 10. */
-int64_t vn_layout_accidentals(uint16_t chain, uint16_t octave, uint16_t tritave, int32_t key, uint16_t *out,
+ * letters, from 0. Asks 1, 2, 3, 4, 18, 10. */
+int64_t vn_layout_accidentals(uint16_t chain, uint16_t octave, uint16_t tritave, uint16_t start, int32_t key, uint16_t *out,
                               size_t len);
 
 /* The key of the octave that a spelling sounds: a letter, by its index along the chain from 0; signs, as many sharps as
- * the number is above 0, or flats as it is below; and stars. Asks 1, 2, 3, 4, 16, 21. */
-int64_t vn_sounded_key(uint16_t chain, uint16_t octave, uint16_t tritave, uint16_t letter, int32_t signs,
+ * the number is above 0, or flats as it is below; and stars. Asks 1, 2, 3, 4, 18, 16, 21. */
+int64_t vn_sounded_key(uint16_t chain, uint16_t octave, uint16_t tritave, uint16_t start, uint16_t letter, int32_t signs,
                        uint16_t stars);
 
 /* ---- layers and lamps of a layout's keys. Keys of one layer number are lit alike, key 0 aside. Of T numbers, as
@@ -190,15 +201,15 @@ int64_t vn_sounded_key(uint16_t chain, uint16_t octave, uint16_t tritave, uint16
  * enharmonic layer j - 1; any other j is flat layer T - j - 1. So sharp and flat layers count from 0, away from the natural
  * one. */
 
-/* How many layer numbers there are: T. Asks 1, 2, 3, 4. */
-int64_t vn_layer_count(uint16_t chain, uint16_t octave, uint16_t tritave);
+/* How many layer numbers there are: T. Asks 1, 2, 3, 4, 18. */
+int64_t vn_layer_count(uint16_t chain, uint16_t octave, uint16_t tritave, uint16_t start);
 
-/* Writes the layer number of each key of the octave, of two octaves at sharpness 0. Asks 1, 2, 3, 4, 10. */
-int64_t vn_layout_layers(uint16_t chain, uint16_t octave, uint16_t tritave, uint16_t *out, size_t len);
+/* Writes the layer number of each key of the octave, of two octaves at sharpness 0. Asks 1, 2, 3, 4, 18, 10. */
+int64_t vn_layout_layers(uint16_t chain, uint16_t octave, uint16_t tritave, uint16_t start, uint16_t *out, size_t len);
 
 /* The layer number of one key, of any octave: what vn_layout_layers writes repeats, upwards and downwards, after all of its
- * entries. Asks 1, 2, 3, 4. */
-int64_t vn_layer(uint16_t chain, uint16_t octave, uint16_t tritave, int32_t key);
+ * entries. Asks 1, 2, 3, 4, 18. */
+int64_t vn_layer(uint16_t chain, uint16_t octave, uint16_t tritave, uint16_t start, int32_t key);
 
 /* Writes 2 numbers, what a layer number means of T = total: its kind, VN_NATURAL, VN_SHARP, VN_ENHARMONIC or VN_FLAT, and
  * which layer of that kind it is, from 0. A number from T on, which no key has, counts as flat 0, but 0 is natural whatever
@@ -206,28 +217,29 @@ int64_t vn_layer(uint16_t chain, uint16_t octave, uint16_t tritave, int32_t key)
 int64_t vn_layer_kind(uint16_t total, uint16_t number, uint16_t *out, size_t len);
 
 /* Writes the lamp code of each key of the octave: home, which is key 0, has 0; else natural 1, sharp k 2 + k,
- * flat k 102 + k, enharmonic 255. Asks 1, 2, 3, 4, 9, 10. */
-int64_t vn_lamp_strip(uint16_t chain, uint16_t octave, uint16_t tritave, uint8_t *out, size_t len);
+ * flat k 102 + k, enharmonic 255. Asks 1, 2, 3, 4, 18, 9, 10. */
+int64_t vn_lamp_strip(uint16_t chain, uint16_t octave, uint16_t tritave, uint16_t start, uint8_t *out, size_t len);
 
-/* The lamp code of one key, of any octave: the strip repeats each octave, upwards and downwards. Asks 1, 2, 3, 4, 9. */
-int64_t vn_lamp(uint16_t chain, uint16_t octave, uint16_t tritave, int32_t key);
+/* The lamp code of one key, of any octave: the strip repeats each octave, upwards and downwards. Asks 1, 2, 3, 4, 18, 9. */
+int64_t vn_lamp(uint16_t chain, uint16_t octave, uint16_t tritave, uint16_t start, int32_t key);
 
 /* ---- books of key names, and key tables */
 
-/* How many bytes the book of a layout's key names has. Asks 1, 2, 3, 4. */
-int64_t vn_book_len(uint16_t chain, uint16_t octave, uint16_t tritave);
+/* How many bytes the book of a layout's key names has. Asks 1, 2, 3, 4, 18. */
+int64_t vn_book_len(uint16_t chain, uint16_t octave, uint16_t tritave, uint16_t start);
 
 /* Writes the book: a count, an offset and a length for each key of the octave (4 bytes each, least first), then the
- * names. Asks 1, 2, 3, 4, 10. */
-int64_t vn_book(uint16_t chain, uint16_t octave, uint16_t tritave, uint8_t *out, size_t len);
+ * names. Asks 1, 2, 3, 4, 18, 10. */
+int64_t vn_book(uint16_t chain, uint16_t octave, uint16_t tritave, uint16_t start, uint8_t *out, size_t len);
 
 /* Writes 2 numbers: at which offset of the book, and in how many bytes, a key's name stands. Any bytes are answered, and the
  * whole book is checked at each call: the time grows with its number of keys. A caller who leaves the book unchanged may
  * keep both numbers. Asks 10, 11, 12, 13. */
 int64_t vn_book_find(const uint8_t *book, size_t book_len, int32_t key, uint32_t *out, size_t len);
 
-/* Writes what the key table program prints for a line of input, such as "1 12 19\n": a line for each key, or
- * "refused", a space, the number and a line feed. 403,596 bytes are always enough. Asks 10 alone. */
+/* Writes what the key table program prints for a line of input, such as "1 12 19\n": a line for each key of that
+ * layout with the chain's own start, or "refused", a space, the number and a line feed. 403,596 bytes are always enough.
+ * Asks 10 alone. */
 int64_t vn_key_table(const uint8_t *line, size_t line_len, uint8_t *out, size_t len);
 
 #ifdef __cplusplus

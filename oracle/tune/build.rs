@@ -4,8 +4,8 @@
 //! The files come from the folder that `TUNE_SRC` names, a checkout of
 //! Woyten/tune at 0b79b5a85a, or else from the planning folder beside the
 //! repository. A file is compiled as it is, up to its test module, which the
-//! planning folder leaves out. A checksum guards against any other text. One
-//! function of our own is appended, see `APPENDED`.
+//! planning folder leaves out. A checksum guards against any other text. Two
+//! functions of our own are appended, see `APPENDED`.
 
 use std::env;
 use std::fs;
@@ -35,13 +35,19 @@ const MODULES: [(&str, u64); 5] = [
 /// All that we add to the original: a module's name and the text that follows
 /// its source. `create_layout` is private there, and the public callers choose
 /// octave and tritave by floating-point arithmetic, so a layout could not be
-/// asked for by its two step counts.
+/// asked for by its two step counts. The origin is a private field, which the
+/// original sets by the chain alone; all of its code reads it from there.
 const APPENDED: [(&str, &str); 1] = [(
     "layout",
     "
 /// Appended by the oracle's build script, to reach the private `create_layout`.
 pub fn create_layout_for_oracle(genchain: Genchain, val: &Val) -> Option<IsomorphicLayout> {
     genchain.create_layout(val, false)
+}
+
+/// Appended too, to reach the private `genchain_origin` of a layout.
+pub fn begin_layout_for_oracle(layout: &mut IsomorphicLayout, genchain_origin: u16) {
+    layout.acc_format.genchain_origin = genchain_origin;
 }
 ",
 )];

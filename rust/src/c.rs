@@ -39,21 +39,37 @@ unsafe extern "C" {
     pub fn vn_chain_name(chain: u16, out: *mut u8, len: usize) -> i64;
     pub fn vn_start(chain: u16) -> i64;
 
-    pub fn vn_layout(chain: u16, octave: u16, tritave: u16, out: *mut u16, len: usize) -> i64;
-    pub fn vn_scale_name(chain: u16, octave: u16, tritave: u16, out: *mut u8, len: usize) -> i64;
+    pub fn vn_layout(
+        chain: u16,
+        octave: u16,
+        tritave: u16,
+        start: u16,
+        out: *mut u16,
+        len: usize,
+    ) -> i64;
+    pub fn vn_scale_name(
+        chain: u16,
+        octave: u16,
+        tritave: u16,
+        start: u16,
+        out: *mut u8,
+        len: usize,
+    ) -> i64;
     pub fn vn_note_name(
         chain: u16,
         octave: u16,
         tritave: u16,
+        start: u16,
         key: i32,
         out: *mut u8,
         len: usize,
     ) -> i64;
-    pub fn vn_note_name_len(chain: u16, octave: u16, tritave: u16, key: i32) -> i64;
+    pub fn vn_note_name_len(chain: u16, octave: u16, tritave: u16, start: u16, key: i32) -> i64;
     pub fn vn_layout_accidentals(
         chain: u16,
         octave: u16,
         tritave: u16,
+        start: u16,
         key: i32,
         out: *mut u16,
         len: usize,
@@ -62,25 +78,41 @@ unsafe extern "C" {
         chain: u16,
         octave: u16,
         tritave: u16,
+        start: u16,
         letter: u16,
         signs: i32,
         stars: u16,
     ) -> i64;
 
-    pub fn vn_layer_count(chain: u16, octave: u16, tritave: u16) -> i64;
+    pub fn vn_layer_count(chain: u16, octave: u16, tritave: u16, start: u16) -> i64;
     pub fn vn_layout_layers(
         chain: u16,
         octave: u16,
         tritave: u16,
+        start: u16,
         out: *mut u16,
         len: usize,
     ) -> i64;
-    pub fn vn_layer(chain: u16, octave: u16, tritave: u16, key: i32) -> i64;
+    pub fn vn_layer(chain: u16, octave: u16, tritave: u16, start: u16, key: i32) -> i64;
     pub fn vn_layer_kind(total: u16, number: u16, out: *mut u16, len: usize) -> i64;
-    pub fn vn_lamp_strip(chain: u16, octave: u16, tritave: u16, out: *mut u8, len: usize) -> i64;
-    pub fn vn_lamp(chain: u16, octave: u16, tritave: u16, key: i32) -> i64;
-    pub fn vn_book_len(chain: u16, octave: u16, tritave: u16) -> i64;
-    pub fn vn_book(chain: u16, octave: u16, tritave: u16, out: *mut u8, len: usize) -> i64;
+    pub fn vn_lamp_strip(
+        chain: u16,
+        octave: u16,
+        tritave: u16,
+        start: u16,
+        out: *mut u8,
+        len: usize,
+    ) -> i64;
+    pub fn vn_lamp(chain: u16, octave: u16, tritave: u16, start: u16, key: i32) -> i64;
+    pub fn vn_book_len(chain: u16, octave: u16, tritave: u16, start: u16) -> i64;
+    pub fn vn_book(
+        chain: u16,
+        octave: u16,
+        tritave: u16,
+        start: u16,
+        out: *mut u8,
+        len: usize,
+    ) -> i64;
     pub fn vn_book_find(
         book: *const u8,
         book_len: usize,

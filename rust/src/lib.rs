@@ -10,14 +10,20 @@
 //! repeat, upwards and downwards. A book alone has the keys from 0 to its count − 1.
 //!
 //! ```
+//! use vetchnoon::{Layout, Refused, note_name};
+//!
+//! let twelve = Layout::new(1, 12, 19);
 //! let mut name = [0; 16];
-//! let bytes = vetchnoon::note_name(1, 12, 19, 1, &mut name).unwrap();
+//! let bytes = note_name(twelve, 1, &mut name).unwrap();
 //! assert_eq!(&name[..bytes], b"D#/Eb");
 //!
-//! let bytes = vetchnoon::note_name(1, 12, 19, -1, &mut name).unwrap();
+//! let bytes = note_name(twelve, -1, &mut name).unwrap();
 //! assert_eq!(&name[..bytes], b"C#/Db");
 //!
-//! assert_eq!(vetchnoon::note_name(0, 12, 19, 1, &mut name), Err(vetchnoon::Refused(4)));
+//! let bytes = note_name(twelve.beginning(1), 0, &mut name).unwrap();
+//! assert_eq!(&name[..bytes], b"C");
+//!
+//! assert_eq!(note_name(Layout::new(0, 12, 19), 1, &mut name), Err(Refused(4)));
 //! ```
 
 use std::error::Error;
@@ -39,6 +45,52 @@ impl Error for Refused {}
 
 /// A step pattern: primary count, secondary count, primary step, secondary step.
 pub type Pattern = [u16; 4];
+
+/// A chain in a tuning: the chain's code, how many steps make an octave and a tritave, and which
+/// of its letters key 0 has. Any four numbers may stand here: each call that is given a layout
+/// asks 1, 2, 3, 4 and 18 of it first.
+#[derive(Clone, Copy, Debug, PartialEq, Eq, Hash)]
+pub struct Layout {
+    pub chain: u16,
+    pub octave: u16,
+    pub tritave: u16,
+    /// The index of key 0's letter among the chain's letters, from 0.
+    pub start: u16,
+}
+
+impl Layout {
+    /// A layout with the chain's own start, which is D's, as [`start`] gives it; 0 where there
+    /// is no such chain.
+    pub fn new(chain: u16, octave: u16, tritave: u16) -> Self {
+        Self {
+            chain,
+            octave,
+            tritave,
+            start: start(chain).unwrap_or(0),
+        }
+    }
+
+    /// The same with another letter on key 0. Spellings are to be compared only within layouts
+    /// of one start.
+    ///
+    /// ```
+    /// use vetchnoon::{Layout, Refused, layout_accidentals};
+    ///
+    /// // F C G D A E B: key 0 is C, and key 1 is C# or Db.
+    /// let from_c = Layout::new(1, 12, 19).beginning(1);
+    /// let mut spelt = [0; 4];
+    /// layout_accidentals(from_c, 0, &mut spelt).unwrap();
+    /// assert_eq!(spelt, [1, 0, 1, 0]);
+    /// layout_accidentals(from_c, 1, &mut spelt).unwrap();
+    /// assert_eq!(spelt, [1, 1, 3, 1]);
+    ///
+    /// let from_none = from_c.beginning(7);
+    /// assert_eq!(layout_accidentals(from_none, 0, &mut spelt), Err(Refused(18)));
+    /// ```
+    pub fn beginning(self, start: u16) -> Self {
+        Self { start, ..self }
+    }
+}
 
 /// The kinds of layers, as [`layer_kind`] writes them.
 pub const NATURAL: u16 = 0;
@@ -91,6 +143,28 @@ macro_rules! filling_from_pattern {
     )*};
 }
 
+/// Declares functions that pass a layout's four numbers on, then others, and fill `out`.
+macro_rules! filling_from_layout {
+    ($($(#[$doc:meta])* $name:ident = $call:ident($($number:ident: $type:ty),*; $element:ty);)*) => {$(
+        $(#[$doc])*
+        pub fn $name(layout: Layout, $($number: $type,)* out: &mut [$element]) -> Result<usize, Refused> {
+            let Layout { chain, octave, tritave, start } = layout;
+            value(unsafe { c::$call(chain, octave, tritave, start, $($number,)* out.as_mut_ptr(), out.len()) })
+        }
+    )*};
+}
+
+/// Declares functions that pass a layout's four numbers on, then others, and give a number.
+macro_rules! number_from_layout {
+    ($($(#[$doc:meta])* $name:ident = $call:ident($($number:ident: $type:ty),*) -> $answer:ty;)*) => {$(
+        $(#[$doc])*
+        pub fn $name(layout: Layout, $($number: $type),*) -> Result<$answer, Refused> {
+            let Layout { chain, octave, tritave, start } = layout;
+            value(unsafe { c::$call(chain, octave, tritave, start, $($number),*) })
+        }
+    )*};
+}
+
 filling! {
     /// Cycles, reduced period and inverse (2, 10).
     pergen = vn_pergen(period: u16, generator: u16; u16);
@@ -115,32 +189,67 @@ filling! {
     /// assert_eq!(vetchnoon::start(1), Ok(3)); // key 0 is D
     /// ```
     chain_name = vn_chain_name(chain: u16; u8);
-    /// Generator, cycles, reduced period, inverse, and the pattern (1, 2, 3, 4, 10).
-    layout = vn_layout(chain: u16, octave: u16, tritave: u16; u16);
-    /// The scale's name (1, 2, 3, 4, 10).
-    scale_name = vn_scale_name(chain: u16, octave: u16, tritave: u16; u8);
-    /// A key's name (1, 2, 3, 4, 10).
-    note_name = vn_note_name(chain: u16, octave: u16, tritave: u16, key: i32; u8);
-    /// Sharp index, sharp count, flat index, flat count of a key (1, 2, 3, 4, 10).
-    layout_accidentals = vn_layout_accidentals(chain: u16, octave: u16, tritave: u16, key: i32; u16);
-    /// The layer number of each key of the octave, or of two at sharpness 0 (1, 2, 3, 4, 10).
-    layout_layers = vn_layout_layers(chain: u16, octave: u16, tritave: u16; u16);
     /// What a layer number means, of as many as `total` says: its kind, [`NATURAL`], [`SHARP`],
     /// [`ENHARMONIC`] or [`FLAT`], and which layer of that kind it is, from 0 (10).
     ///
     /// ```
-    /// let total = vetchnoon::layer_count(1, 31, 49).unwrap();
-    /// let number = vetchnoon::layer(1, 31, 49, 1).unwrap();
+    /// let layout = vetchnoon::Layout::new(1, 31, 49);
+    /// let total = vetchnoon::layer_count(layout).unwrap();
+    /// let number = vetchnoon::layer(layout, 1).unwrap();
     /// let mut kind = [0; 2];
     /// vetchnoon::layer_kind(total, number, &mut kind).unwrap();
     /// assert_eq!(kind, [vetchnoon::FLAT, 1]);
-    /// assert_eq!(vetchnoon::lamp(1, 31, 49, 1), Ok(102 + 1));
+    /// assert_eq!(vetchnoon::lamp(layout, 1), Ok(102 + 1));
     /// ```
     layer_kind = vn_layer_kind(total: u16, number: u16; u16);
-    /// The lamp code of each key of the octave (1, 2, 3, 4, 9, 10).
-    lamp_strip = vn_lamp_strip(chain: u16, octave: u16, tritave: u16; u8);
-    /// The book of all names of the octave (1, 2, 3, 4, 10).
-    book = vn_book(chain: u16, octave: u16, tritave: u16; u8);
+}
+
+filling_from_layout! {
+    /// Generator, cycles, reduced period, inverse, and the pattern (1, 2, 3, 4, 18, 10).
+    layout = vn_layout(; u16);
+    /// The scale's name (1, 2, 3, 4, 18, 10).
+    scale_name = vn_scale_name(; u8);
+    /// A key's name (1, 2, 3, 4, 18, 10).
+    note_name = vn_note_name(key: i32; u8);
+    /// Sharp index, sharp count, flat index, flat count of a key (1, 2, 3, 4, 18, 10).
+    layout_accidentals = vn_layout_accidentals(key: i32; u16);
+    /// The layer number of each key of the octave, or of two at sharpness 0 (1, 2, 3, 4, 18, 10).
+    layout_layers = vn_layout_layers(; u16);
+    /// The lamp code of each key of the octave (1, 2, 3, 4, 18, 9, 10).
+    lamp_strip = vn_lamp_strip(; u8);
+    /// The book of all names of the octave (1, 2, 3, 4, 18, 10).
+    book = vn_book(; u8);
+}
+
+number_from_layout! {
+    /// How many bytes a key's name has (1, 2, 3, 4, 18).
+    note_name_len = vn_note_name_len(key: i32) -> usize;
+    /// The key of the octave that a spelling sounds: a letter by its index along the chain,
+    /// as many sharps as `signs` is above 0 or flats as it is below, and stars
+    /// (1, 2, 3, 4, 18, 16, 21).
+    sounded_key = vn_sounded_key(letter: u16, signs: i32, stars: u16) -> u16;
+    /// How many layer numbers there are (1, 2, 3, 4, 18).
+    layer_count = vn_layer_count() -> u16;
+    /// The layer number of one key, of any octave (1, 2, 3, 4, 18): what [`layout_layers`]
+    /// writes repeats after all of its entries, two octaves of them at sharpness 0.
+    ///
+    /// ```
+    /// let equalized = vetchnoon::Layout::new(3, 8, 13);
+    /// assert_eq!(vetchnoon::layer(equalized, 0), Ok(0));
+    /// assert_eq!(vetchnoon::layer(equalized, -8), Ok(1)); // an octave away
+    /// assert_eq!(vetchnoon::layer(equalized, -16), Ok(0));
+    /// ```
+    layer = vn_layer(key: i32) -> u16;
+    /// The lamp code of one key, of any octave (1, 2, 3, 4, 18, 9): the strip repeats each octave.
+    ///
+    /// ```
+    /// let twelve = vetchnoon::Layout::new(1, 12, 19);
+    /// assert_eq!(vetchnoon::lamp(twelve, -12), Ok(0)); // home
+    /// assert_eq!(vetchnoon::lamp(twelve, -1), Ok(255));
+    /// ```
+    lamp = vn_lamp(key: i32) -> u8;
+    /// How many bytes the book of a layout has (1, 2, 3, 4, 18).
+    book_len = vn_book_len() -> usize;
 }
 
 filling_from_pattern! {
@@ -162,67 +271,18 @@ filling_from_pattern! {
     mos_key = vn_mos_key(p: i16, s: i16; i64);
 }
 
-/// The index of key 0's letter among the chain's letters, from 0 (1).
+/// The chain's own start: the index of key 0's letter among its letters, from 0 (1).
 pub fn start(chain: u16) -> Result<u16, Refused> {
     value(unsafe { c::vn_start(chain) })
-}
-
-/// How many bytes a key's name has (1, 2, 3, 4).
-pub fn note_name_len(chain: u16, octave: u16, tritave: u16, key: i32) -> Result<usize, Refused> {
-    value(unsafe { c::vn_note_name_len(chain, octave, tritave, key) })
-}
-
-/// The key of the octave that a spelling sounds: a letter by its index along the chain,
-/// as many sharps as `signs` is above 0 or flats as it is below, and stars (1, 2, 3, 4, 16, 21).
-pub fn sounded_key(
-    chain: u16,
-    octave: u16,
-    tritave: u16,
-    letter: u16,
-    signs: i32,
-    stars: u16,
-) -> Result<u16, Refused> {
-    value(unsafe { c::vn_sounded_key(chain, octave, tritave, letter, signs, stars) })
-}
-
-/// How many layer numbers there are (1, 2, 3, 4).
-pub fn layer_count(chain: u16, octave: u16, tritave: u16) -> Result<u16, Refused> {
-    value(unsafe { c::vn_layer_count(chain, octave, tritave) })
-}
-
-/// The layer number of one key, of any octave (1, 2, 3, 4): what [`layout_layers`] writes
-/// repeats after all of its entries, two octaves of them at sharpness 0.
-///
-/// ```
-/// assert_eq!(vetchnoon::layer(3, 8, 13, 0), Ok(0));
-/// assert_eq!(vetchnoon::layer(3, 8, 13, -8), Ok(1)); // an octave away
-/// assert_eq!(vetchnoon::layer(3, 8, 13, -16), Ok(0));
-/// ```
-pub fn layer(chain: u16, octave: u16, tritave: u16, key: i32) -> Result<u16, Refused> {
-    value(unsafe { c::vn_layer(chain, octave, tritave, key) })
-}
-
-/// The lamp code of one key, of any octave (1, 2, 3, 4, 9): the strip repeats each octave.
-///
-/// ```
-/// assert_eq!(vetchnoon::lamp(1, 12, 19, -12), Ok(0)); // home
-/// assert_eq!(vetchnoon::lamp(1, 12, 19, -1), Ok(255));
-/// ```
-pub fn lamp(chain: u16, octave: u16, tritave: u16, key: i32) -> Result<u8, Refused> {
-    value(unsafe { c::vn_lamp(chain, octave, tritave, key) })
-}
-
-/// How many bytes the book of a layout has (1, 2, 3, 4).
-pub fn book_len(chain: u16, octave: u16, tritave: u16) -> Result<usize, Refused> {
-    value(unsafe { c::vn_book_len(chain, octave, tritave) })
 }
 
 /// The part of a book, which may be any bytes, that holds a key's name (11, 12, 13). A book's
 /// keys begin at 0.
 ///
 /// ```
-/// let mut book = vec![0; vetchnoon::book_len(1, 12, 19).unwrap()];
-/// vetchnoon::book(1, 12, 19, &mut book).unwrap();
+/// let twelve = vetchnoon::Layout::new(1, 12, 19);
+/// let mut book = vec![0; vetchnoon::book_len(twelve).unwrap()];
+/// vetchnoon::book(twelve, &mut book).unwrap();
 /// assert_eq!(vetchnoon::book_find(&book, 11), Ok(&b"C#/Db"[..]));
 /// assert_eq!(vetchnoon::book_find(&book, -1), Err(vetchnoon::Refused(13)));
 /// ```
@@ -241,7 +301,8 @@ pub fn book_find(book: &[u8], key: i32) -> Result<&[u8], Refused> {
     Ok(&book[offset..offset + length])
 }
 
-/// What the key table program prints for a line (10).
+/// What the key table program prints for a line (10): of a chain, an octave and a tritave, with
+/// the chain's own start.
 pub fn key_table(line: &[u8], out: &mut [u8]) -> Result<usize, Refused> {
     value(unsafe { c::vn_key_table(line.as_ptr(), line.len(), out.as_mut_ptr(), out.len()) })
 }

@@ -1,20 +1,18 @@
-// Questions on books. LAYOUT is a chain code and the step counts of octave and tritave.
+// Questions on books. LAYOUT is as in `layouts`, and so is `_from`, which may stand behind each name but `find_in`.
 //
 //     book_len LAYOUT       how many bytes the layout's book has
 //     book LAYOUT           its bytes, as numbers
 //     find LAYOUT KEY       a key looked up in it: offset and length of the name, and the name; or a refusal, told twice
 //     find_in KEY BYTE..    the same in any bytes, at most 256
-use crate::layouts;
 use crate::names;
 use crate::print;
 use crate::words;
 use crate::words::Long;
-use crate::words::Values;
 use answer::CountAnswer;
 use book::FindAnswer;
+use layout::IsomorphicLayout;
 
-pub(crate) fn answer(kind: usize, n: Values, out: &mut [u8]) {
-    let layout = layouts::layout_of(n);
+pub(crate) fn answer(kind: usize, layout: IsomorphicLayout, key: i32, out: &mut [u8]) {
     if kind == names::BOOK_LEN {
         put_length(layout_book::book_len(layout));
         return;
@@ -24,7 +22,7 @@ pub(crate) fn answer(kind: usize, n: Values, out: &mut [u8]) {
         print::bytes(out, written);
         return;
     }
-    put_found(out, written, n.key);
+    put_found(out, written, key);
 }
 
 fn put_length(answer: CountAnswer) {

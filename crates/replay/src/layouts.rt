@@ -1,4 +1,5 @@
-// Questions on layouts. LAYOUT is a chain code and the step counts of octave and tritave.
+// Questions on layouts. LAYOUT is a chain code and the step counts of octave and tritave, with the chain's own start. Behind each name but
+// `chain` may stand `_from`; then a start follows the tritave.
 //
 //     chain CODE               the chain's name
 //     layout LAYOUT            scale name, octave, generator, cycles, reduced period, inverse, pattern
@@ -20,12 +21,7 @@ use layout::IsomorphicLayout;
 use layout::LayoutAnswer;
 use layout_layers::Layer;
 
-pub(crate) fn answer(kind: usize, n: Values, out: &mut [u8]) {
-    if kind == names::CHAIN {
-        put_chain(n.first, out);
-        return;
-    }
-    let layout = layout_of(n);
+pub(crate) fn answer(kind: usize, layout: IsomorphicLayout, n: Values, out: &mut [u8]) {
     if kind == names::SPELLING {
         pergens::put_spelled(layout.get_accidentals(n.key));
         return;
@@ -60,11 +56,16 @@ fn answer_key(kind: usize, layout: IsomorphicLayout, key: i32) {
     print::end_line();
 }
 
-pub(crate) fn layout_of(n: Values) -> IsomorphicLayout {
+// The layout that a question is about.
+pub(crate) fn layout_of(kind: usize, n: Values) -> IsomorphicLayout {
+    if kind < names::LAYOUT_FROM {
+        return layout::default_layout(n.first, n.second, n.third);
+    }
     IsomorphicLayout {
         genchain: n.first,
         octave: n.second,
         tritave: n.third,
+        start: n.fourth,
     }
 }
 
@@ -73,19 +74,25 @@ fn answer_layout(kind: usize, layout: IsomorphicLayout, out: &mut [u8]) {
         put_lamps(layout, out);
         return;
     }
-    match layout::create_layout(layout.genchain, layout.octave, layout.tritave) {
+    let made = layout::create_layout_beginning(
+        layout.genchain,
+        layout.octave,
+        layout.tritave,
+        layout.start,
+    );
+    match made {
         LayoutAnswer::Refused(q) => print::refused(q),
-        LayoutAnswer::Given(made) => {
+        LayoutAnswer::Given(accepted) => {
             if kind == names::NAMES {
-                put_names(made, out);
+                put_names(accepted, out);
                 return;
             }
-            put_layout(made, out);
+            put_layout(accepted, out);
         }
     }
 }
 
-fn put_chain(code: u16, out: &mut [u8]) {
+pub(crate) fn put_chain(code: u16, out: &mut [u8]) {
     let answer = genchain_names::name(code, out);
     print::written(out, answer);
     print::end_line();

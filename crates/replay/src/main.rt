@@ -40,7 +40,7 @@ fn answered(line: &[u8], room: u16) -> bool {
 // Whether the line ends behind its numbers, or behind a key where one is wanted; if so, it is answered.
 fn answered_numbers(kind: usize, line: &[u8], asked: Numbers, room: u16) -> bool {
     let values = asked.values;
-    if names::has_key(kind) {
+    if names::has_key(names::asked(kind)) {
         return answered_key(kind, line, asked.end, values, room);
     }
     if words::is_at(line, asked.end, b'\n') {
@@ -103,11 +103,17 @@ fn answer_in_room(kind: usize, n: Values) {
 }
 
 fn answer_text(kind: usize, n: Values, out: &mut [u8]) {
-    if kind < names::BOOK_LEN {
-        layouts::answer(kind, n, out);
+    if kind == names::CHAIN {
+        layouts::put_chain(n.first, out);
         return;
     }
-    books::answer(kind, n, out);
+    let asked = names::asked(kind);
+    let layout = layouts::layout_of(kind, n);
+    if asked < names::BOOK_LEN {
+        layouts::answer(asked, layout, n, out);
+        return;
+    }
+    books::answer(asked, layout, n.key, out);
 }
 
 fn answered_other(kind: usize, line: &[u8], end: usize, room: u16) -> bool {

@@ -69,20 +69,26 @@ pub(crate) const BOOK: usize = 29;
 
 pub(crate) const FIND: usize = 30;
 
-pub(crate) const LAST_PLAIN: usize = 30;
+// On layouts and books again, from `LAYOUT` to `FIND` in the same order, with a start.
+pub(crate) const LAYOUT_FROM: usize = 31;
+
+// How many places lie between a question and the same with a start.
+const FROM: usize = 11;
+
+pub(crate) const LAST_PLAIN: usize = 41;
 // With other numbers.
-pub(crate) const GET_KEY: usize = 31;
+pub(crate) const GET_KEY: usize = 42;
 
-pub(crate) const DIVIDE16: usize = 32;
+pub(crate) const DIVIDE16: usize = 43;
 
-pub(crate) const DIVIDE32: usize = 33;
+pub(crate) const DIVIDE32: usize = 44;
 
-pub(crate) const TABLE: usize = 34;
+pub(crate) const TABLE: usize = 45;
 
-pub(crate) const FIND_IN: usize = 35;
+pub(crate) const FIND_IN: usize = 46;
 
 // How many 16-bit numbers come behind each name up to `LAST_PLAIN`, a key aside.
-const COUNTS: [usize; 31] = [
+const COUNTS: [usize; 42] = [
     2,
     2,
     1,
@@ -114,15 +120,34 @@ const COUNTS: [usize; 31] = [
     3,
     3,
     3,
+    4,
+    4,
+    4,
+    4,
+    4,
+    4,
+    4,
+    4,
+    4,
+    4,
+    4,
 ];
 
 pub(crate) fn count_of(kind: usize) -> usize
-    requires { ⌜ kind < 31 ⌝ }
+    requires { ⌜ kind < 42 ⌝ }
 {
     COUNTS[kind]
 }
 
-// Whether a key, of 32 signed bits, comes behind these numbers.
+// What a question up to `LAST_PLAIN` asks, a start aside.
+pub(crate) fn asked(kind: usize) -> usize {
+    if kind < LAYOUT_FROM {
+        return kind;
+    }
+    kind - FROM
+}
+
+// Whether a key, of 32 signed bits, comes behind the numbers of what is asked.
 pub(crate) fn has_key(kind: usize) -> bool {
     if kind == GENERATION {
         return true;
@@ -142,7 +167,7 @@ pub(crate) fn has_key(kind: usize) -> bool {
 // The place of the name that a line has up to `end`, or a place behind the last.
 pub(crate) fn kind_of(line: &[u8], end: usize) -> usize {
     let names =
-        b"gcd simplify odd pergen generation accidentals new_genesis new_collapsed pattern child parent genesis dual mirror coprime children parents layer_sizes layers chain layout names key_layers lamps spelling name layer lamp book_len book find get_key divide16 divide32 table find_in ";
+        b"gcd simplify odd pergen generation accidentals new_genesis new_collapsed pattern child parent genesis dual mirror coprime children parents layer_sizes layers chain layout names key_layers lamps spelling name layer lamp book_len book find layout_from names_from key_layers_from lamps_from spelling_from name_from layer_from lamp_from book_len_from book_from find_from get_key divide16 divide32 table find_in ";
     place_in(names, line, end)
 }
 

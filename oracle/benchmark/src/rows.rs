@@ -3,7 +3,7 @@
 //! Both sides start from the same numbers and end with the same answers in memory:
 //! ours in a slice that is lent once, the original's in what it allocates. Where a
 //! row says so, the original has its layout made beforehand; ours makes it in
-//! every call, since a call takes the three numbers.
+//! every call, since a call takes the four numbers.
 
 use std::borrow::Borrow;
 use std::cell::RefCell;
@@ -37,7 +37,7 @@ pub struct Row {
     pub theirs: Work<'static>,
 }
 
-/// Chain code, octave and tritave.
+/// Chain code, octave and tritave; the start is the chain's own.
 #[derive(Clone, Copy)]
 pub struct Numbers(u16, u16, u16);
 
@@ -114,6 +114,11 @@ impl Numbers {
         format!("{} {} {}", self.0, self.1, self.2)
     }
 
+    /// What ours takes.
+    fn layout(self) -> vetchnoon::Layout {
+        vetchnoon::Layout::new(self.0, self.1, self.2)
+    }
+
     /// What the original makes a layout from, prepared beforehand.
     fn val(self) -> Val {
         layouts::val(self.1, self.2)
@@ -166,7 +171,7 @@ fn making() -> Vec<Row> {
 }
 
 fn make(what: &'static str, sweep: Vec<(Numbers, Val)>) -> Row {
-    let ours = sweep.clone();
+    let ours: Vec<vetchnoon::Layout> = sweep.iter().map(|(n, _)| n.layout()).collect();
     Row::new(
         what,
         "octaves 5 to 72",
@@ -174,7 +179,7 @@ fn make(what: &'static str, sweep: Vec<(Numbers, Val)>) -> Row {
         move || {
             let mut numbers = [0; 8];
             ours.iter()
-                .filter(|(n, _)| vetchnoon::layout(n.0, n.1, n.2, &mut numbers).is_ok())
+                .filter(|given| vetchnoon::layout(**given, &mut numbers).is_ok())
                 .count()
         },
         move || {
@@ -226,6 +231,7 @@ fn names<L: Borrow<IsomorphicLayout>>(
     octave: Octave<impl Fn(i32) -> u16 + 'static>,
     layout: impl Fn() -> L + 'static,
 ) -> Row {
+    let given = n.layout();
     let keys = octave.some_keys(n);
     let same_keys = keys.clone();
     let mut name = vec![0; 20_000];
@@ -235,7 +241,7 @@ fn names<L: Borrow<IsomorphicLayout>>(
         (keys.len(), "name"),
         move || {
             keys.iter()
-                .map(|key| vetchnoon::note_name(n.0, n.1, n.2, *key, &mut name).unwrap())
+                .map(|key| vetchnoon::note_name(given, *key, &mut name).unwrap())
                 .sum()
         },
         move || {
@@ -253,6 +259,7 @@ fn accidentals<L: Borrow<IsomorphicLayout>>(
     octave: Octave<impl Fn(i32) -> u16 + 'static>,
     layout: impl Fn() -> L + 'static,
 ) -> Row {
+    let given = n.layout();
     let keys = octave.keys(n);
     let same_keys = keys.clone();
     let mut spelled = [0; 4];
@@ -261,7 +268,7 @@ fn accidentals<L: Borrow<IsomorphicLayout>>(
         move || {
             keys.clone()
                 .map(|key| {
-                    vetchnoon::layout_accidentals(n.0, n.1, n.2, key, &mut spelled).unwrap();
+                    vetchnoon::layout_accidentals(given, key, &mut spelled).unwrap();
                     usize::from(spelled[1]) + usize::from(spelled[3])
                 })
                 .sum()
@@ -280,13 +287,14 @@ fn accidentals<L: Borrow<IsomorphicLayout>>(
 
 /// The book's text alone is compared: the original's names have no offsets before.
 fn book(n: Numbers) -> Row {
+    let given = n.layout();
     let layout = made_anew(n);
-    let length = vetchnoon::book_len(n.0, n.1, n.2).unwrap();
+    let length = vetchnoon::book_len(given).unwrap();
     let mut book = vec![0; length];
     let text_starts = books::text_starts(n.1.into()) as usize;
     n.row_of_keys(
         "all names of an octave, as a book",
-        move || vetchnoon::book(n.0, n.1, n.2, &mut book).unwrap() - text_starts,
+        move || vetchnoon::book(given, &mut book).unwrap() - text_starts,
         move || {
             let layout = layout();
             let names: Vec<String> = (0..n.1).map(|key| layout.get_note_name(key)).collect();
@@ -297,13 +305,14 @@ fn book(n: Numbers) -> Row {
 
 /// The other side fills the very bytes of the book, which both sides have touched.
 fn book_and_fill(n: Numbers) -> Row {
-    let length = vetchnoon::book_len(n.0, n.1, n.2).unwrap();
+    let given = n.layout();
+    let length = vetchnoon::book_len(given).unwrap();
     let memory = Rc::new(RefCell::new(vec![1_u8; length]));
     let filled = Rc::clone(&memory);
     let mut value = 0;
     n.row_of_keys(
         "all names of an octave, as a book",
-        move || vetchnoon::book(n.0, n.1, n.2, &mut memory.borrow_mut()).unwrap(),
+        move || vetchnoon::book(given, &mut memory.borrow_mut()).unwrap(),
         move || {
             value ^= 1;
             let mut bytes = filled.borrow_mut();
@@ -314,11 +323,12 @@ fn book_and_fill(n: Numbers) -> Row {
 }
 
 fn layout_layers(n: Numbers) -> Row {
+    let given = n.layout();
     let layout = made_anew(n);
     let mut layers = vec![0; 2 * usize::from(n.1)];
     n.row_of_keys(
         "layers of all keys",
-        move || vetchnoon::layout_layers(n.0, n.1, n.2, &mut layers).unwrap(),
+        move || vetchnoon::layout_layers(given, &mut layers).unwrap(),
         move || layout().get_layers().len(),
     )
 }
@@ -344,12 +354,13 @@ fn lamp(key: usize, layer: Layer) -> u8 {
 }
 
 fn strip(n: Numbers) -> Row {
+    let given = n.layout();
     let layout = made_anew(n);
     let mut codes = vec![0; n.1.into()];
     n.row_of_keys(
         "lamp strip",
         move || {
-            let length = vetchnoon::lamp_strip(n.0, n.1, n.2, &mut codes).unwrap();
+            let length = vetchnoon::lamp_strip(given, &mut codes).unwrap();
             length + usize::from(codes[length - 1])
         },
         move || {

@@ -35,6 +35,15 @@ pub fn create(chain: Genchain, octave: u16, tritave: u16) -> Answer<Option<Isomo
     ask(|| layout::create_layout_for_oracle(chain, &val(octave, tritave)))
 }
 
+/// The same layout with another letter on key 0, which the original has not: its record
+/// is given the start as its origin. Its own spelling formula, note formatter and
+/// layers read it there.
+pub fn beginning(layout: &IsomorphicLayout, start: u16) -> IsomorphicLayout {
+    let mut layout = layout.clone();
+    layout::begin_layout_for_oracle(&mut layout, start);
+    layout
+}
+
 /// A val of two step counts. `create_layout` reads these alone, and not the
 /// step size, so any step size will do.
 pub fn val(octave: u16, tritave: u16) -> Val {
@@ -87,4 +96,64 @@ pub fn note_names(layout: &IsomorphicLayout) -> Answer<Vec<String>> {
 /// The original's names, laid down as document 01 says.
 pub fn book(layout: &IsomorphicLayout) -> Answer<Vec<u8>> {
     Ok(books::of_names(&note_names(layout)?))
+}
+
+#[cfg(test)]
+mod tests {
+    use tune::pergen::AccidentalsFormat;
+
+    use super::*;
+    use crate::spelling;
+
+    /// Every accepted layout of some octaves, with its number of letters.
+    fn accepted() -> Vec<(IsomorphicLayout, u16)> {
+        let mut layouts = Vec::new();
+        for chain in CHAINS {
+            for octave in 5..=24 {
+                for tritave in 0..=3 * octave {
+                    layouts.extend(create(chain, octave, tritave).unwrap());
+                }
+            }
+        }
+        let with_letters = |layout: IsomorphicLayout| {
+            let letters = layout.mos().num_steps() as u16;
+            (layout, letters)
+        };
+        layouts.into_iter().map(with_letters).collect()
+    }
+
+    #[test]
+    fn a_layout_begins_as_a_free_format_does() {
+        for (layout, letters) in accepted() {
+            for start in 0..letters {
+                let begun = beginning(&layout, start);
+                let format = AccidentalsFormat {
+                    num_symbols: letters,
+                    genchain_origin: start,
+                };
+                for key in 0..layout.pergen().period() {
+                    let free = spelling::accidentals(layout.pergen(), &format, key);
+                    assert_eq!(accidentals(&begun, key), free);
+                }
+                assert_eq!(accidentals(&begun, 0).unwrap().sharp_index, start);
+            }
+        }
+    }
+
+    #[test]
+    fn with_its_own_start_a_layout_is_what_it_was() {
+        for (layout, _) in accepted() {
+            let start = accidentals(&layout, 0).unwrap().sharp_index;
+            let begun = beginning(&layout, start);
+            assert_eq!(note_names(&begun), note_names(&layout));
+            assert_eq!(layers(&begun), layers(&layout));
+        }
+    }
+
+    #[test]
+    fn the_twelve_from_c() {
+        let twelve = create(Genchain::Meantone7, 12, 19).unwrap().unwrap();
+        let names = note_names(&beginning(&twelve, 1)).unwrap().join(" ");
+        assert_eq!(names, "C C#/Db D D#/Eb E F F#/Gb G G#/Ab A A#/Bb B");
+    }
 }

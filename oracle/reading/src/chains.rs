@@ -10,7 +10,7 @@ use super::ask;
 pub struct Chain {
     pub name: &'static str,
     pub letters: &'static [&'static str],
-    /// The place, from 0, of the letter of key 0.
+    /// The place, from 0, of the letter of key 0, where a layout names no other.
     pub start: Whole,
     generator: Generator,
     /// The scale's name where the sharpness is above 0, and where it is below.

@@ -1,4 +1,4 @@
-//! Layouts: questions 1 to 4, the layers of keys, and the lamp strip.
+//! Layouts: questions 1 to 4 and 18, the layers of keys, and the lamp strip.
 
 use super::Outcome;
 use super::Whole;
@@ -20,20 +20,32 @@ pub struct Layout {
     pub chain: &'static Chain,
     pub pergen: Pergen,
     pub pattern: Pattern,
+    /// "The place, from 0, of the letter of key 0", which "may be any place below the
+    /// number of letters" (W-209).
+    pub start: Whole,
 }
 
 impl Layout {
-    /// Questions 1 to 4.
+    /// W-209: "document 01's start column becomes the default."
     pub fn new(code: u16, octave: u16, tritave: u16) -> Outcome<Self> {
+        let chain = chains::chain(code)?;
+        Self::beginning(code, octave, tritave, fitted(chain.start))
+    }
+
+    /// Questions 1 to 4, then 18 "when the start is not below the number of letters".
+    pub fn beginning(code: u16, octave: u16, tritave: u16, start: u16) -> Outcome<Self> {
         let (octave, tritave) = (Whole::from(octave), Whole::from(tritave));
         let chain = chains::chain(code)?;
         ask(2, octave >= 1)?;
         let generator = chain.generator(octave, tritave)?;
         let pattern = patterns::find(octave, generator, chain.count()).ok_or(4)?;
+        let start = Whole::from(start);
+        ask(18, start < chain.count())?;
         Ok(Self {
             chain,
             pergen: Pergen::new(octave, generator)?,
             pattern,
+            start,
         })
     }
 
@@ -44,7 +56,7 @@ impl Layout {
     pub fn format(&self) -> Format {
         Format {
             symbols: self.chain.count(),
-            origin: self.chain.start,
+            origin: self.start,
         }
     }
 
@@ -72,7 +84,7 @@ impl Layout {
         let numbers = layers::numbers(self.pattern);
         (0..period)
             .map(|i| {
-                let place = (self.chain.start + self.pergen.degree(i)) % self.pergen.reduced;
+                let place = (self.start + self.pergen.degree(i)) % self.pergen.reduced;
                 fitted(Whole::from(numbers[place as usize]) * cycles + i % cycles)
             })
             .collect()
@@ -84,7 +96,7 @@ impl Layout {
         let Pergen {
             generator, cycles, ..
         } = self.pergen;
-        let h = generator * self.chain.start / cycles;
+        let h = generator * self.start / cycles;
         let s = self.pattern.secondary_count;
         let n = self.chain.count();
         ((h * s) / n % 2 - ((i / cycles + h) * s) / n % 2).abs()
@@ -168,6 +180,30 @@ mod tests {
         assert_eq!(refusal(6, 0, 1), 1);
         assert_eq!(refusal(3, 32_768, 0), 3);
         assert!(Layout::new(3, 32_767, 65_534 - 3 * 4_096).is_ok());
+    }
+
+    #[test]
+    fn the_start_is_asked_about_after_the_pattern() {
+        let refusal = |code, octave, tritave, start| {
+            let layout = Layout::beginning(code, octave, tritave, start);
+            layout.err()
+        };
+        assert_eq!(refusal(1, 12, 19, 6), None);
+        assert_eq!(refusal(1, 12, 19, 7), Some(18));
+        assert_eq!(refusal(2, 12, 19, 5), Some(18));
+        assert_eq!(refusal(0, 9, 14, 65_535), Some(18));
+        assert_eq!(refusal(0, 12, 19, 9), Some(4));
+        assert_eq!(refusal(3, 12, 19, 9), Some(3));
+        assert_eq!(refusal(6, 12, 19, 9), Some(1));
+    }
+
+    #[test]
+    fn a_strip_from_c() {
+        let strip = Layout::beginning(1, 12, 19, 1).unwrap().strip();
+        let expected = vec![0, 255, 1, 255, 1, 1, 255, 1, 255, 1, 255, 1];
+        assert_eq!(strip, Ok(expected));
+        let refused = Layout::beginning(1, 2400, 3800, 7).map(|layout| layout.strip());
+        assert_eq!(refused.err(), Some(18));
     }
 
     #[test]

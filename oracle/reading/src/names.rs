@@ -115,7 +115,7 @@ pub fn sounded(layout: &Layout, spelling: Spelling) -> Outcome<Whole> {
     let n = layout.chain.count();
     ask(16, spelling.letter < n)?;
     ask(21, spelling.stars < layout.pergen.cycles)?;
-    let place = spelling.letter + n * spelling.signs - layout.chain.start;
+    let place = spelling.letter + n * spelling.signs - layout.start;
     Ok(layout.pergen.sounded(place, spelling.stars))
 }
 
@@ -147,17 +147,27 @@ mod tests {
     }
 
     #[test]
+    fn the_twelve_from_c() {
+        let layout = Layout::beginning(1, 12, 19, 1).unwrap();
+        let names: Vec<String> = (-1..12).map(|key| name(&layout, key)).collect();
+        let expected = "B C C#/Db D D#/Eb E F F#/Gb G G#/Ab A A#/Bb B";
+        assert_eq!(names.join(" "), expected);
+    }
+
+    #[test]
     fn flats_come_first_where_the_primary_step_is_shorter() {
         assert_eq!(names(2, 7, 8, 3..4), ["A+/C-"]);
     }
 
     #[test]
     fn both_spellings_of_a_name_sound_its_key() {
-        let layout = Layout::new(1, 24, 38).unwrap();
-        for key in -48..48 {
-            for spelling in printed(&layout, key) {
-                let sounded = sounded(&layout, spelling);
-                assert_eq!(sounded, Ok(Whole::from(key).rem_euclid(24)));
+        for start in 0..7 {
+            let layout = Layout::beginning(1, 24, 38, start).unwrap();
+            for key in -48..48 {
+                for spelling in printed(&layout, key) {
+                    let sounded = sounded(&layout, spelling);
+                    assert_eq!(sounded, Ok(Whole::from(key).rem_euclid(24)));
+                }
             }
         }
     }

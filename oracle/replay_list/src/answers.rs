@@ -36,7 +36,7 @@ use crate::questions::OfPattern;
 use crate::questions::Question;
 
 /// Why there is no answer.
-enum Absent {
+pub enum Absent {
     /// Document 01 refuses it.
     Refused(u8),
     /// The original overflows where document 01 has an answer, so nobody is
@@ -218,14 +218,19 @@ fn created_pattern(pattern: Pattern) -> Result<Mos, Absent> {
     }
 }
 
-fn created_layout(layout: Layout) -> Result<IsomorphicLayout, Absent> {
+pub fn created_layout(layout: Layout) -> Result<IsomorphicLayout, Absent> {
     let read = layout.read().map(|_| ());
     // The original knows the chains by name, so it cannot be asked for a code above 5.
     chains::chain(layout.code)?;
     let chain = original_chain(layout.code);
     match (read, layouts::create(chain, layout.octave, layout.tritave)) {
-        (Ok(()), Ok(Some(layout))) => Ok(layout),
+        (Ok(()), Ok(Some(original))) => Ok(match layout.start {
+            None => original,
+            Some(start) => layouts::beginning(&original, start),
+        }),
         (Err(number), Ok(None)) => Err(number.into()),
+        // The original has a start for each chain, and no question about it.
+        (Err(18), Ok(Some(_))) => Err(Absent::Refused(18)),
         // The original divides by an octave of 0.
         (Err(2), Err(_)) => Err(Absent::Refused(2)),
         (read, answer) => unreachable!(
@@ -316,6 +321,7 @@ fn table_lines(line: &str) -> Text {
         code,
         octave,
         tritave,
+        start: None,
     })?;
     let mut text = String::new();
     for (key, lamp) in (0..).zip(given(layouts::strip(&layout))??) {
@@ -405,6 +411,7 @@ mod tests {
             code: 1,
             octave: 7,
             tritave: 11,
+            start: None,
         };
         assert_eq!(
             answer(&Question::OfLayout(OfLayout::Lamps, layout)).as_deref(),
@@ -418,6 +425,7 @@ mod tests {
             code: 1,
             octave: 12,
             tritave: 19,
+            start: None,
         };
         let find = |key| Question::Find(layout, key);
         assert_eq!(answer(&find(1)).as_deref(), Some("101 5 D#/Eb\n"));

@@ -76,13 +76,17 @@ fn around(elements: usize, question: &Question) -> Vec<Question> {
 }
 
 fn rooms(layout: Layout) -> Vec<Question> {
+    let table = Question::Table(layout.to_string());
+    let printed = reading::tables::output(format!("{layout}\n").as_bytes()).len();
+    [layout_rooms(layout), around(printed, &table)].concat()
+}
+
+pub fn layout_rooms(layout: Layout) -> Vec<Question> {
     let read = layout.read().expect("an accepted layout");
     let octave = usize::from(layout.octave);
     let keys = i32::from(layout.octave);
     let book = reading::books::book(&read).len();
     let name = reading::names::name(&read, 1).len();
-    let table = Question::Table(layout.to_string());
-    let printed = reading::tables::output(format!("{layout}\n").as_bytes()).len();
     [
         around(name, &Question::Name(layout, 1)),
         around(octave, &Question::OfLayout(OfLayout::Lamps, layout)),
@@ -94,13 +98,22 @@ fn rooms(layout: Layout) -> Vec<Question> {
         around(book, &Question::Find(layout, keys - 1)),
         around(book, &Question::Find(layout, keys)),
         around(book, &Question::Find(layout, -1)),
-        around(printed, &table),
     ]
     .concat()
 }
 
 /// What is refused with another number is so in no room too.
 fn in_no_room(layout: Layout) -> Vec<Question> {
+    let others = [
+        Question::Table(layout.to_string()),
+        Question::Chain(layout.code),
+    ];
+    let mut questions = layout_in_no_room(layout);
+    questions.extend(others.map(|question| in_room(0, &question)));
+    questions
+}
+
+pub fn layout_in_no_room(layout: Layout) -> Vec<Question> {
     [
         Question::Name(layout, 0),
         Question::OfLayout(OfLayout::Lamps, layout),
@@ -108,8 +121,6 @@ fn in_no_room(layout: Layout) -> Vec<Question> {
         Question::Book(layout),
         Question::Find(layout, 65_535),
         Question::Find(layout, -1),
-        Question::Table(layout.to_string()),
-        Question::Chain(layout.code),
     ]
     .map(|question| in_room(0, &question))
     .into()

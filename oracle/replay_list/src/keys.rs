@@ -34,7 +34,7 @@ const ENDS: [i32; 14] = [
 
 /// Of each chain one without cycles; then stars, equalized scales, of which the second
 /// has another layer an octave higher, and many layers.
-const ACCEPTED: [(u16, u16, u16); 11] = [
+pub const ACCEPTED: [(u16, u16, u16); 11] = [
     (0, 9, 14),
     (1, 12, 19),
     (2, 7, 8),
@@ -49,7 +49,7 @@ const ACCEPTED: [(u16, u16, u16); 11] = [
 ];
 
 /// One layout for each refusal 1 to 4, and one whose strip is refused with 9.
-const REFUSED: [(u16, u16, u16); 5] = [
+pub const REFUSED: [(u16, u16, u16); 5] = [
     (6, 12, 19),
     (1, 0, 19),
     (3, 12, 19),
@@ -68,7 +68,7 @@ pub fn all() -> Vec<Question> {
 }
 
 /// Any key of 32 signed bits, with as many small as large ones.
-fn any_key(random: &mut Random) -> i32 {
+pub fn any_key(random: &mut Random) -> i32 {
     random.bits32().cast_signed() >> random.up_to(31)
 }
 
@@ -128,7 +128,7 @@ fn of_formats(random: &mut Random) -> Vec<Question> {
 // ---- layouts
 
 /// Every question about one key.
-fn of_key(layout: Layout, key: i32) -> [Question; 4] {
+pub fn of_key(layout: Layout, key: i32) -> [Question; 4] {
     [
         Question::Spelling(layout, key),
         Question::Name(layout, key),
@@ -175,7 +175,7 @@ fn of_large_layouts(random: &mut Random) -> Vec<Question> {
     questions
 }
 
-fn accepted(random: &mut Random, code: u16) -> Layout {
+pub fn accepted(random: &mut Random, code: u16) -> Layout {
     iter::repeat_with(|| layout((code, random.any_size(), random.any_size())))
         .find(|layout| layout.read().is_ok())
         .expect("an endless search")

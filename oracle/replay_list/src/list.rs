@@ -1,5 +1,6 @@
 //! The list of questions: the bench examples of document 01, small numbers
-//! densely, limits, and numbers of every size at random; then keys below 0.
+//! densely, limits, and numbers of every size at random; then keys below 0, and other
+//! letters on key 0.
 
 use std::collections::HashSet;
 use std::iter;
@@ -8,6 +9,7 @@ use judge::keys::asked_at;
 use judge::layouts;
 use judge::patterns::Pattern;
 
+use crate::answers::created_layout;
 use crate::books;
 use crate::keys;
 use crate::questions::FreePergen;
@@ -16,6 +18,7 @@ use crate::questions::OfLayout;
 use crate::questions::OfPattern;
 use crate::questions::Question;
 use crate::random::Random;
+use crate::starts;
 
 /// The numbers at which an answer is likely to change its form.
 const LIMITS: [u16; 9] = [0, 1, 2, 255, 256, 32_767, 32_768, 65_534, 65_535];
@@ -39,6 +42,7 @@ pub fn all() -> Vec<Question> {
     questions.extend(books::all(&mut random));
     questions.extend(unreadable());
     questions.extend(keys::all());
+    questions.extend(starts::all());
 
     let mut asked = HashSet::new();
     questions.retain(|question| asked.insert(question.to_string()));
@@ -365,9 +369,10 @@ pub fn is_short_name(layout: Layout, key: i32) -> bool {
 /// How long a key's name is, where the original has one.
 fn name_length(layout: Layout, key: i32) -> Option<usize> {
     let key = asked_at(key, layout.octave);
-    let chain = layouts::chain(layout.code)?;
-    let layout = layouts::create(chain, layout.octave, layout.tritave).ok()??;
-    layouts::note_name(&layout, key).ok().map(|name| name.len())
+    let original = created_layout(layout).ok()?;
+    layouts::note_name(&original, key)
+        .ok()
+        .map(|name| name.len())
 }
 
 /// The key with the longest name, the first of them.
@@ -484,6 +489,29 @@ fn unreadable() -> Vec<Question> {
         "name 1 12 -1",
         "name 1 -12 19 0",
         "spelling 1 12 19 +1",
+        "layout_from 1 12 19",
+        "layout_from 1 12 19 1 0",
+        "layout_from 1 12 19 65536",
+        "layout_from 1 12 19 -1",
+        "layout_fro 1 12 19 1",
+        "layout_from_from 1 12 19 1",
+        "names_from 1 12 19 ",
+        "name_from 1 12 19 1",
+        "name_from 1 12 19 1 2147483648",
+        "name_from 1 12 19 1 0 0",
+        "name_from 1 12 19 -1 0",
+        "name_from",
+        "lamps_from 1 12 19",
+        "find_from 1 12 19 1",
+        "book_from 1 12 19",
+        "12 lamps_from 1 12 19",
+        "chain_from 1",
+        "chain_from 1 3",
+        "generation_from 12 7 1",
+        "find_in_from 1 0",
+        "table_from 1 12 19 3",
+        "from 1 12 19 1",
+        "_from 1 12 19 1",
         "layer 1 12 19",
         "layer 1 12 19 0x",
         "lamp 1 12 65536 0",
@@ -522,6 +550,15 @@ pub fn layout((code, octave, tritave): (u16, u16, u16)) -> Layout {
         code,
         octave,
         tritave,
+        start: None,
+    }
+}
+
+/// The same layout from another letter, or from what is none.
+pub fn from(start: u16, layout: Layout) -> Layout {
+    Layout {
+        start: Some(start),
+        ..layout
     }
 }
 

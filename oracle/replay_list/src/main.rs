@@ -8,6 +8,7 @@ mod keys;
 mod list;
 mod questions;
 mod random;
+mod starts;
 
 use std::env;
 use std::fs;

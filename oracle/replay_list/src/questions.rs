@@ -11,12 +11,14 @@ use reading::Outcome;
 use reading::layouts;
 use reading::pergens::Pergen;
 
-/// A chain code, and the step counts of octave and tritave.
+/// A chain code, the step counts of octave and tritave, and a start, where it is not to be
+/// the chain's own.
 #[derive(Clone, Copy, Debug, PartialEq, Eq, Hash)]
 pub struct Layout {
     pub code: u16,
     pub octave: u16,
     pub tritave: u16,
+    pub start: Option<u16>,
 }
 
 /// A free period and generator.
@@ -29,7 +31,24 @@ pub struct FreePergen {
 impl Layout {
     /// What document 01 makes of it.
     pub fn read(self) -> Outcome<layouts::Layout> {
-        layouts::Layout::new(self.code, self.octave, self.tritave)
+        let Self {
+            code,
+            octave,
+            tritave,
+            start,
+        } = self;
+        match start {
+            None => layouts::Layout::new(code, octave, tritave),
+            Some(start) => layouts::Layout::beginning(code, octave, tritave, start),
+        }
+    }
+
+    /// What stands behind the name of a question where a start is among its numbers.
+    fn suffix(self) -> &'static str {
+        match self.start {
+            None => "",
+            Some(_) => "_from",
+        }
     }
 }
 
@@ -150,7 +169,11 @@ pub enum Question {
 
 impl Display for Layout {
     fn fmt(&self, f: &mut Formatter<'_>) -> fmt::Result {
-        write!(f, "{} {} {}", self.code, self.octave, self.tritave)
+        write!(f, "{} {} {}", self.code, self.octave, self.tritave)?;
+        match self.start {
+            None => Ok(()),
+            Some(start) => write!(f, " {start}"),
+        }
     }
 }
 
@@ -188,14 +211,16 @@ impl Display for Question {
                 write!(f, "get_key {} {primary} {secondary}", words(*pattern))
             }
             Self::Chain(code) => write!(f, "chain {code}"),
-            Self::OfLayout(asked, layout) => write!(f, "{} {layout}", asked.name()),
-            Self::Spelling(layout, key) => write!(f, "spelling {layout} {key}"),
-            Self::Name(layout, key) => write!(f, "name {layout} {key}"),
-            Self::Layer(layout, key) => write!(f, "layer {layout} {key}"),
-            Self::Lamp(layout, key) => write!(f, "lamp {layout} {key}"),
-            Self::BookLength(layout) => write!(f, "book_len {layout}"),
-            Self::Book(layout) => write!(f, "book {layout}"),
-            Self::Find(layout, key) => write!(f, "find {layout} {key}"),
+            Self::OfLayout(asked, layout) => {
+                write!(f, "{}{} {layout}", asked.name(), layout.suffix())
+            }
+            Self::Spelling(layout, key) => write!(f, "spelling{} {layout} {key}", layout.suffix()),
+            Self::Name(layout, key) => write!(f, "name{} {layout} {key}", layout.suffix()),
+            Self::Layer(layout, key) => write!(f, "layer{} {layout} {key}", layout.suffix()),
+            Self::Lamp(layout, key) => write!(f, "lamp{} {layout} {key}", layout.suffix()),
+            Self::BookLength(layout) => write!(f, "book_len{} {layout}", layout.suffix()),
+            Self::Book(layout) => write!(f, "book{} {layout}", layout.suffix()),
+            Self::Find(layout, key) => write!(f, "find{} {layout} {key}", layout.suffix()),
             Self::FindIn(key, book) => {
                 write!(f, "find_in {key}")?;
                 book.iter().try_for_each(|byte| write!(f, " {byte}"))

@@ -1,6 +1,9 @@
 //! Layouts.
 
+use reading::LARGEST;
+use reading::Outcome;
 use reading::Whole;
+use reading::chains;
 use reading::fitted;
 use reading::names::Spelling;
 
@@ -9,6 +12,7 @@ use super::Task;
 use crate::randoms::LIMITS;
 use crate::randoms::Randoms;
 use crate::subjects::layouts::GivenLayout;
+use crate::subjects::layouts::own_start;
 use crate::tally::Tally;
 
 /// The six chains, and codes that are none.
@@ -18,12 +22,17 @@ const CODES: [u16; 9] = [0, 1, 2, 3, 4, 5, 6, 7, 65_535];
 const STREAM: u64 = 1_000_000;
 
 pub fn plan(tasks: &mut Vec<Task>, mode: Mode, seed: u64) {
-    for (index, large) in whole_layouts(mode, seed).into_iter().enumerate() {
+    for (index, (large, start)) in whole_layouts(mode, seed).into_iter().enumerate() {
         let randoms = Randoms::new(seed, STREAM + index as u64);
-        tasks.push(Box::new(move |tally| whole(tally, large, randoms.clone())));
+        tasks.push(Box::new(move |tally| {
+            whole(tally, large, start, randoms.clone());
+        }));
     }
     for octave in (0..=mode.pick(72, 160)).rev() {
         tasks.push(Box::new(move |tally| all_of_octave(tally, octave)));
+    }
+    for octave in (0..=40).rev() {
+        tasks.push(Box::new(move |tally| all_starts_of_octave(tally, octave)));
     }
     for (index, octave) in LIMITS.into_iter().enumerate() {
         let randoms = Randoms::new(seed, STREAM + 10_000 + index as u64);
@@ -61,12 +70,49 @@ fn all_of_octave(tally: &mut Tally, octave: u16) {
     }
 }
 
-/// All letters and one beyond, up to two signs of each kind and as many flats as can
-/// be asked for, and stars up to one that is too many.
+/// The same layouts from every letter and from what is none: every key of the octave and
+/// the next one on both sides, with the ends of 32 signed bits.
+fn all_starts_of_octave(tally: &mut Tally, octave: u16) {
+    for code in CODES {
+        for tritave in 0..=6 * octave + 6 {
+            for start in starts(code, octave, tritave) {
+                let layout = GivenLayout::beginning(code, octave, tritave, start);
+                layout.compare(tally);
+                layout.compare_octave(tally);
+                layout.compare_book(tally);
+                let keys = match layout.is_accepted() {
+                    true => -1..=i32::from(octave),
+                    false => -1..=1,
+                };
+                for key in keys.chain([i32::MIN, i32::MAX]) {
+                    layout.compare_key(tally, key);
+                }
+                compare_small_spellings(tally, &layout);
+            }
+        }
+    }
+}
+
+/// All starts of an accepted layout but the chain's own, and three numbers that are
+/// none; some where another question has the answer no before.
+fn starts(code: u16, octave: u16, tritave: u16) -> Vec<u16> {
+    let layout = GivenLayout::new(code, octave, tritave);
+    let letters: Outcome<u16> = layout.read(|layout| fitted(layout.chain.count()));
+    match letters {
+        Ok(letters) => (0..=letters)
+            .chain([letters + 1, u16::MAX])
+            .filter(|start| own_start(code) != Ok(*start))
+            .collect(),
+        Err(_) => vec![1, 9, u16::MAX],
+    }
+}
+
+/// All letters, one beyond and the largest number, up to two signs of each kind and as
+/// many flats as can be asked for, and stars up to one that is too many.
 fn compare_small_spellings(tally: &mut Tally, layout: &GivenLayout) {
     let letters = layout.read(|layout| layout.chain.count()).unwrap_or(0);
     let cycles = layout.read(|layout| layout.pergen.cycles).unwrap_or(0);
-    for letter in 0..=letters {
+    for letter in (0..=letters).chain([LARGEST]) {
         for signs in [0, 1, 2, -1, -2, i32::MIN] {
             for stars in [0, cycles - 1, cycles, cycles + 1] {
                 let spelling = Spelling {
@@ -99,7 +145,10 @@ fn strips_at_limit(tally: &mut Tally, octave: u16) {
                 continue;
             };
             for times in 198u16.div_ceil(count)..=206 / count {
-                GivenLayout::new(code, octave * times, tritave * times).compare_octave(tally);
+                let (octave, tritave) = (octave * times, tritave * times);
+                GivenLayout::new(code, octave, tritave).compare_octave(tally);
+                let start = times % 10;
+                GivenLayout::beginning(code, octave, tritave, start).compare_octave(tally);
             }
         }
     }
@@ -150,9 +199,10 @@ fn likely_tritave(code: u16, octave: u16, randoms: &mut Randoms) -> u16 {
     u16::try_from(tritave).unwrap_or_else(|_| randoms.any())
 }
 
-/// The layout itself, thirteen keys and nine spellings.
+/// The layout itself with its own start or another, thirteen keys and nine spellings.
 fn compare_some(tally: &mut Tally, code: u16, octave: u16, tritave: u16, randoms: &mut Randoms) {
-    let layout = GivenLayout::new(code, octave, tritave);
+    let start = random_start(code, randoms);
+    let layout = GivenLayout::beginning(code, octave, tritave, start);
     layout.compare(tally);
     let steps = i32::from(octave);
     let around_0 = [-steps, -1, 0, 1, steps - 1, steps];
@@ -166,6 +216,15 @@ fn compare_some(tally: &mut Tally, code: u16, octave: u16, tritave: u16, randoms
     for _ in 0..9 {
         let spelling = random_spelling(&layout, randoms);
         layout.compare_sounded(tally, spelling);
+    }
+}
+
+/// The chain's own start, any other, or at times what is none.
+fn random_start(code: u16, randoms: &mut Randoms) -> u16 {
+    match randoms.below(8) {
+        0..4 => own_start(code).unwrap_or(0),
+        4..7 => randoms.between(0, 9),
+        _ => randoms.limit_or_any(),
     }
 }
 
@@ -192,20 +251,37 @@ const LARGE: [(u16, u16, u16); 4] = [
 /// The layout with the longest names and the longest book, of 307,321,697 bytes.
 const LONGEST_NAMES: (u16, u16, u16) = (2, 65_534, 65_535);
 
-/// Layouts of which every key is compared.
-fn whole_layouts(mode: Mode, seed: u64) -> Vec<(u16, u16, u16)> {
-    let mut layouts = LARGE.to_vec();
+/// Layouts of which every key is compared, each with a start: the chain's own, or any.
+fn whole_layouts(mode: Mode, seed: u64) -> Vec<((u16, u16, u16), u16)> {
+    let mut large = LARGE.to_vec();
     if mode == Mode::Long {
-        layouts.push(LONGEST_NAMES);
+        large.push(LONGEST_NAMES);
     }
+    let mut layouts: Vec<_> = large.into_iter().map(with_own_start).collect();
     let mut randoms = Randoms::new(seed, STREAM - 1);
-    for _ in 0..mode.pick(32, 200) {
-        layouts.push(accepted(300, || random_layout(&mut randoms)));
+    layouts.extend(LARGE.map(|layout| with_any_start(layout, &mut randoms)));
+    for _ in 0..mode.pick(16, 100) {
+        let layout = accepted(300, || random_layout(&mut randoms));
+        layouts.push(with_own_start(layout));
+        let layout = accepted(300, || random_layout(&mut randoms));
+        layouts.push(with_any_start(layout, &mut randoms));
     }
-    for _ in 0..mode.pick(6, 40) {
-        layouts.push(accepted(0, || large_layout(&mut randoms)));
+    for _ in 0..mode.pick(3, 20) {
+        let layout = accepted(0, || large_layout(&mut randoms));
+        layouts.push(with_own_start(layout));
+        let layout = accepted(0, || large_layout(&mut randoms));
+        layouts.push(with_any_start(layout, &mut randoms));
     }
     layouts
+}
+
+fn with_own_start(layout: (u16, u16, u16)) -> ((u16, u16, u16), u16) {
+    (layout, own_start(layout.0).expect("a chain"))
+}
+
+fn with_any_start(layout: (u16, u16, u16), randoms: &mut Randoms) -> ((u16, u16, u16), u16) {
+    let letters = chains::chain(layout.0).expect("a chain").count();
+    (layout, randoms.below(letters as u64) as u16)
 }
 
 /// The first accepted one of the chosen layouts that has at least so many keys.
@@ -228,9 +304,15 @@ fn large_layout(randoms: &mut Randoms) -> (u16, u16, u16) {
 
 /// Everything about a layout: its numbers, layers, strip, book, every key, and another
 /// of each note.
-fn whole(tally: &mut Tally, (code, octave, tritave): (u16, u16, u16), mut randoms: Randoms) {
+fn whole(
+    tally: &mut Tally,
+    (code, octave, tritave): (u16, u16, u16),
+    start: u16,
+    mut randoms: Randoms,
+) {
     compare_some(tally, code, octave, tritave, &mut randoms);
-    let layout = GivenLayout::new(code, octave, tritave);
+    let layout = GivenLayout::beginning(code, octave, tritave, start);
+    layout.compare(tally);
     layout.compare_octave(tally);
     layout.compare_book(tally);
     for key in 0..i32::from(octave) {

@@ -6,6 +6,7 @@ use reading::fitted;
 
 use crate::question::Call;
 use crate::question::Question;
+use crate::subjects::layouts::own_start;
 use crate::tally::Answers;
 use crate::tally::Original;
 use crate::tally::Tally;
@@ -48,15 +49,21 @@ fn compare_name(tally: &mut Tally, code: u16) {
     tally.compare_filling(question, reading, original, None, call);
 }
 
+/// The start itself, and the layout that the Rust package makes without one.
 fn compare_start(tally: &mut Tally, code: u16) {
     let answers = Answers {
         library: outcome(vetchnoon::start(code)),
-        reading: chain(code).map(|chain| fitted(chain.start)),
+        reading: own_start(code),
         original: Original::Silent,
     };
     let question = Question {
         call: Call::Start,
         arguments: &[code.into()],
     };
+    let packaged = vetchnoon::Layout::new(code, 12, 19);
+    let numbers = [packaged.chain, packaged.octave, packaged.tritave];
+    if numbers != [code, 12, 19] || packaged.start != own_start(code).unwrap_or(0) {
+        return tally.unexplained(question, || format!("the Rust package makes {packaged:?}"));
+    }
     tally.compare(question, &answers, None);
 }

@@ -38,9 +38,7 @@ impl GivenLayout {
             call: Call::LayoutAccidentals,
             arguments: &arguments,
         };
-        let call = |out: &mut [u16]| {
-            vetchnoon::layout_accidentals(self.code, self.octave, self.tritave, key, out)
-        };
+        let call = |out: &mut [u16]| vetchnoon::layout_accidentals(self.given, key, out);
         tally.compare_filling(question, reading, original, self.key_class(key), call);
     }
 
@@ -52,12 +50,7 @@ impl GivenLayout {
         let arguments = self.arguments_with(key);
 
         let length = Answers {
-            library: outcome(vetchnoon::note_name_len(
-                self.code,
-                self.octave,
-                self.tritave,
-                key,
-            )),
+            library: outcome(vetchnoon::note_name_len(self.given, key)),
             reading: reading.as_ref().map(Vec::len).map_err(|number| *number),
             original: original.then(|name| Original::Answered(name.len())),
         };
@@ -73,8 +66,7 @@ impl GivenLayout {
             arguments: &arguments,
         };
         let original = original.then(|name| Original::Answered(name.as_bytes().to_vec()));
-        let call =
-            |out: &mut [u8]| vetchnoon::note_name(self.code, self.octave, self.tritave, key, out);
+        let call = |out: &mut [u8]| vetchnoon::note_name(self.given, key, out);
         tally.compare_filling(question, reading, original, class, call);
     }
 
@@ -112,9 +104,7 @@ impl GivenLayout {
 
     fn sounded(&self, spelling: Spelling) -> Outcome<u16> {
         outcome(vetchnoon::sounded_key(
-            self.code,
-            self.octave,
-            self.tritave,
+            self.given,
             fitted(spelling.letter),
             fitted(spelling.signs),
             fitted(spelling.stars),
@@ -123,19 +113,21 @@ impl GivenLayout {
 
     /// The key that the original is asked for.
     fn asked_at(&self, key: i32) -> u16 {
-        asked_at(key, self.octave)
+        asked_at(key, self.given.octave)
     }
 
-    pub fn arguments_with(&self, key: i32) -> [i64; 4] {
-        let [code, octave, tritave] = [self.code, self.octave, self.tritave].map(i64::from);
-        [code, octave, tritave, key.into()]
+    pub fn arguments_with(&self, key: i32) -> [i64; 5] {
+        let [code, octave, tritave, start] = self.arguments;
+        [code, octave, tritave, start, key.into()]
     }
 
-    fn arguments_of(&self, spelling: Spelling) -> [i64; 6] {
+    fn arguments_of(&self, spelling: Spelling) -> [i64; 7] {
+        let [code, octave, tritave, start] = self.arguments;
         [
-            self.code.into(),
-            self.octave.into(),
-            self.tritave.into(),
+            code,
+            octave,
+            tritave,
+            start,
             fitted(spelling.letter),
             fitted(spelling.signs),
             fitted(spelling.stars),
@@ -147,7 +139,7 @@ impl GivenLayout {
     }
 }
 
-fn sounding(arguments: &[i64; 6]) -> Question<'_> {
+fn sounding(arguments: &[i64; 7]) -> Question<'_> {
     Question {
         call: Call::SoundedKey,
         arguments,

@@ -29,29 +29,38 @@ use crate::tally::Original;
 use crate::tally::Tally;
 use crate::tally::outcome;
 
-/// Three numbers, with what the reading and the original make of them.
+/// Four numbers, with what the reading and the original make of them.
 pub struct GivenLayout {
-    pub code: u16,
-    pub octave: u16,
-    pub tritave: u16,
+    pub given: vetchnoon::Layout,
     pub reading: Outcome<Layout>,
     pub original: Original<IsomorphicLayout>,
-    /// The three numbers again, to ask questions with.
-    arguments: [i64; 3],
+    /// The four numbers again, to ask questions with.
+    pub arguments: [i64; 4],
 }
 
 impl GivenLayout {
+    /// With the chain's own start, by the reading.
     pub fn new(code: u16, octave: u16, tritave: u16) -> Self {
+        let start = own_start(code).unwrap_or(0);
+        Self::beginning(code, octave, tritave, start)
+    }
+
+    pub fn beginning(code: u16, octave: u16, tritave: u16, start: u16) -> Self {
+        let reading = Layout::beginning(code, octave, tritave, start);
         Self {
-            code,
-            octave,
-            tritave,
-            reading: Layout::new(code, octave, tritave),
-            original: match layouts::chain(code) {
-                Some(chain) => Original::of_option(layouts::create(chain, octave, tritave)),
-                None => Original::Silent,
+            given: vetchnoon::Layout {
+                chain: code,
+                octave,
+                tritave,
+                start,
             },
-            arguments: [code, octave, tritave].map(i64::from),
+            original: match reading {
+                // The original has no such question.
+                Err(18) => Original::Silent,
+                _ => original_beginning(code, octave, tritave, start),
+            },
+            reading,
+            arguments: [code, octave, tritave, start].map(i64::from),
         }
     }
 
@@ -76,9 +85,9 @@ impl GivenLayout {
     }
 
     fn refused_class(&self) -> Option<Class> {
-        let chain = chains::chain(self.code).ok()?;
-        let generator = chain.generator(0, self.tritave.into());
-        (self.octave == 0).then(|| classes::of_octave_zero(generator.is_ok()))
+        let chain = chains::chain(self.given.chain).ok()?;
+        let generator = chain.generator(0, self.given.tritave.into());
+        (self.given.octave == 0).then(|| classes::of_octave_zero(generator.is_ok()))
     }
 
     /// A question about the layout as a whole.
@@ -124,7 +133,7 @@ impl GivenLayout {
             Original::of(derived)
         });
         let question = self.asking(Call::Layout);
-        let call = |out: &mut [u16]| vetchnoon::layout(self.code, self.octave, self.tritave, out);
+        let call = |out: &mut [u16]| vetchnoon::layout(self.given, out);
         tally.compare_filling(question, reading, original, self.class(|_| None), call);
     }
 
@@ -134,15 +143,14 @@ impl GivenLayout {
             Original::of(layouts::scale_name(layout).map(|name| name.as_bytes().to_vec()))
         });
         let question = self.asking(Call::ScaleName);
-        let call =
-            |out: &mut [u8]| vetchnoon::scale_name(self.code, self.octave, self.tritave, out);
+        let call = |out: &mut [u8]| vetchnoon::scale_name(self.given, out);
         tally.compare_filling(question, reading, original, self.class(|_| None), call);
     }
 
     /// The original does not tell T; its layers, which depend on it, are compared.
     fn compare_layer_count(&self, tally: &mut Tally) {
         let answers = Answers {
-            library: outcome(vetchnoon::layer_count(self.code, self.octave, self.tritave)),
+            library: outcome(vetchnoon::layer_count(self.given)),
             reading: self.read(|layout| fitted(layout.layer_count())),
             original: Original::Silent,
         };
@@ -171,8 +179,7 @@ impl GivenLayout {
             vetchnoon::layer,
         );
         let question = self.asking(Call::LayoutLayers);
-        let call =
-            |out: &mut [u16]| vetchnoon::layout_layers(self.code, self.octave, self.tritave, out);
+        let call = |out: &mut [u16]| vetchnoon::layout_layers(self.given, out);
         tally.compare_filling(question, reading, original, class, call);
     }
 
@@ -187,7 +194,7 @@ impl GivenLayout {
         reading: &Outcome<Vec<T>>,
         original: &Original<Vec<T>>,
         class: Option<Class>,
-        library: impl Fn(u16, u16, u16, i32) -> Result<T, Refused>,
+        library: impl Fn(vetchnoon::Layout, i32) -> Result<T, Refused>,
     ) {
         let keys: Vec<i32> = match reading.as_ref().map(|list| list.len() as i32) {
             Ok(entries) => (-entries - 1..=entries + 1).chain(KEY_LIMITS).collect(),
@@ -195,7 +202,7 @@ impl GivenLayout {
         };
         for key in keys {
             let answers = Answers {
-                library: outcome(library(self.code, self.octave, self.tritave, key)),
+                library: outcome(library(self.given, key)),
                 reading: match reading {
                     Ok(list) => Ok(repeated(list, key)),
                     Err(number) => Err(*number),
@@ -235,8 +242,7 @@ impl GivenLayout {
             vetchnoon::lamp,
         );
         let question = self.asking(Call::LampStrip);
-        let call =
-            |out: &mut [u8]| vetchnoon::lamp_strip(self.code, self.octave, self.tritave, out);
+        let call = |out: &mut [u8]| vetchnoon::lamp_strip(self.given, out);
         tally.compare_filling(question, reading, original, class, call);
     }
 
@@ -244,13 +250,13 @@ impl GivenLayout {
     pub fn compare_book(&self, tally: &mut Tally) {
         let reading = self.read(books::book);
         let answers = Answers {
-            library: outcome(vetchnoon::book_len(self.code, self.octave, self.tritave)),
+            library: outcome(vetchnoon::book_len(self.given)),
             reading: reading.as_ref().map(Vec::len).map_err(|number| *number),
             original: Original::Silent,
         };
         tally.compare(self.asking(Call::BookLen), &answers, None);
 
-        let call = |out: &mut [u8]| vetchnoon::book(self.code, self.octave, self.tritave, out);
+        let call = |out: &mut [u8]| vetchnoon::book(self.given, out);
         let original = self
             .original
             .then(|layout| Original::of(layouts::book(layout)));
@@ -258,6 +264,29 @@ impl GivenLayout {
         let question = self.asking(Call::Book);
         tally.compare_filling(question, reading, original, class, call);
     }
+}
+
+/// The start that document 01 gives to a chain.
+pub fn own_start(code: u16) -> Outcome<u16> {
+    chains::chain(code).map(|chain| fitted(chain.start))
+}
+
+/// The original's layout as it is where the start is the chain's own, and with another
+/// origin where it is not.
+fn original_beginning(
+    code: u16,
+    octave: u16,
+    tritave: u16,
+    start: u16,
+) -> Original<IsomorphicLayout> {
+    let Some(chain) = layouts::chain(code) else {
+        return Original::Silent;
+    };
+    let original = Original::of_option(layouts::create(chain, octave, tritave));
+    if own_start(code) == Ok(start) {
+        return original;
+    }
+    original.then(|layout| Original::Answered(layouts::beginning(layout, start)))
 }
 
 /// What a layer number means of T. A number from T on, of which document 01 says
