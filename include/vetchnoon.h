@@ -5,7 +5,7 @@
  * What the library runs on
  *   x86-64 Linux, C calling convention, size_t of 64 bits. It needs memset and memcpy, which a C library has, and nothing
  *   else; it makes no system calls.
- *   Stack: at most 2.5 KiB for vn_key_table and 1 KiB for any other call, measured (2,272 bytes, and 512 for
+ *   Stack: at most 2.5 KiB for vn_key_table and 1 KiB for any other call, measured (2,276 bytes, and 512 for
  *   vn_scale_name, with the memset and memcpy of glibc); examples/check measures it again.
  *
  * What a call returns
