@@ -1,5 +1,5 @@
 -- From the plan to what the calls answer: one law for each way in which a call ends.
-use Prim.Native.Nat.{ℕ, _≤_, _<_}
+use Prim.Native.Nat.{ℕ, _*_, _≤_, _<_}
 use mathlib.Core.Path.{_≡_, refl, sym, ap, _∙_}
 use mathlib.Core.Bool.{Bool, true, false}
 use mathlib.Core.List.{List}
@@ -7,6 +7,7 @@ use lib.IntN.{ℤ}
 use lib.ListN.{length}
 use lib.Dec.{leb}
 use borrow.Author.Tests.{le-leb, lt-leb}
+use Rattle.answer.specs.Choice.{pick}
 use Rattle.answer.specs.Outcome.{Outcome, given, refused, ask, andThen}
 use Rattle.answer.specs.Lent.{heldIn, counted, Filled}
 use Rattle.answer.proofs.Lent.{filled-refused}
@@ -17,9 +18,10 @@ use Rattle.layout.specs.Answers.{inRoom}
 use Rattle.layout.proofs.Calls.{of-refused, of-given, parts-of, filled-as, refused-in-room}
 use Rattle.layout_layers.specs.declared.parts.Plan.{Plan}
 use Rattle.layout_layers.specs.KeyLayers.{countIn}
-use Rattle.layout_layers.specs.Parts.{PlanOf, planNumber, totalOf}
-use Rattle.layout_layers.proofs.PlanLaws.{count-is}
-use Rattle.layout_lamps.specs.Lamps.{lampIn, stripIn, hasLampsIn}
+use Rattle.layout_layers.specs.Parts.{PlanOf, planNumber, totalOf, turnsOf, planLayers}
+use Rattle.layout_layers.proofs.PlanLaws.{count-is, layers-are}
+use Rattle.layout_layers.proofs.Theorems.{entries-are-counted}
+use Rattle.layout_lamps.specs.Lamps.{lampIn, stripLengthIn, stripIn, hasLampsIn}
 use Rattle.layout_lamps.specs.Answers.{getStrip, getLamp}
 use Rattle.layout_lamps.specs.Parts.{codeOf, planStrip}
 use Rattle.layout_lamps.proofs.StripLaws.{lamps-by-count-at, strip-is, lamp-is, lamp-home}
@@ -58,7 +60,7 @@ module _ (r : IsomorphicLayout) (l : Layout) (e : given l ≡ layoutOutcome r) (
     pub lamp-too-deep : (key : ℤ) → refused 9 ≡ getLamp r key
     unfolding getLamp
     lamp-too-deep key =
-        ap (λ (b : Bool). ask 9 b (given (lampIn l (remainder key (l .octave))))) (sym no) ∙ of-given r _ l e
+        ap (λ (b : Bool). ask 9 b (given (lampIn l (remainder key (stripLengthIn l))))) (sym no) ∙ of-given r _ l e
 
   module _ (few : T ≤ 202) where
     yes : hasLampsIn l ≡ true
@@ -68,23 +70,29 @@ module _ (r : IsomorphicLayout) (l : Layout) (e : given l ≡ layoutOutcome r) (
     unfolding getStrip
     strip-of-layout = ap (λ (b : Bool). ask 9 b (given (stripIn l))) (sym yes) ∙ of-given r _ l e
 
-    pub strip-given : given (planStrip p T) ≡ getStrip r
+    pub strip-given : given (planStrip p T (turnsOf p)) ≡ getStrip r
     strip-given =
         ap given (strip-is l p k (parts-of r l e .positive) T total) ∙ strip-of-layout
 
-    pub strip-counted : given (l .octave) ≡ counted (getStrip r)
-    strip-counted = ap given (sym (strips-are-whole l)) ∙ ap counted strip-of-layout
+    pub strip-counted : (n : ℕ) → n ≡ length (planLayers p) → given n ≡ counted (getStrip r)
+    strip-counted n q =
+        ap given
+        (q ∙ ap length (layers-are l p k (parts-of r l e .positive)) ∙ entries-are-counted l ∙ sym (strips-are-whole l))
+        ∙ ap counted strip-of-layout
 
-    pub strip-written : {a : Outcome ℕ} {xs ys : List ℕ} → Filled (heldIn (length xs) (planStrip p T)) a xs ys
+    pub strip-written : {a : Outcome ℕ} {xs ys : List ℕ} → Filled (heldIn (length xs) (planStrip p T (turnsOf p))) a xs ys
         → Filled (inRoom (length xs) (getStrip r)) a xs ys
     strip-written {xs = xs} f = filled-as (ap (λ (o : Outcome (List ℕ)). andThen o (heldIn (length xs))) strip-given) f
 
-    lamp-of-layout : (key : ℤ) → given (lampIn l (remainder key (l .octave))) ≡ getLamp r key
+    lamp-of-layout : (key : ℤ) → given (lampIn l (remainder key (stripLengthIn l))) ≡ getLamp r key
     unfolding getLamp
     lamp-of-layout key =
-        ap (λ (b : Bool). ask 9 b (given (lampIn l (remainder key (l .octave))))) (sym yes) ∙ of-given r _ l e
+        ap (λ (b : Bool). ask 9 b (given (lampIn l (remainder key (stripLengthIn l))))) (sym yes) ∙ of-given r _ l e
 
-    module _ (key : ℤ) (place : ℕ) (round : place ≡ remainder key (l .octave)) where
+    module _ (key : ℤ) (place count : ℕ) (counted : count ≡ pick (p .equalized) (2 * l .octave) (l .octave)) (at : place ≡ remainder key count) where
+      round : place ≡ remainder key (stripLengthIn l)
+      round = at ∙ ap (remainder key) (counted ∙ ap (λ (b : Bool). pick b (2 * l .octave) (l .octave)) (k .equalized-is))
+
       pub lamp-at-home : place ≡ 0 → given 0 ≡ getLamp r key
       lamp-at-home h = ap given (lamp-home l place h ∙ ap (lampIn l) round) ∙ lamp-of-layout key
 

@@ -1,6 +1,6 @@
 -- Codes and strips: T at most 202 leaves sharp and flat layers below 100, T above 202 has a key in sharp layer 100, and a plan's codes with home are the strip.
 use Prim.Native.Nat.{ℕ, zero, suc, _+_, _*_, _-_, _/_, _≤_, _<_}
-use mathlib.Core.Path.{_≡_, refl, sym, ap, ap₂, _∙_}
+use mathlib.Core.Path.{_≡_, refl, sym, ap, ap₂, subst, _∙_}
 use mathlib.Core.Bool.{Bool, true, false, _&&_, and-false}
 use mathlib.Core.List.{List, [], _∷_, _++_}
 use native.Mathlib.Nat.{mod-lt, mod-eq-of-lt, div-eq-of-lt, mul-pos}
@@ -20,13 +20,13 @@ use Rattle.layout_layers.specs.declared.Layer.{Layer}
 use Rattle.layout_layers.specs.declared.Layer.the-variants.{Natural, Sharp, Enharmonic, Flat}
 use Rattle.layout_layers.specs.declared.parts.Plan.{Plan}
 use Rattle.layout_layers.specs.KeyLayers.{equalized, layerCount, kindOf, numberIn, countIn}
-use Rattle.layout_layers.specs.Parts.{keysOf, Spread, InTurns, listedNumber, totalOf, Sound, PlanOf, turnLayer, planNumber, Fronted}
+use Rattle.layout_layers.specs.Parts.{Spread, InTurns, listedNumber, totalOf, Sound, PlanOf, turnLayer, planNumber, turnsOf, Fronted}
 use Rattle.layout_layers.proofs.SpreadLaws.{length-listed, spread-as, spread-front}
 use Rattle.layout_layers.proofs.ChainLaws.{some-places}
-use Rattle.layout_layers.proofs.PlanLaws.{number-is, number-listed, keys-are, kind-natural, kind-sharp, kind-enharmonic, kind-flat, turn-below}
+use Rattle.layout_layers.proofs.PlanLaws.{number-is, number-listed, keys-are, turns-fill, kind-natural, kind-sharp, kind-enharmonic, kind-flat, turn-below}
 use Rattle.layout_layers.proofs.Theorems.{counts-fit, each-number-is-met, first-keys}
-use Rattle.layout_lamps.specs.Lamps.{lampCode, kindAt, lampOf, stripOf, lampable, every, hasLamps, lampIn, stripIn, hasLampsIn}
-use Rattle.layout_lamps.specs.Parts.{codeOf, planCodes, planStrip}
+use Rattle.layout_lamps.specs.Lamps.{lampCode, kindAt, lampOf, codesOf, stripOf, lampable, every, hasLamps, lampIn, stripLengthIn, stripIn, hasLampsIn, octaveStripIn, kindIn}
+use Rattle.layout_lamps.specs.Parts.{codeOf, Degrees, planCodes, planStrip}
 
 -- ---- codes
 
@@ -66,11 +66,33 @@ module _ (T j : ℕ) (in-range : j < T) where
   code-high h =
       (let q : 101 + (T - j) ≡ 102 + (T - j - 1) = omega arith in q) ∙ ap lampCode (kind-flat T j (λ none. omega (arith, none)) h refl)
 
-pub length-plan-codes : (p : Plan) (T : ℕ) → length (planCodes p T) ≡ keysOf (p .chain)
-length-plan-codes p T = length-listed (λ i. codeOf T (planNumber p i)) (keysOf (p .chain))
+pub length-plan-codes : (p : Plan) (T turns : ℕ) → length (planCodes p T turns) ≡ turns * p .chain .«num_cycles»
+length-plan-codes p T turns = length-listed (λ i. codeOf T (planNumber p i)) (turns * p .chain .«num_cycles»)
 
-pub length-strip : (p : Plan) (T : ℕ) → keysOf (p .chain) ≡ length (planStrip p T)
-length-strip p T = sym (length-set (planCodes p T) 0 0 ∙ length-plan-codes p T)
+pub length-strip : (p : Plan) (T turns : ℕ) → turns * p .chain .«num_cycles» ≡ length (planStrip p T turns)
+length-strip p T turns = sym (length-set (planCodes p T turns) 0 0 ∙ length-plan-codes p T turns)
+
+-- a strip in front, its degrees said otherwise
+pub as-degrees : (p : Plan) (T : ℕ) (xs : List ℕ) {turns k : ℕ} {ys : List ℕ} → turns ≡ k → Fronted (planStrip p T turns) xs ys
+    → Fronted (planStrip p T k) xs ys
+as-degrees p T xs {ys = ys} e f = subst (λ (t : ℕ). Fronted (planStrip p T t) xs ys) e f
+
+-- both octaves of an equalized scale, or the one of any other
+pub whole-degrees : (p : Plan) (turns : ℕ) → Sound p → turns ≡ turnsOf p → turns ≤ 131070 → Degrees p turns
+whole-degrees p turns sound is few = by (p .equalized) refl is
+  where
+    by : (b : Bool) → p .equalized ≡ b → turns ≡ pick b (2 * p .chain .«reduced_period») (p .chain .«reduced_period») → Degrees p turns
+    by true t e =
+        record {
+          some = omega (arith, some-places (p .chain) (sound .unbroken));
+          few = few;
+          octave = λ f. absurd (let z : ⊥ = omega (arith, ap {B = ℕ} (λ (b : Bool). pick b 1 0) (sym f ∙ t)) in z);
+        }
+    by false t e = record { some = omega (arith, some-places (p .chain) (sound .unbroken)); few = few; octave = λ f. e }
+
+-- the octave alone
+pub octave-degrees : (p : Plan) (turns : ℕ) → Sound p → turns ≡ p .chain .«reduced_period» → turns ≤ 131070 → Degrees p turns
+octave-degrees p turns sound is few = record { some = omega (arith, some-places (p .chain) (sound .unbroken)); few = few; octave = λ f. is }
 
 -- a key's number is below T
 pub number-below : (p : Plan) → Sound p → (i j T : ℕ) → j ≡ planNumber p i → T ≡ totalOf p → j < T
@@ -84,24 +106,26 @@ turn-most p sound T turn layer is e = omega (arith, ap (λ (k : ℕ). k * p .cha
 
 -- ---- home, stored over the code of key 0
 
-module _ (p : Plan) (T : ℕ) (sound : Sound p) (xs : List ℕ) (room : keysOf (p .chain) ≤ length xs) where
-  pub some-codes : 0 < keysOf (p .chain)
-  some-codes = mul-pos (some-places (p .chain) (sound .unbroken)) (sound .unbroken .some-cycles)
+module _ (p : Plan) (T turns : ℕ) (sound : Sound p) (d : Degrees p turns) (xs : List ℕ) (room : turns * p .chain .«num_cycles» ≤ length xs) where
+  pub some-codes : 0 < turns * p .chain .«num_cycles»
+  some-codes = mul-pos (d .some) (sound .unbroken .some-cycles)
 
-  pub home-over : {ys : List ℕ} → Spread (InTurns (p .chain .«num_cycles») (p .chain .«reduced_period»)) (λ i. codeOf T (planNumber p i)) xs ys
-      → Fronted (planStrip p T) xs (set ys 0 0)
+  pub home-over : {ys : List ℕ} → Spread (InTurns (p .chain .«num_cycles») turns) (λ i. codeOf T (planNumber p i)) xs ys
+      → Fronted (planStrip p T turns) xs (set ys 0 0)
   home-over s =
-      let text = planCodes p T in
+      let text = planCodes p T turns in
       ap (λ (l : List ℕ). set l 0 0)
-      (spread-front (p .chain .«num_cycles») (p .chain .«reduced_period») (λ i. codeOf T (planNumber p i)) (sound .unbroken .some-cycles) room s)
-      ∙ set-append-left text (drop (length text) xs) 0 0 (omega (arith, length-plan-codes p T, some-codes))
+      (spread-front (p .chain .«num_cycles») turns (λ i. codeOf T (planNumber p i)) (sound .unbroken .some-cycles) room s)
+      ∙ set-append-left text (drop (length text) xs) 0 0 (omega (arith, length-plan-codes p T turns, some-codes))
       ∙ ap (λ (k : ℕ). set text 0 0 ++ drop k xs) (sym (length-set text 0 0))
 
 -- the codes of the layers, of a scale that is not equalized
-pub codes-listed : (p : Plan) (T : ℕ) {xs ys : List ℕ} → p .equalized ≡ false
+pub codes-listed : (p : Plan) (T turns : ℕ) {xs ys : List ℕ} → Degrees p turns → p .equalized ≡ false
     → Spread (InTurns (p .chain .«num_cycles») (p .chain .«reduced_period»)) (λ i. codeOf T (listedNumber (p .runs) (p .chain) i)) xs ys
-    → Spread (InTurns (p .chain .«num_cycles») (p .chain .«reduced_period»)) (λ i. codeOf T (planNumber p i)) xs ys
-codes-listed p T other s = spread-as (λ i t. ap (codeOf T) (number-listed p other i)) s
+    → Spread (InTurns (p .chain .«num_cycles») turns) (λ i. codeOf T (planNumber p i)) xs ys
+codes-listed p T turns {xs} {ys} d other s =
+    subst (λ (k : ℕ). Spread (InTurns (p .chain .«num_cycles») k) (λ i. codeOf T (planNumber p i)) xs ys) (sym (d .octave other))
+    (spread-as (λ i t. ap (codeOf T) (number-listed p other i)) s)
 
 -- ---- question 9
 
@@ -117,10 +141,6 @@ every-false test (suc count) i h e = by (eqb i count) refl (every-false test cou
     by true t ih = ap (λ (b : Bool). b && every test count) (ap test (sym (eqb-true i count t)) ∙ e)
     by false t ih = ap (λ (b : Bool). test count && b) (ih (omega (arith, eqb-false i count t)) e) ∙ and-false (test count)
 
--- the kind of a key's layer in a layout
-abbrev kindIn : Layout → ℕ → Layer
-kindIn l i = kindAt (l .octave) (l .generator) (l .letters) (l .start) (l .pattern) i
-
 module _ (r : IsomorphicLayout) (l : Layout) (ok : Accepted r l) where
   abbrev P : ℕ
   P = l .octave
@@ -135,7 +155,7 @@ module _ (r : IsomorphicLayout) (l : Layout) (ok : Accepted r l) where
   all-lamps : T ≤ 202 → hasLampsIn l ≡ true
   unfolding hasLamps
   all-lamps h =
-      every-true (λ i. lampable (kindIn l i)) P (λ i. ap lampable (kind-in i) ∙ few-layers T (numberIn l i) h)
+      every-true (λ i. lampable (kindIn l i)) (stripLengthIn l) (λ i. ap lampable (kind-in i) ∙ few-layers T (numberIn l i) h)
 
   -- a key of layer 101, which is sharp layer 100
   met : 202 < T → (key : ℕ) × (key < P) × (numberIn l key ≡ 101)
@@ -152,11 +172,19 @@ module _ (r : IsomorphicLayout) (l : Layout) (ok : Accepted r l) where
             first-keys r l ok t 101 (div-eq-of-lt low) ∙ mod-eq-of-lt low,
           )
 
+  -- the strip has at least the octave's keys
+  in-the-strip : (i : ℕ) → i < P → i < stripLengthIn l
+  in-the-strip i h = by (equalized (l .pattern))
+    where
+      by : (b : Bool) → i < pick b (2 * P) P
+      by true = omega arith
+      by false = h
+
   some-lamp-missing : 202 < T → hasLampsIn l ≡ false
   unfolding hasLamps
   some-lamp-missing h =
       let key = met h in
-      every-false (λ i. lampable (kindIn l i)) P (key .0) (key .1)
+      every-false (λ i. lampable (kindIn l i)) (stripLengthIn l) (key .0) (in-the-strip (key .0) (key .1))
       (ap lampable
       (kind-in (key .0)
       ∙ ap (kindOf T) (key .2)
@@ -189,14 +217,22 @@ module _ (l : Layout) (p : Plan) (k : PlanOf l p) (some : 0 < l .octave) (T : �
   unfolding codeOf kindAt
   code-at i = ap₂ (λ (t j : ℕ). lampCode (kindOf t j)) is (number-is l p k i)
 
-  pub strip-is : planStrip p T ≡ stripIn l
-  unfolding stripOf lampOf
-  strip-is =
+  codes-are : (turns count : ℕ) → turns * p .chain .«num_cycles» ≡ count
+      → planStrip p T turns ≡ codesOf (l .octave) (l .generator) (l .letters) (l .start) (l .pattern) count
+  unfolding codesOf lampOf
+  codes-are turns count many =
       let f : ℕ → ℕ = λ i. lampCode (kindIn l i) in
       ap (λ (xs : List ℕ). set xs 0 0)
-      (joined-same (λ i. codeOf T (planNumber p i) ∷ []) (λ i. f i ∷ []) (keysOf (p .chain)) (λ i h. ap (λ (x : ℕ). x ∷ []) (code-at i))
-      ∙ ap (joined (λ i. f i ∷ [])) (keys-are l p k some))
-      ∙ home-first f (l .octave)
+      (joined-same (λ i. codeOf T (planNumber p i) ∷ []) (λ i. f i ∷ []) (turns * p .chain .«num_cycles») (λ i h. ap (λ (x : ℕ). x ∷ []) (code-at i))
+      ∙ ap (joined (λ i. f i ∷ [])) many)
+      ∙ home-first f count
+
+  pub strip-is : planStrip p T (turnsOf p) ≡ stripIn l
+  unfolding stripOf
+  strip-is = codes-are (turnsOf p) (stripLengthIn l) (turns-fill l p k some)
+
+  pub octave-strip-is : (turns : ℕ) → turns ≡ p .chain .«reduced_period» → planStrip p T turns ≡ octaveStripIn l
+  octave-strip-is turns is = codes-are turns (l .octave) (ap (λ (x : ℕ). x * p .chain .«num_cycles») is ∙ keys-are l p k some)
 
   pub lamp-is : (i : ℕ) → (i ≡ 0 → ⊥) → codeOf T (planNumber p i) ≡ lampIn l i
   unfolding lampOf

@@ -2,13 +2,16 @@
 use Prim.Native.Nat.{ℕ, zero, suc, _+_, _*_, _-_, _≤_, _<_}
 use mathlib.Core.Path.{_≡_, refl, sym, ap, subst, _∙_}
 use mathlib.Core.Bool.{Bool, true, false}
-use mathlib.Core.List.{[], _∷_}
+use mathlib.Core.List.{List, [], _∷_, _++_}
 use native.Mathlib.Nat.{one-mul, mul-le-mul}
 use native.Mathlib.Omega.{arith}
 use lib.Dec.{eqb, ltb}
-use borrow.Author.Tests.{eqb-true, leb-true, ltb-true}
+use lib.ListN.{take}
+use lib.Seq.{take-append-seam}
+use borrow.Author.Tests.{ne-eqb, eqb-true, leb-true, ltb-true}
 use Rattle.answer.specs.Choice.{pick}
-use Rattle.text.proofs.Joined.{length-joined-each}
+use Rattle.text.specs.Writing.{joined}
+use Rattle.text.proofs.Joined.{joined-add, length-joined-each}
 use Rattle.layout.specs.declared.IsomorphicLayout.{IsomorphicLayout}
 use Rattle.layout.specs.Layouts.{Layout, Accepted}
 use Rattle.layout.proofs.Finding.{accepted}
@@ -17,8 +20,8 @@ use Rattle.layout_layers.specs.declared.Layer.{Layer}
 use Rattle.layout_layers.specs.declared.Layer.the-variants.{Natural, Sharp, Enharmonic, Flat}
 use Rattle.layout_layers.specs.KeyLayers.{kindOf, numberIn, countIn}
 use Rattle.layout_layers.proofs.Counts.{keys-by-count}
-use Rattle.layout_lamps.specs.Lamps.{lampCode, kindAt, lampOf, stripOf, lampable, lampIn, stripIn, hasLampsIn}
-use Rattle.layout_lamps.specs.Theorems.{LampsByCount, LampsBoundTheOctave, CodesFitBytes, OneHome, StripsAreWhole}
+use Rattle.layout_lamps.specs.Lamps.{lampCode, kindAt, lampOf, codesOf, stripOf, lampable, lampIn, stripLengthIn, stripIn, hasLampsIn, kindIn}
+use Rattle.layout_lamps.specs.Theorems.{LampsByCount, LampsBoundTheOctave, CodesFitBytes, OneHome, StripsAreWhole, FirstOctaveStays, OctaveByItsLayer}
 use Rattle.layout_lamps.proofs.StripLaws.{few-layers, lamps-by-count-at, lamp-home}
 
 pub lamps-by-count : LampsByCount
@@ -35,8 +38,33 @@ lamps-bound-the-octave r l ok has =
     omega (arith, most, keys-by-count r l ok)
 
 pub strips-are-whole : StripsAreWhole
-unfolding stripOf
-strips-are-whole l = length-joined-each (λ i. lampIn l i ∷ []) 1 (λ i. refl) (l .octave) ∙ one-mul (l .octave)
+unfolding stripOf codesOf
+strips-are-whole l = length-joined-each (λ i. lampIn l i ∷ []) 1 (λ i. refl) (stripLengthIn l) ∙ one-mul (stripLengthIn l)
+
+-- ---- what the first octave was, it is
+
+pub first-octave-stays : FirstOctaveStays
+unfolding stripOf codesOf
+first-octave-stays =
+    record {
+      unchanged = λ l e. ap (λ (b : Bool). joined (λ i. lampIn l i ∷ []) (pick b (2 * l .octave) (l .octave))) e;
+      first-half =
+          λ l e.
+          let P = l .octave in
+          let f : ℕ → List ℕ = λ i. lampIn l i ∷ [] in
+          let more = joined (λ i. f (P + i)) P in
+          ap (λ (b : Bool). take P (joined f (pick b (2 * P) P))) e
+          ∙ ap (λ (k : ℕ). take P (joined f k)) (let q : 2 * P ≡ P + P = omega arith in q)
+          ∙ ap (take P) (joined-add f P P)
+          ∙ ap (λ (k : ℕ). take k (joined f P ++ more)) (sym (length-joined-each f 1 (λ i. refl) P ∙ one-mul P))
+          ∙ take-append-seam (joined f P) more;
+    }
+
+pub octave-by-its-layer : OctaveByItsLayer
+unfolding lampOf
+octave-by-its-layer r l ok =
+    let some : 0 < l .octave = accepted r l ok .positive in
+    ap (λ (b : Bool). pick b 0 (lampCode (kindIn l (l .octave)))) (ne-eqb (l .octave) 0 (λ e. omega (arith, some, e)))
 
 code-below : (k : Layer) → lampable k ≡ true → lampCode k < 256
 unfolding lampCode

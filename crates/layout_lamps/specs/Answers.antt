@@ -7,13 +7,13 @@ use Rattle.math.specs.Division.{remainder}
 use Rattle.layout.specs.declared.IsomorphicLayout.{IsomorphicLayout}
 use Rattle.layout.specs.Layouts.{Layout, layoutOutcome}
 use Rattle.layout.specs.Answers.{ofLayout}
-use Rattle.layout_lamps.specs.Lamps.{lampOf, stripOf, hasLamps, lampIn, stripIn, hasLampsIn}
+use Rattle.layout_lamps.specs.Lamps.{lampOf, stripOf, hasLamps, lampIn, stripLengthIn, stripIn, hasLampsIn}
 
 unfoldable pub getStrip : IsomorphicLayout → Outcome (List ℕ)
 unfolding layoutOutcome hasLamps stripOf
 getStrip r = ofLayout r (λ (l : Layout). ask 9 (hasLampsIn l) (given (stripIn l)))
 
--- "The board repeats the strip each octave": a key's code, below 0 too, is that of its place in the octave.
+-- "The board repeats the strip": a key's code, below 0 too, is the strip's at the remainder, never negative, by the strip's length.
 unfoldable pub getLamp : IsomorphicLayout → ℤ → Outcome ℕ
 unfolding layoutOutcome hasLamps lampOf
-getLamp r key = ofLayout r (λ (l : Layout). ask 9 (hasLampsIn l) (given (lampIn l (remainder key (l .octave)))))
+getLamp r key = ofLayout r (λ (l : Layout). ask 9 (hasLampsIn l) (given (lampIn l (remainder key (stripLengthIn l)))))

@@ -1,4 +1,5 @@
--- Document 01's bench examples that are marked P: one list of data, in the document's order, and one theorem that each holds.
+-- Document 01's bench examples that are marked P, as document 02 amends them: one list of data, in the document's order, and one theorem
+-- that each holds.
 use lib.IntN.{pos}
 use Prim.Native.Nat.{ℕ}
 use mathlib.Core.List.{List, [], _∷_}
@@ -51,9 +52,9 @@ examples =
     -- "period 5, generator 3, 7 symbols, origin 3: key 1 has indices 5 and 0; key 2 has 2 and 2."
     ∷ indices 5 3 7 3 1 (5, 0)
     ∷ indices 5 3 7 3 2 (2, 2)
-    -- "code 1, 7, 11: equalized; strip 0 1 255 255 255 255 1."
+    -- "code 1, 7, 11: equalized", and "the 7-step example becomes 0 1 255 255 255 255 1 1 1 255 255 255 255 1" (document 02, W-204)
     ∷ scale 1 7 11 (101 ∷ 113 ∷ 117 ∷ 97 ∷ 108 ∷ 105 ∷ 122 ∷ 101 ∷ 100 ∷ [])
-    ∷ strip 1 7 11 (0 ∷ 1 ∷ 255 ∷ 255 ∷ 255 ∷ 255 ∷ 1 ∷ [])
+    ∷ strip 1 7 11 (0 ∷ 1 ∷ 255 ∷ 255 ∷ 255 ∷ 255 ∷ 1 ∷ 1 ∷ 1 ∷ 255 ∷ 255 ∷ 255 ∷ 255 ∷ 1 ∷ [])
     ∷ []
 
 -- What an example says.

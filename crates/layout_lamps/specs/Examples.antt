@@ -54,7 +54,13 @@ abbrev pub lampExamples : List LampExample
 lampExamples =
     record { layout = layout 2 7 8; key = pos 3; code = given 2 }
     ∷ record { layout = layout 1 7 11; key = pos 0; code = given 0 }
-    ∷ record { layout = layout 1 7 11; key = pos 7; code = given 0 }
+    -- the entry at the octave has its layer's colour; the strip of two octaves repeats, above and below
+    ∷ record { layout = layout 1 7 11; key = pos 7; code = given 1 }
+    ∷ record { layout = layout 1 7 11; key = pos 14; code = given 0 }
+    ∷ record { layout = layout 1 7 11; key = negsuc 6; code = given 1 }
+    ∷ record { layout = layout 1 7 11; key = negsuc 13; code = given 0 }
+    -- enharmonic at the octave: Porcupine[8] with 8 and 13
+    ∷ record { layout = layout 3 8 13; key = pos 8; code = given 255 }
     ∷ record { layout = layout 1 7 11; key = pos 9; code = given 255 }
     ∷ record { layout = layout 1 707 1111; key = pos 100; code = given 101 }
     ∷ record { layout = layout 1 714 1122; key = pos 0; code = refused 9 }

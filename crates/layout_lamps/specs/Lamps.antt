@@ -1,4 +1,4 @@
--- The lamp strip of a layout (document 01, "Lamps and book").
+-- The lamp strip of a layout (document 01, "Lamps and book", as document 02 amends it: W-204).
 use Prim.Native.Nat.{ℕ, zero, suc, _+_}
 use mathlib.Core.Bool.{Bool, true, false, _&&_}
 use mathlib.Core.List.{List, [], _∷_}
@@ -9,7 +9,7 @@ use Rattle.mos.specs.declared.Mos.{Mos}
 use Rattle.layout.specs.Layouts.{Layout}
 use Rattle.layout_layers.specs.declared.Layer.{Layer}
 use Rattle.layout_layers.specs.declared.Layer.the-variants.{Natural, Sharp, Enharmonic, Flat}
-use Rattle.layout_layers.specs.KeyLayers.{layerNumber, layerCount, kindOf}
+use Rattle.layout_layers.specs.KeyLayers.{entryCount, layerNumber, layerCount, kindOf}
 
 -- "natural 1, sharp k 2 + k, flat k 102 + k, enharmonic 255"
 unfoldable pub lampCode : Layer → ℕ
@@ -27,18 +27,23 @@ unfoldable pub kindAt : (P G N start : ℕ) → Mos → ℕ → Layer
 unfolding kindOf layerCount layerNumber
 kindAt P G N start m i = kindOf (layerCount P G m) (layerNumber P G N start m i)
 
--- The code of key i of the octave: "Other keys, from the first P layer entries".
+-- The code of entry i: "Only key 0 is home", any other entry has the colour of its layer.
 unfoldable pub lampOf : (P G N start : ℕ) → Mos → ℕ → ℕ
 unfolding lampCode kindAt
 lampOf P G N start m i = pick (eqb i 0) home (lampCode (kindAt P G N start m i))
 
--- "A lamp strip holds P one-byte codes"
-abbrev pub stripLength : ℕ → ℕ
-stripLength P = P
+-- The one-byte codes of the first entries.
+unfoldable pub codesOf : (P G N start : ℕ) → Mos → (count : ℕ) → List ℕ
+unfolding joined lampOf
+codesOf P G N start m count = joined (λ i. lampOf P G N start m i ∷ []) count
+
+-- "A lamp strip holds P one-byte codes"; "2 × octave codes when sharpness is 0, from all layer entries" (document 02, W-204).
+abbrev pub stripLength : ℕ → Mos → ℕ
+stripLength P m = entryCount P m
 
 unfoldable pub stripOf : (P G N start : ℕ) → Mos → List ℕ
-unfolding joined lampOf
-stripOf P G N start m = joined (λ i. lampOf P G N start m i ∷ []) (stripLength P)
+unfolding codesOf
+stripOf P G N start m = codesOf P G N start m (stripLength P m)
 
 -- Question 9, of one layer: a sharp or flat layer's number is below 100.
 abbrev pub lampable : Layer → Bool
@@ -52,18 +57,29 @@ abbrev pub every : (ℕ → Bool) → ℕ → Bool
 every test zero = true
 every test (suc count) = test count && every test count
 
--- 9. "Is every sharp and flat layer number of the lamp strip below 100?": of the first P entries.
+-- 9. "Is every sharp and flat layer number of the lamp strip below 100?"
 unfoldable pub hasLamps : (P G N start : ℕ) → Mos → Bool
 unfolding kindAt
-hasLamps P G N start m = every (λ i. lampable (kindAt P G N start m i)) (stripLength P)
+hasLamps P G N start m = every (λ i. lampable (kindAt P G N start m i)) (stripLength P m)
 
 -- ---- in a layout
 
 abbrev pub lampIn : Layout → ℕ → ℕ
 lampIn l i = lampOf (l .octave) (l .generator) (l .letters) (l .start) (l .pattern) i
 
+abbrev pub stripLengthIn : Layout → ℕ
+stripLengthIn l = stripLength (l .octave) (l .pattern)
+
 abbrev pub stripIn : Layout → List ℕ
 stripIn l = stripOf (l .octave) (l .generator) (l .letters) (l .start) (l .pattern)
 
 abbrev pub hasLampsIn : Layout → Bool
 hasLampsIn l = hasLamps (l .octave) (l .generator) (l .letters) (l .start) (l .pattern)
+
+-- Document 01's strip, before W-204: the codes of one octave, whatever the sharpness. The key table still has these.
+abbrev pub octaveStripIn : Layout → List ℕ
+octaveStripIn l = codesOf (l .octave) (l .generator) (l .letters) (l .start) (l .pattern) (l .octave)
+
+-- The kind of an entry's layer.
+abbrev pub kindIn : Layout → ℕ → Layer
+kindIn l i = kindAt (l .octave) (l .generator) (l .letters) (l .start) (l .pattern) i

@@ -1,10 +1,12 @@
 -- What the parts behind the calls promise: the strip by the plan that the code follows.
-use Prim.Native.Nat.{ℕ}
+use Prim.Native.Nat.{ℕ, _*_, _≤_, _<_}
+use mathlib.Core.Bool.{false}
+use mathlib.Core.Path.{_≡_}
 use mathlib.Core.List.{List}
 use lib.ListN.{set}
 use Rattle.layout_layers.specs.declared.parts.Plan.{Plan}
 use Rattle.layout_layers.specs.KeyLayers.{kindOf}
-use Rattle.layout_layers.specs.Parts.{keysOf, planNumber, listed}
+use Rattle.layout_layers.specs.Parts.{planNumber, listed}
 use Rattle.layout_lamps.specs.Lamps.{lampCode}
 
 -- The code of a layer's number, of T.
@@ -12,10 +14,16 @@ unfoldable pub codeOf : (T j : ℕ) → ℕ
 unfolding lampCode kindOf
 codeOf T j = lampCode (kindOf T j)
 
--- The codes of all keys of the octave, key 0's as any other's.
-abbrev pub planCodes : Plan → ℕ → List ℕ
-planCodes p T = listed (λ i. codeOf T (planNumber p i)) (keysOf (p .chain))
+-- How many scale degrees are written: of a scale that is not equalized just those of the octave.
+pub record Degrees (p : Plan) (turns : ℕ) : Type 0 where
+  pub some : 0 < turns
+  pub few : turns ≤ 131070
+  pub octave : p .equalized ≡ false → turns ≡ p .chain .«reduced_period»
 
--- The strip: key 0 is home.
-abbrev pub planStrip : Plan → ℕ → List ℕ
-planStrip p T = set (planCodes p T) 0 0
+-- The codes of the first scale degrees, key 0's as any other's.
+abbrev pub planCodes : Plan → (T turns : ℕ) → List ℕ
+planCodes p T turns = listed (λ i. codeOf T (planNumber p i)) (turns * p .chain .«num_cycles»)
+
+-- The strip of so many: key 0 is home.
+abbrev pub planStrip : Plan → (T turns : ℕ) → List ℕ
+planStrip p T turns = set (planCodes p T turns) 0 0

@@ -1,13 +1,13 @@
 -- What holds of every strip. Proofs: proofs/Theorems.antt.
 use Prim.Native.Nat.{ℕ, _≤_, _<_}
 use mathlib.Core.Path.{_≡_}
-use mathlib.Core.Bool.{true}
+use mathlib.Core.Bool.{true, false}
 use lib.Dec.{leb}
-use lib.ListN.{length}
+use lib.ListN.{length, take}
 use Rattle.layout.specs.declared.IsomorphicLayout.{IsomorphicLayout}
 use Rattle.layout.specs.Layouts.{Layout, Accepted}
-use Rattle.layout_layers.specs.KeyLayers.{countIn}
-use Rattle.layout_lamps.specs.Lamps.{lampIn, stripIn, hasLampsIn}
+use Rattle.layout_layers.specs.KeyLayers.{equalized, countIn}
+use Rattle.layout_lamps.specs.Lamps.{lampCode, lampIn, stripLengthIn, stripIn, hasLampsIn, octaveStripIn, kindIn}
 
 -- Theorem: question 9 has the answer yes exactly where T is at most 202.
 abbrev pub LampsByCount : Type 0
@@ -22,11 +22,21 @@ abbrev pub CodesFitBytes : Type 0
 CodesFitBytes =
     (r : IsomorphicLayout) (l : Layout) → Accepted r l → hasLampsIn l ≡ true → (key : ℕ) → lampIn l key < 256
 
--- Theorem: of the keys of an octave, key 0 has home's code and no other has it.
+-- Theorem: of a strip's entries, key 0 has home's code and no other has it.
 pub record OneHome : Type 0 where
   pub zero : (l : Layout) → lampIn l 0 ≡ 0
-  pub others : (l : Layout) (key : ℕ) → 0 < key → key < l .octave → 0 < lampIn l key
+  pub others : (l : Layout) (entry : ℕ) → 0 < entry → entry < stripLengthIn l → 0 < lampIn l entry
 
--- Theorem: a strip has a code for each key of the octave.
+-- Theorem: a strip has a code for each entry: for each key of the octave, or of two where the scale is equalized.
 abbrev pub StripsAreWhole : Type 0
-StripsAreWhole = (l : Layout) → length (stripIn l) ≡ l .octave
+StripsAreWhole = (l : Layout) → length (stripIn l) ≡ stripLengthIn l
+
+-- Theorem: what W-204 leaves as it was. Where sharpness is not 0 the strip is document 01's, and at sharpness 0 its first half is.
+pub record FirstOctaveStays : Type 0 where
+  pub unchanged : (l : Layout) → equalized (l .pattern) ≡ false → stripIn l ≡ octaveStripIn l
+  pub first-half : (l : Layout) → equalized (l .pattern) ≡ true → take (l .octave) (stripIn l) ≡ octaveStripIn l
+
+-- Theorem: the entry at the octave has the colour of its layer.
+abbrev pub OctaveByItsLayer : Type 0
+OctaveByItsLayer =
+    (r : IsomorphicLayout) (l : Layout) → Accepted r l → lampIn l (l .octave) ≡ lampCode (kindIn l (l .octave))

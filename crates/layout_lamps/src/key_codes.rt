@@ -1,4 +1,4 @@
-// The codes of all keys of an octave: parts, and no entry points. Callers have asked questions 1 to 4, 18, 9 and 10.
+// The codes of all keys of an octave, or of two: parts, and no entry points. Callers have asked questions 1 to 4, 18, 9 and 10.
 //
 // The walk along the chain that `layout_layers::parts` makes for layers, once more, for elements of one byte. Once codes are as wide as
 // layers, layers can be written in place and each be turned into its code by `parts::code`: this module then goes.
@@ -25,7 +25,7 @@ ghost use Rattle.layout_layers.specs.Parts.{
   Sound,
   planNumber,
 };
-ghost use Rattle.layout_lamps.specs.Parts.{codeOf};
+ghost use Rattle.layout_lamps.specs.Parts.{codeOf, Degrees};
 
 // The codes of one scale degree, a code for each cycle. The first comes from the caller: for one cycle it is the whole layer's.
 fn put_turn(out: &mut [u8], total: u16, cycles: u16, turn: u32, layer: u16, first_code: u8)
@@ -107,13 +107,12 @@ fn put_chain(out: &mut [u8], plan: Plan, total: u16)
     }
 }
 
-// The codes of all keys of an equalized scale.
-fn put_alternating(out: &mut [u8], plan: Plan, total: u16)
-    requires { ⌜ Sound plan × (plan .equalized ≡ true) × (total ≡ totalOf plan) × (total ≤ 202) × (keysOf (plan .chain) ≤ length (now out)) ⌝ }
-    ensures { λ r. ⌜ Spread (InTurns (plan .chain .«num_cycles») (plan .chain .«reduced_period»)) (λ i. codeOf total (planNumber plan i)) (now (out .entry)) (now (out .exit)) ⌝ }
+// The codes of the first scale degrees of an equalized scale.
+fn put_alternating(out: &mut [u8], plan: Plan, total: u16, turns: u32)
+    requires { ⌜ Sound plan × (plan .equalized ≡ true) × (total ≡ totalOf plan) × (total ≤ 202) × (turns ≤ 131070) × (turns * plan .chain .«num_cycles» ≤ length (now out)) ⌝ }
+    ensures { λ r. ⌜ Spread (InTurns (plan .chain .«num_cycles») turns) (λ i. codeOf total (planNumber plan i)) (now (out .entry)) (now (out .exit)) ⌝ }
 {
     let chain = plan.chain;
-    let turns = chain.reduced_period as u32;
     let mut turn: u32 = 0;
     while turn < turns {
         let layer = layout_layers::parts::alternate(
@@ -128,13 +127,13 @@ fn put_alternating(out: &mut [u8], plan: Plan, total: u16)
     }
 }
 
-// The codes of all keys of the octave, key 0's as any other's.
-pub(crate) fn put_codes(out: &mut [u8], plan: Plan, total: u16)
-    requires { ⌜ Sound plan × (total ≡ totalOf plan) × (total ≤ 202) × (keysOf (plan .chain) ≤ length (now out)) ⌝ }
-    ensures { λ r. ⌜ Spread (InTurns (plan .chain .«num_cycles») (plan .chain .«reduced_period»)) (λ i. codeOf total (planNumber plan i)) (now (out .entry)) (now (out .exit)) ⌝ }
+// The codes of the first scale degrees, key 0's as any other's.
+pub(crate) fn put_codes(out: &mut [u8], plan: Plan, total: u16, turns: u32)
+    requires { ⌜ Sound plan × (total ≡ totalOf plan) × (total ≤ 202) × Degrees plan turns × (turns * plan .chain .«num_cycles» ≤ length (now out)) ⌝ }
+    ensures { λ r. ⌜ Spread (InTurns (plan .chain .«num_cycles») turns) (λ i. codeOf total (planNumber plan i)) (now (out .entry)) (now (out .exit)) ⌝ }
 {
     if plan.equalized {
-        put_alternating(out, plan, total);
+        put_alternating(out, plan, total, turns);
         return;
     }
     put_chain(out, plan, total);

@@ -1,4 +1,5 @@
-// The lamp strip of a layout (document 01, "Lamps and book"): a one-byte code for each key of the octave.
+// The lamp strip of a layout (document 01, "Lamps and book"): a one-byte code for each key of the octave, of two octaves where the scale is
+// equalized, since its colours may alternate from octave to octave (document 02, W-204).
 //
 // Home is 0, natural keys have 1, sharp layers 2 to 101, flat layers 102 to 201 and enharmonic ones 255.
 // specs/: Lamps defines, Answers says what each call answers, Theorems and Examples state what holds.
@@ -20,7 +21,7 @@ ghost use Rattle.answer.specs.Refusals.{numberOutcome, countOutcome};
 ghost use Rattle.layout.specs.Answers.{inRoom};
 ghost use Rattle.layout_lamps.specs.Answers.{getStrip, getLamp};
 
-// The lamp code of each key of an octave (1, 2, 3, 4, 18, 9, 10).
+// The lamp code of each key of an octave, of two octaves where the scale is equalized (1, 2, 3, 4, 18, 9, 10).
 pub fn lamp_strip(layout: IsomorphicLayout, out: &mut [u8]) -> CountAnswer
     ensures { λ r. ⌜ Filled (inRoom (length (now (out .entry))) (getStrip layout)) (countOutcome r) (now (out .entry)) (now (out .exit)) ⌝ }
 {
@@ -48,12 +49,12 @@ pub fn strip_len(layout: IsomorphicLayout) -> CountAnswer
             if 202 < layout_layers::parts::total_of(plan) {
                 return CountAnswer::Refused(Refusal::LampLayer);
             }
-            CountAnswer::Given(found.octave as usize)
+            CountAnswer::Given(layout_layers::parts::entries(plan))
         }
     }
 }
 
-// The lamp code of one key, whatever its octave, below 0 too (1, 2, 3, 4, 18, 9).
+// The lamp code of one key, whatever its octave, below 0 too: what `lamp_strip` writes repeats (1, 2, 3, 4, 18, 9).
 pub fn lamp(layout: IsomorphicLayout, key: i32) -> NumberAnswer
     ensures { λ r. ⌜ numberOutcome r ≡ getLamp layout key ⌝ }
 {
@@ -65,16 +66,13 @@ pub fn lamp(layout: IsomorphicLayout, key: i32) -> NumberAnswer
             if 202 < total {
                 return NumberAnswer::Refused(Refusal::LampLayer);
             }
-            let place = math::parts::rem_u16(key, found.octave);
+            let entries = layout_layers::parts::entry_count(plan, found.octave);
+            let place = math::parts::rem_u32(key, entries);
             if place == 0 {
                 return NumberAnswer::Given(0);
             }
             let solved = euclid::solve(found.octave, found.generator);
-            let number = layout_layers::parts::number_of(
-                plan,
-                solved.generator_inverse,
-                place as u32,
-            );
+            let number = layout_layers::parts::number_of(plan, solved.generator_inverse, place);
             NumberAnswer::Given(parts::code(total, number) as u16)
         }
     }

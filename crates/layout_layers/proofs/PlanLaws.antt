@@ -310,7 +310,7 @@ module _ (l : Layout) (p : Plan) (k : PlanOf l p) where
   pub keys-are : 0 < l .octave → keysOf (p .chain) ≡ l .octave
   keys-are some = ap₂ (λ (x y : ℕ). x * y) (k .period-is) (k .cycles-are) ∙ sym (period-is (l .octave) (l .generator) some)
 
-  turns-fill : 0 < l .octave → turnsOf p * p .chain .«num_cycles» ≡ entryCount (l .octave) (l .pattern)
+  pub turns-fill : 0 < l .octave → turnsOf p * p .chain .«num_cycles» ≡ entryCount (l .octave) (l .pattern)
   turns-fill some = ap (λ (b : Bool). pick b (2 * p .chain .«reduced_period») (p .chain .«reduced_period») * p .chain .«num_cycles») (k .equalized-is) ∙ go (equalized (l .pattern))
     where
       go : (b : Bool) → pick b (2 * p .chain .«reduced_period») (p .chain .«reduced_period») * p .chain .«num_cycles» ≡ pick b (2 * l .octave) (l .octave)

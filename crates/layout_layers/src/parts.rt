@@ -198,7 +198,7 @@ pub fn total_of(plan: Plan) -> u16
 }
 
 // How many scale degrees the entries have.
-fn turns_of(plan: Plan) -> u32
+pub fn turns_of(plan: Plan) -> u32
     ensures { λ r. ⌜ (r ≡ turnsOf plan) × (r ≤ 131070) ⌝ }
 {
     let chain = plan.chain;
@@ -209,7 +209,7 @@ fn turns_of(plan: Plan) -> u32
 }
 
 // How many entries there are, by the octave.
-pub(crate) fn entry_count(plan: Plan, octave: u16) -> u32
+pub fn entry_count(plan: Plan, octave: u16) -> u32
     ensures { λ r. ⌜ (r ≡ pick (plan .equalized) (2 * octave) octave) × (r ≤ 131070) ⌝ }
 {
     if plan.equalized {

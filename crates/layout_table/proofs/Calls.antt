@@ -1,6 +1,6 @@
 -- From what was asked to what the calls answer: the lines of a layout's speller and strip are its table, and one law for each way in which a call ends.
 use Prim.Native.Nat.{ℕ, _+_, _≤_, _<_}
-use mathlib.Core.Path.{_≡_, sym, ap, ap₂, _∙_}
+use mathlib.Core.Path.{_≡_, refl, sym, ap, ap₂, _∙_}
 use mathlib.Core.Bool.{Bool}
 use mathlib.Core.List.{List, _++_}
 use native.Mathlib.Omega.{arith}
@@ -21,13 +21,13 @@ use Rattle.layout_layers.specs.declared.parts.Plan.{Plan}
 use Rattle.layout_layers.specs.KeyLayers.{countIn}
 use Rattle.layout_layers.specs.Parts.{keysOf, totalOf, PlanOf, Fronted}
 use Rattle.layout_layers.proofs.PlanLaws.{count-is, keys-are}
-use Rattle.layout_layers.proofs.SpreadLaws.{listed-at}
+use Rattle.layout_layers.proofs.SpreadLaws.{listed-at, length-listed}
 use Rattle.layout_speller.specs.declared.speller.Speller.{Speller}
 use Rattle.layout_speller.specs.Parts.{SpellerOf}
-use Rattle.layout_lamps.specs.Lamps.{stripOf, lampIn, stripIn, hasLampsIn}
+use Rattle.layout_lamps.specs.Lamps.{codesOf, lampIn, hasLampsIn, octaveStripIn}
 use Rattle.layout_lamps.specs.Parts.{planStrip}
-use Rattle.layout_lamps.proofs.StripLaws.{lamps-by-count-at, strip-is}
-use Rattle.layout_lamps.proofs.Theorems.{few-numbers, lamps-bound-the-octave, strips-are-whole}
+use Rattle.layout_lamps.proofs.StripLaws.{lamps-by-count-at, octave-strip-is}
+use Rattle.layout_lamps.proofs.Theorems.{few-numbers, lamps-bound-the-octave}
 use Rattle.line.specs.Lines.{lineOutcome}
 use Rattle.line.specs.declared.Line.{Line}
 use Rattle.layout_table.specs.Tables.{keyLine, tableIn, getTable, layoutOn, lineTable, refusalLine, outputOf, output}
@@ -94,14 +94,15 @@ module _ (l : Layout) (ok : Printable l) where
     pub lamps-room : (n : ℕ) → l .octave ≤ n → keysOf (p .chain) ≤ n
     lamps-room n long = omega (arith, keys-are l p w some)
 
-    pub lamps-put : (xs ys : List ℕ) → Fronted (planStrip p T) xs ys → LampsIn l ys
-    unfolding stripOf
+    pub lamps-put : (xs ys : List ℕ) → Fronted (planStrip p T (p .chain .«reduced_period»)) xs ys → LampsIn l ys
+    unfolding codesOf
     lamps-put xs ys front =
-        let strip = stripIn l in
-        let is-strip : planStrip p T ≡ strip = strip-is l p w some T total in
+        let strip = octaveStripIn l in
+        let whole : length strip ≡ l .octave = length-listed (lampIn l) (l .octave) in
+        let is-strip : planStrip p T (p .chain .«reduced_period») ≡ strip = octave-strip-is l p w some T total _ refl in
         record {
           lamps = λ key h. ap (λ (zs : List ℕ). getD zs key 0) (front ∙ ap (λ (t : List ℕ). t ++ drop (length t) xs) is-strip)
-              ∙ List·getD-append strip (drop (length strip) xs) 0 key (omega (arith, h, strips-are-whole l))
+              ∙ List·getD-append strip (drop (length strip) xs) 0 key (omega (arith, h, whole))
               ∙ listed-at (lampIn l) (l .octave) key h;
         }
 

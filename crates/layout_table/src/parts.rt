@@ -51,7 +51,8 @@ fn put_lamps(found: Found, strip: &mut [u8])
 {
     let plan = layout_layers::parts::plan_of(found);
     let total = layout_layers::parts::total_of(plan);
-    layout_lamps::parts::put_strip(strip, plan, total);
+    let chain = plan.chain;
+    layout_lamps::parts::put_strip(strip, plan, total, chain.reduced_period as u32);
 }
 
 // How many bytes the lines of the first keys have without their names.

@@ -1,4 +1,4 @@
--- Questions 1 to 4, 18 and 9, then the octave.
+-- Questions 1 to 4, 18 and 9, then the number of entries.
 use mathlib.Core.Path.{sym, ap, _∙_}
 use Rattle.answer.specs.Lent.{counted}
 use Rattle.layout.specs.Parts.{foundOutcome}
@@ -28,16 +28,18 @@ returns c =
     let e = sym (ap foundOutcome (c .before .before .before .before .found .given .1)) ∙ c .before .before .before .before .before .before .ask .ensures in
     ap counted (strip-too-deep _ _ e _ (c .before .before .plan-of .ensures) _ (c .before .total-of .ensures) (c .if1 .taken))
 
-cast-t10 : tie.Need-cast-t10
-cast-t10 c = search needs
+entries-requires : tie.Need-entries-requires
+entries-requires c κs = search needs
 
 returns-2 : tie.Need-returns-2
 returns-2 c = ap counted (strip-refused _ _ (sym (ap foundOutcome (c .before .q .given .1)) ∙ c .before .before .before .ask .ensures))
 
 returns-3 : tie.Need-returns-3
 returns-3 c =
-    let e = sym (ap foundOutcome (c .before .before .before .before .before .found .given .1)) ∙ c .before .before .before .before .before .before .before .ask .ensures in
-    strip-counted _ _ e _ (c .before .before .before .plan-of .ensures) _ (c .before .before .total-of .ensures) (c .before .if1 .left)
+    let found = c .before .before .before .before .before in
+    let e = sym (ap foundOutcome (found .found .given .1)) ∙ found .before .before .ask .ensures in
+    strip-counted _ _ e _ (c .before .before .before .plan-of .ensures) _ (c .before .before .total-of .ensures) (c .before .if1 .left) _
+    (c .entries .ensures)
 
 pub strip-len-spec : {M : Type 1} → statement M
 strip-len-spec =
@@ -49,6 +51,6 @@ strip-len-spec =
     plan-of-requires
     total-of-requires
     returns
-    cast-t10
+    entries-requires
     returns-2
     returns-3)

@@ -12,33 +12,30 @@ use Rattle.layout_lamps.proofs.key_codes.put_alternating.Statement.{sta
 use Rattle.layout_lamps.proofs.key_codes.put_alternating.Tie as tie
 
 abbrev Inv-loop : tie.InvT-loop
-Inv-loop out₀ plan total chain turns turn₀ out turn =
-    Spread (InTurns (plan .chain .«num_cycles») turn) (λ i. codeOf total (planNumber plan i)) out₀ out × (turn ≤ plan .chain .«reduced_period»)
+Inv-loop out₀ plan total turns chain turn₀ out turn =
+    Spread (InTurns (plan .chain .«num_cycles») turn) (λ i. codeOf total (planNumber plan i)) out₀ out × (turn ≤ turns)
 
 abbrev μ-loop : tie.MeasureT-loop
-μ-loop out₀ plan total chain turns turn₀ out turn = plan .chain .«reduced_period» - turn
-
-cast-turns : tie.Need-cast-turns Inv-loop μ-loop
-cast-turns c = search needs
+μ-loop out₀ plan total turns chain turn₀ out turn = turns - turn
 
 loop-holds : tie.Need-loop-holds Inv-loop μ-loop
-loop-holds c = (turns-none (c .before .before .before .args .plan .chain .«num_cycles») _ _, omega arith)
+loop-holds c = (turns-none (c .before .before .args .plan .chain .«num_cycles») _ _, omega arith)
 
 alternate-requires : tie.Need-alternate-requires Inv-loop μ-loop
 alternate-requires c κs =
-    let start = c .before .before .before .before .before in
-    (start .pre .0 .some-letters, start .pre .0 .few-secondaries, start .pre .0 .near-offset, search needs)
+    let start = c .before .before .before .before in
+    (start .pre .0 .some-letters, start .pre .0 .few-secondaries, start .pre .0 .near-offset, omega (arith, c .loop-test .taken, start .pre .4))
 
 mul-code : tie.Need-mul-code Inv-loop μ-loop
 mul-code c =
-    let start = c .before .before .before .before .before .before .before in
+    let start = c .before .before .before .before .before .before in
     let loop = c .before .before .before .loop in
     let plan = start .args .plan in
     omega (arith, turn-most plan (start .pre .0) (start .args .total) (loop .turn) _ (start .pre .2) (layer-alternates plan (loop .turn) _ (start .pre .1) (c .before .alternate .ensures)), start .pre .3)
 
 code-requires : tie.Need-code-requires Inv-loop μ-loop
 code-requires c κs =
-    let start = c .before .before .before .before .before .before .before in
+    let start = c .before .before .before .before .before .before in
     let loop = c .before .before .before .loop in
     let plan = start .args .plan in (
       start .pre .3,
@@ -47,25 +44,25 @@ code-requires c κs =
 
 put-turn-requires : tie.Need-put-turn-requires Inv-loop μ-loop
 put-turn-requires c κs =
-    let start = c .before .before .before .before .before .before .before .before .before in
+    let start = c .before .before .before .before .before .before .before .before in
     let loop = c .before .before .before .before .before .loop in
     let plan = start .args .plan in (
       start .pre .0 .unbroken .some-cycles,
-      turns-room (plan .chain .«num_cycles») (loop .turn) (plan .chain .«reduced_period») (c .before .before .before .before .loop-test .taken) (start .pre .4) (loop .inv .0 .kept),
+      turns-room (plan .chain .«num_cycles») (loop .turn) (start .args .turns) (c .before .before .before .before .loop-test .taken) (start .pre .5) (loop .inv .0 .kept),
       turn-most plan (start .pre .0) (start .args .total) (loop .turn) _ (start .pre .2) (layer-alternates plan (loop .turn) _ (start .pre .1) (c .before .before .before .alternate .ensures)),
       start .pre .3,
       c .before .code .ensures,
     )
 
 add-turn : tie.Need-add-turn Inv-loop μ-loop
-add-turn c = search needs
+add-turn c = omega arith
 
 loop-less : tie.Need-loop-less Inv-loop μ-loop
 loop-less c = omega arith
 
 loop-again : tie.Need-loop-again Inv-loop μ-loop
 loop-again c =
-    let start = c .before .before .before .before .before .before .before .before .before .before .before .before in
+    let start = c .before .before .before .before .before .before .before .before .before .before .before in
     let loop = c .before .before .before .before .before .before .before .before .loop in
     let plan = start .args .plan in (
       turns-more (plan .chain .«num_cycles») _ (loop .turn) (loop .inv .0)
@@ -78,7 +75,7 @@ same-length c = c .before .loop .inv .0 .kept
 
 returns : tie.Need-returns Inv-loop μ-loop
 returns c =
-    turns-all (c .before .before .before .before .before .args .plan .chain .«num_cycles») _ (c .before .loop .inv .1) (c .loop-test .left) (c .before .loop .inv .0)
+    turns-all (c .before .before .before .before .args .plan .chain .«num_cycles») _ (c .before .loop .inv .1) (c .loop-test .left) (c .before .loop .inv .0)
 
 pub put-alternating-spec : {M : Type 1} → statement M
 put-alternating-spec =
@@ -86,7 +83,6 @@ put-alternating-spec =
     (tie.spec
     Inv-loop
     μ-loop
-    cast-turns
     loop-holds
     alternate-requires
     mul-code

@@ -11,7 +11,7 @@ put-codes-requires c κs = search needs
 slice-write-out : tie.Need-slice-write-out
 slice-write-out c =
     let start = c .before .before .before .before .before in
-    omega (arith, c .before .before .put-codes .ensures .kept, some-codes (start .args .plan) (start .args .total) (start .pre .0) (start .args .out .now) (start .pre .3), start .pre .3)
+    omega (arith, c .before .before .put-codes .ensures .kept, some-codes (start .args .plan) (start .args .total) (start .args .turns) (start .pre .0) (start .pre .3) (start .args .out .now) (start .pre .4), start .pre .4)
 
 same-length : tie.Need-same-length
 same-length c = search needs
@@ -19,7 +19,7 @@ same-length c = search needs
 returns : tie.Need-returns
 returns c =
     let start = c .before .before .before .before .before in
-    home-over (start .args .plan) (start .args .total) (start .pre .0) (start .args .out .now) (start .pre .3) (c .before .before .put-codes .ensures)
+    home-over (start .args .plan) (start .args .total) (start .args .turns) (start .pre .0) (start .pre .3) (start .args .out .now) (start .pre .4) (c .before .before .put-codes .ensures)
 
 pub put-strip-spec : {M : Type 1} → statement M
 put-strip-spec = tie.close (tie.spec put-codes-requires slice-write-out same-length returns)
