@@ -168,6 +168,11 @@ static void call_layers(void)
     IS(vn_layer_kind(5, 3, numbers, 1), -VN_ROOM);
     IS(vn_lamp_strip(1, 12, 19, 3, text, 12), 12);
     holds(__LINE__, text, "\0\377\1\1\377\1\377\1\377\1\1\377", 12);
+    IS(vn_lamp_strip(1, 7, 11, 3, text, 14), 14);
+    holds(__LINE__, text, "\0\1\377\377\377\377\1\1\1\377\377\377\377\1", 14);
+    IS(vn_lamp_strip(1, 7, 11, 3, text, 13), -VN_ROOM);
+    IS(vn_lamp_strip(3, 8, 13, 3, text, sizeof text), 16);
+    holds(__LINE__, text, "\0\1\1\1\1\377\377\377\377\377\377\377\377\1\1\1", 16);
     IS(vn_lamp_strip(1, 2400, 3800, 3, text, sizeof text), -VN_LAMP_LAYER);
     IS(vn_lamp(1, 31, 49, 3, 65535), 103);
     IS(vn_lamp(1, 31, 49, 3, 31), 0);
@@ -175,6 +180,14 @@ static void call_layers(void)
     IS(vn_lamp(1, 31, 49, 3, -1), 3);
     IS(vn_lamp(1, 31, 49, 3, INT32_MIN), 102);
     IS(vn_lamp(1, 31, 49, 3, INT32_MAX), 103);
+    IS(vn_lamp(1, 7, 11, 3, 7), 1);
+    IS(vn_lamp(1, 7, 11, 3, -7), 1);
+    IS(vn_lamp(1, 7, 11, 3, 14), 0);
+    IS(vn_lamp(1, 7, 11, 3, -14), 0);
+    IS(vn_lamp(3, 8, 13, 3, 8), 255);
+    IS(vn_lamp(3, 8, 13, 3, -8), 255);
+    IS(vn_lamp(3, 8, 13, 3, INT32_MIN), 0);
+    IS(vn_lamp(3, 8, 13, 3, INT32_MAX), 1);
     IS(vn_lamp(1, 2400, 3800, 3, 31), -VN_LAMP_LAYER);
 }
 
@@ -197,6 +210,8 @@ static void call_books(void)
     IS(vn_book_find(text, (size_t)length - 1, -1, found, 2), -VN_BOOK_COVER);
     IS(vn_book_find(text, 3, -1, found, 2), -VN_BOOK_PAIRS);
     IS(vn_book_find(text, 3, -1, found, 1), -VN_ROOM);
+    IS(vn_key_table((const uint8_t *)"1 7 11\n", 7, text, sizeof text), 50);
+    TEXT("0 D 0\n1 E 1\n2 F 255\n3 G 255\n4 A 255\n5 B 255\n6 C 1\n");
     IS(vn_key_table((const uint8_t *)"1 0 19\n", 7, text, sizeof text), 10);
     TEXT("refused 2\n");
 }

@@ -8,7 +8,8 @@
 enum { CHAIN = 1, OCTAVE = 24, TRITAVE = 38, START = 3 }; /* Meantone[7] in quarter tones, with D on key 0 */
 enum { FROM_C = 1, FROM_NOTHING = 7 };                    /* the letters are F C G D A E B */
 
-static uint8_t lamps[OCTAVE];
+static uint8_t lamps[2 * OCTAVE]; /* one octave of codes, or two where both steps of the scale are equal */
+static uint16_t lamp_count;
 static uint8_t book[512];
 
 static int refused(const char *what, int64_t answer)
@@ -18,7 +19,24 @@ static int refused(const char *what, int64_t answer)
     return answer < 0;
 }
 
-/* A key of any octave, below 0 where the player shifted the board down; book and strip hold one octave, from 0 on. */
+/* Keeps the strip of a layout, whose octave has at most OCTAVE keys, and how many codes it has. */
+static int keep_lamps(uint16_t chain, uint16_t octave, uint16_t tritave, uint16_t start)
+{
+    int64_t count = vn_lamp_strip(chain, octave, tritave, start, lamps, sizeof lamps);
+
+    if (refused("lamps", count))
+        return 0;
+    lamp_count = (uint16_t)count;
+    return 1;
+}
+
+/* The code that lights a key of any octave: the strip repeats after all of its codes, upwards and downwards. */
+static int lamp(int32_t key)
+{
+    return lamps[vn_rem(key, lamp_count)];
+}
+
+/* A key of any octave, below 0 where the player shifted the board down; a book holds one octave, from 0 on. */
 static void press(size_t book_len, int32_t key)
 {
     uint32_t name[2]; /* offset and length */
@@ -26,7 +44,7 @@ static void press(size_t book_len, int32_t key)
 
     if (refused("name", vn_book_find(book, book_len, in_octave, name, 2)))
         return;
-    printf("key %" PRId32 ": %.*s, lamp %d\n", key, (int)name[1], (const char *)book + name[0], lamps[in_octave]);
+    printf("key %" PRId32 ": %.*s, lamp %d\n", key, (int)name[1], (const char *)book + name[0], lamp(key));
 }
 
 /* The same without a book or a strip: each call takes any key, and any letter on key 0. */
@@ -41,6 +59,17 @@ static void show(uint16_t start, int32_t key)
            vn_lamp(CHAIN, OCTAVE, TRITAVE, start, key));
 }
 
+/* Lights the keys from one to another, both included. */
+static void light(int32_t from, int32_t to)
+{
+    int32_t key;
+
+    printf("%d codes, keys %" PRId32 " to %" PRId32 ":", lamp_count, from, to);
+    for (key = from; key <= to; key++)
+        printf(" %d", lamp(key));
+    printf("\n");
+}
+
 int main(void)
 {
     uint16_t layout[8]; /* generator, cycles, reduced period, inverse, counts, steps */
@@ -50,7 +79,7 @@ int main(void)
         return 1;
     printf("%d keys, %d cycles, steps %d and %d\n", OCTAVE, layout[1], layout[6], layout[7]);
 
-    if (refused("lamps", vn_lamp_strip(CHAIN, OCTAVE, TRITAVE, START, lamps, sizeof lamps)))
+    if (!keep_lamps(CHAIN, OCTAVE, TRITAVE, START))
         return 1;
 
     length = vn_book(CHAIN, OCTAVE, TRITAVE, START, book, sizeof book);
@@ -67,6 +96,11 @@ int main(void)
     show(FROM_C, 0); /* a player of another school */
     show(FROM_C, 2);
     show(FROM_NOTHING, 0);
+
+    /* Porcupine[8] in 8 equal steps: the colours of one octave are not those of the next, so the strip has two. */
+    if (!keep_lamps(3, 8, 13, 3))
+        return 1;
+    light(-8, 16);
 
     book[4]++; /* a damaged book is seen at the next key */
     press((size_t)length, 4);

@@ -47,7 +47,9 @@ static uint32_t found[2];
     CALL(vn_layer(2, 65534, 65535, 4, -1)) \
     CALL(vn_layer_kind(65535, 32768, numbers, 2)) \
     CALL(vn_lamp_strip(1, 311, 493, 6, text, sizeof text)) \
+    CALL(vn_lamp_strip(1, 707, 1111, 6, text, sizeof text)) \
     CALL(vn_lamp(1, 311, 493, 6, -1)) \
+    CALL(vn_lamp(1, 707, 1111, 6, -1)) \
     CALL(vn_book_len(1, 2400, 3800, 6)) \
     CALL(vn_book(1, 2400, 3800, 6, text, sizeof text)) \
     CALL(vn_book_find(text, 266404, 2399, found, 2)) \

@@ -5,7 +5,7 @@
  * What the library runs on
  *   x86-64 Linux, C calling convention, size_t of 64 bits. It needs memset and memcpy, which a C library has, and nothing
  *   else; it makes no system calls.
- *   Stack: at most 2.5 KiB for vn_key_table and 1 KiB for any other call, measured (2,272 bytes, and 512 for
+ *   Stack: at most 2.5 KiB for vn_key_table and 1 KiB for any other call, measured (2,276 bytes, and 512 for
  *   vn_scale_name, with the memset and memcpy of glibc); examples/check measures it again.
  *
  * What a call returns
@@ -34,8 +34,8 @@
  *
  * What a key is
  *   A signed number of 32 bits, and each of them is a key. It is first brought round the octave (in a pergen the period, for
- *   a layer all entries of vn_layout_layers) with the remainder that is never negative: in 12 steps key -1 is named as key
- *   11 is. A book alone has the keys from 0 to its count - 1 and no others (question 13).
+ *   a layer all entries of vn_layout_layers, for a lamp all codes of vn_lamp_strip) with the remainder that is never negative:
+ *   in 12 steps key -1 is named as key 11 is. A book alone has the keys from 0 to its count - 1 and no others (question 13).
  *
  * What a start is
  *   The index of key 0's letter among the chain's letters, from 0; each letter may stand on key 0. The chain's own start, which
@@ -83,13 +83,15 @@ extern "C" {
 
 /* The version of this header. The first number changes where a call, a number above or an answer is changed or taken away,
  * the second where some are added, the third where neither is so.
+ *   5.0.0: at sharpness 0, where both steps are equal, vn_lamp_strip writes two octaves, and vn_lamp repeats after both. All
+ *          other strips, and the first octave of these, have the codes that they had.
  *   4.0.0: a layout has a start, a uint16_t behind its tritave in every call, and each of these calls asks 18. With the
  *          chain's own start they have the answers that they had.
  *   3.0.0: a key is an int32_t; it was a uint16_t, and a uint32_t in vn_book_find. Keys from 0 to 65,535 have the answers
  *          that they had.
  *   2.0.0: vn_sounded_key takes signs as one number, and asks 16 and 21.
  *   1.0.0, before these numbers stood here: it took sharps and flats as two numbers, and asked 15, VN_SPELLING. */
-#define VN_VERSION_MAJOR 4
+#define VN_VERSION_MAJOR 5
 #define VN_VERSION_MINOR 0
 #define VN_VERSION_PATCH 0
 
@@ -216,11 +218,13 @@ int64_t vn_layer(uint16_t chain, uint16_t octave, uint16_t tritave, uint16_t sta
  * T is. Asks 10. */
 int64_t vn_layer_kind(uint16_t total, uint16_t number, uint16_t *out, size_t len);
 
-/* Writes the lamp code of each key of the octave: home, which is key 0, has 0; else natural 1, sharp k 2 + k,
- * flat k 102 + k, enharmonic 255. Asks 1, 2, 3, 4, 18, 9, 10. */
+/* Writes the lamp code of each key of the octave, of two octaves at sharpness 0, where both steps are equal: there the colours
+ * may alternate from octave to octave. Key 0 alone is home and has 0; else natural 1, sharp k 2 + k, flat k 102 + k,
+ * enharmonic 255. Room for 2 x octave codes is always enough. Asks 1, 2, 3, 4, 18, 9, 10. */
 int64_t vn_lamp_strip(uint16_t chain, uint16_t octave, uint16_t tritave, uint16_t start, uint8_t *out, size_t len);
 
-/* The lamp code of one key, of any octave: the strip repeats each octave, upwards and downwards. Asks 1, 2, 3, 4, 18, 9. */
+/* The lamp code of one key, of any octave: what vn_lamp_strip writes repeats, upwards and downwards, after all of its codes.
+ * Asks 1, 2, 3, 4, 18, 9. */
 int64_t vn_lamp(uint16_t chain, uint16_t octave, uint16_t tritave, uint16_t start, int32_t key);
 
 /* ---- books of key names, and key tables */
@@ -237,9 +241,9 @@ int64_t vn_book(uint16_t chain, uint16_t octave, uint16_t tritave, uint16_t star
  * keep both numbers. Asks 10, 11, 12, 13. */
 int64_t vn_book_find(const uint8_t *book, size_t book_len, int32_t key, uint32_t *out, size_t len);
 
-/* Writes what the key table program prints for a line of input, such as "1 12 19\n": a line for each key of that
- * layout with the chain's own start, or "refused", a space, the number and a line feed. 403,596 bytes are always enough.
- * Asks 10 alone. */
+/* Writes what the key table program prints for a line of input, such as "1 12 19\n": a line for each key of one octave of
+ * that layout with the chain's own start, or "refused", a space, the number and a line feed. 403,596 bytes are always
+ * enough. Asks 10 alone. */
 int64_t vn_key_table(const uint8_t *line, size_t line_len, uint8_t *out, size_t len);
 
 #ifdef __cplusplus

@@ -215,7 +215,19 @@ filling_from_layout! {
     layout_accidentals = vn_layout_accidentals(key: i32; u16);
     /// The layer number of each key of the octave, or of two at sharpness 0 (1, 2, 3, 4, 18, 10).
     layout_layers = vn_layout_layers(; u16);
-    /// The lamp code of each key of the octave (1, 2, 3, 4, 18, 9, 10).
+    /// The lamp code of each key of the octave, or of two at sharpness 0, where the colours may
+    /// alternate from octave to octave (1, 2, 3, 4, 18, 9, 10). Key 0 alone is home.
+    ///
+    /// ```
+    /// let equalized = vetchnoon::Layout::new(1, 7, 11);
+    /// let mut codes = [0; 2 * 7];
+    /// assert_eq!(vetchnoon::lamp_strip(equalized, &mut codes), Ok(14));
+    /// assert_eq!(codes, [0, 1, 255, 255, 255, 255, 1, 1, 1, 255, 255, 255, 255, 1]);
+    ///
+    /// let twelve = vetchnoon::Layout::new(1, 12, 19);
+    /// let mut codes = [0; 2 * 12];
+    /// assert_eq!(vetchnoon::lamp_strip(twelve, &mut codes), Ok(12));
+    /// ```
     lamp_strip = vn_lamp_strip(; u8);
     /// The book of all names of the octave (1, 2, 3, 4, 18, 10).
     book = vn_book(; u8);
@@ -240,12 +252,17 @@ number_from_layout! {
     /// assert_eq!(vetchnoon::layer(equalized, -16), Ok(0));
     /// ```
     layer = vn_layer(key: i32) -> u16;
-    /// The lamp code of one key, of any octave (1, 2, 3, 4, 18, 9): the strip repeats each octave.
+    /// The lamp code of one key, of any octave (1, 2, 3, 4, 18, 9): what [`lamp_strip`] writes
+    /// repeats after all of its codes, two octaves of them at sharpness 0.
     ///
     /// ```
     /// let twelve = vetchnoon::Layout::new(1, 12, 19);
     /// assert_eq!(vetchnoon::lamp(twelve, -12), Ok(0)); // home
     /// assert_eq!(vetchnoon::lamp(twelve, -1), Ok(255));
+    ///
+    /// let equalized = vetchnoon::Layout::new(3, 8, 13);
+    /// assert_eq!(vetchnoon::lamp(equalized, -8), Ok(255)); // an octave away, by its layer
+    /// assert_eq!(vetchnoon::lamp(equalized, -16), Ok(0)); // home
     /// ```
     lamp = vn_lamp(key: i32) -> u8;
     /// How many bytes the book of a layout has (1, 2, 3, 4, 18).
@@ -302,7 +319,7 @@ pub fn book_find(book: &[u8], key: i32) -> Result<&[u8], Refused> {
 }
 
 /// What the key table program prints for a line (10): of a chain, an octave and a tritave, with
-/// the chain's own start.
+/// the chain's own start. It has one octave of keys.
 pub fn key_table(line: &[u8], out: &mut [u8]) -> Result<usize, Refused> {
     value(unsafe { c::vn_key_table(line.as_ptr(), line.len(), out.as_mut_ptr(), out.len()) })
 }

@@ -356,7 +356,7 @@ fn lamp(key: usize, layer: Layer) -> u8 {
 fn strip(n: Numbers) -> Row {
     let given = n.layout();
     let layout = made_anew(n);
-    let mut codes = vec![0; n.1.into()];
+    let mut codes = vec![0; 2 * usize::from(n.1)];
     n.row_of_keys(
         "lamp strip",
         move || {
@@ -364,7 +364,7 @@ fn strip(n: Numbers) -> Row {
             length + usize::from(codes[length - 1])
         },
         move || {
-            let layers = layout().get_layers().into_iter().take(n.1.into());
+            let layers = layout().get_layers().into_iter();
             let codes: Vec<u8> = layers
                 .enumerate()
                 .map(|(key, layer)| lamp(key, layer))

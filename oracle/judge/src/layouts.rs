@@ -77,12 +77,10 @@ pub fn kind_of(layer: Layer) -> Kind {
     }
 }
 
-/// The strip that the original's layers make with document 01's lamp codes, or the
+/// The strip that all of the original's layers make with document 01's lamp codes, or the
 /// refusal where they have no codes.
 pub fn strip(layout: &IsomorphicLayout) -> Answer<Outcome<Vec<u8>>> {
-    let octave = usize::from(layout.pergen().period());
-    let layers = layers(layout)?;
-    let kinds: Vec<Kind> = layers[..octave].iter().copied().map(kind_of).collect();
+    let kinds: Vec<Kind> = layers(layout)?.into_iter().map(kind_of).collect();
     Ok(strip_of(&kinds))
 }
 
@@ -148,6 +146,13 @@ mod tests {
             assert_eq!(note_names(&begun), note_names(&layout));
             assert_eq!(layers(&begun), layers(&layout));
         }
+    }
+
+    #[test]
+    fn a_strip_of_two_octaves() {
+        let seven = create(Genchain::Meantone7, 7, 11).unwrap().unwrap();
+        let codes = vec![0, 1, 255, 255, 255, 255, 1, 1, 1, 255, 255, 255, 255, 1];
+        assert_eq!(strip(&seven), Ok(Ok(codes)));
     }
 
     #[test]

@@ -102,11 +102,12 @@ impl Layout {
         ((h * s) / n % 2 - ((i / cycles + h) * s) / n % 2).abs()
     }
 
-    /// The lamp strip, "from the first P layer entries".
+    /// The lamp strip: P codes, and "2 × octave codes when sharpness is 0, from all layer
+    /// entries" (W-204).
     pub fn strip(&self) -> Outcome<Vec<u8>> {
         let total = self.layer_count();
-        let octave = self.pergen.period as usize;
-        let kinds: Vec<Kind> = self.layers()[..octave]
+        let kinds: Vec<Kind> = self
+            .layers()
             .iter()
             .map(|number| layers::kind((*number).into(), total))
             .collect();
@@ -114,16 +115,16 @@ impl Layout {
     }
 }
 
-/// One key's layer or lamp: "the board repeats the strip each octave", and so do the
-/// layer entries after the last of them, with "the remainder that is never negative"
-/// (W-201).
+/// One key's layer or lamp: the board repeats the strip, of one octave or two, and the
+/// layer entries repeat likewise, with "the remainder that is never negative" (W-201)
+/// "by the strip's length" (W-208).
 pub fn repeated<T: Copy>(entries: &[T], key: i32) -> T {
     let place = Whole::from(key).rem_euclid(entries.len() as Whole);
     entries[place as usize]
 }
 
-/// The lamp codes of the keys of an octave. Question 9: "is every sharp and flat
-/// layer number of the lamp strip below 100?"
+/// The lamp codes of a strip's keys. Question 9: "is every sharp and flat layer number
+/// of the lamp strip below 100?"
 pub fn strip_of(kinds: &[Kind]) -> Outcome<Vec<u8>> {
     let below_100 = |kind: &Kind| match kind {
         Kind::Sharp(level) | Kind::Flat(level) => *level < 100,
@@ -136,7 +137,7 @@ pub fn strip_of(kinds: &[Kind]) -> Outcome<Vec<u8>> {
     Ok(strip)
 }
 
-/// "Key 0 is 0, home."
+/// "Key 0 is 0, home", and "only key 0 is home" (W-204).
 pub const HOME: u8 = 0;
 
 /// "Natural 1, sharp k 2 + k, flat k 102 + k, enharmonic 255."
@@ -209,12 +210,26 @@ mod tests {
     #[test]
     fn strips() {
         let strip = |octave, tritave| Layout::new(1, octave, tritave).unwrap().strip();
-        assert_eq!(strip(7, 11), Ok(vec![0, 1, 255, 255, 255, 255, 1]));
+        let seven = vec![0, 1, 255, 255, 255, 255, 1, 1, 1, 255, 255, 255, 255, 1];
+        assert_eq!(strip(7, 11), Ok(seven));
         assert_eq!(
             strip(12, 19),
             Ok(vec![0, 255, 1, 1, 255, 1, 255, 1, 255, 1, 1, 255])
         );
         assert_eq!(strip(2400, 3800), Err(9));
+    }
+
+    #[test]
+    fn an_equalized_strip_has_two_octaves() {
+        let strip = Layout::new(3, 8, 13).unwrap().strip().unwrap();
+        assert_eq!(strip.len(), 16);
+        // Enharmonic at the octave, and home after both, on both sides.
+        let lamp = |key| repeated(&strip, key);
+        assert_eq!([0, 8, 16, -8, -16].map(lamp), [0, 255, 0, 255, 0]);
+        // The last strip whose sharp layers have codes, and the first without.
+        let cycles = |n: u16| Layout::new(1, 7 * n, 11 * n).unwrap().strip();
+        assert_eq!(cycles(101).unwrap().len(), 2 * 707);
+        assert_eq!(cycles(102), Err(9));
     }
 
     #[test]

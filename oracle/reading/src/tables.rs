@@ -10,8 +10,9 @@ use super::names;
 /// The largest octave that the program takes.
 const LARGEST_OCTAVE: u16 = 4096;
 
-/// "A line per key from 0 to octave − 1: number, name, lamp code"; "a refusal
-/// prints only `refused`, a space and the number, and a line feed".
+/// "A line per key from 0 to octave − 1: number, name, lamp code", one octave even where
+/// the strip has two (W-204); "a refusal prints only `refused`, a space and the number,
+/// and a line feed".
 pub fn output(input: &[u8]) -> String {
     match table(input) {
         Ok(lines) => lines,
@@ -68,6 +69,12 @@ mod tests {
                      7 A 1\n8 A#/Bb 255\n9 B 1\n10 C 1\n11 C#/Db 255\n";
         assert_eq!(output(b"1 12 19\n"), table);
         assert_eq!(output(b"00001 012 0019\nmore"), table);
+    }
+
+    #[test]
+    fn one_octave_of_an_equalized_scale() {
+        let table = "0 D 0\n1 E 1\n2 F 255\n3 G 255\n4 A 255\n5 B 255\n6 C 1\n";
+        assert_eq!(output(b"1 7 11\n"), table);
     }
 
     #[test]

@@ -324,7 +324,8 @@ fn table_lines(line: &str) -> Text {
         start: None,
     })?;
     let mut text = String::new();
-    for (key, lamp) in (0..).zip(given(layouts::strip(&layout))??) {
+    // One octave, even where the strip has two.
+    for (key, lamp) in (0..octave).zip(given(layouts::strip(&layout))??) {
         let name = given(layouts::note_name(&layout, key))?;
         writeln!(text, "{key} {name} {lamp}").expect("a string takes any text");
     }
@@ -415,8 +416,14 @@ mod tests {
         };
         assert_eq!(
             answer(&Question::OfLayout(OfLayout::Lamps, layout)).as_deref(),
-            Some("0 1 255 255 255 255 1\n")
+            Some("0 1 255 255 255 255 1 1 1 255 255 255 255 1\n")
         );
+    }
+
+    #[test]
+    fn a_table_of_one_octave() {
+        let lines = "0 D 0\n1 E 1\n2 F 255\n3 G 255\n4 A 255\n5 B 255\n6 C 1\n";
+        assert_eq!(table("1 7 11").as_deref(), Some(lines));
     }
 
     #[test]

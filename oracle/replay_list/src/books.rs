@@ -69,7 +69,7 @@ fn in_room(room: usize, question: &Question) -> Question {
 }
 
 /// Exact, one short, none and one more.
-fn around(elements: usize, question: &Question) -> Vec<Question> {
+pub fn around(elements: usize, question: &Question) -> Vec<Question> {
     [elements, elements.saturating_sub(1), 0, elements + 1]
         .map(|room| in_room(room, question))
         .into()
@@ -83,13 +83,13 @@ fn rooms(layout: Layout) -> Vec<Question> {
 
 pub fn layout_rooms(layout: Layout) -> Vec<Question> {
     let read = layout.read().expect("an accepted layout");
-    let octave = usize::from(layout.octave);
+    let strip = read.strip().expect("few layers").len();
     let keys = i32::from(layout.octave);
     let book = reading::books::book(&read).len();
     let name = reading::names::name(&read, 1).len();
     [
         around(name, &Question::Name(layout, 1)),
-        around(octave, &Question::OfLayout(OfLayout::Lamps, layout)),
+        around(strip, &Question::OfLayout(OfLayout::Lamps, layout)),
         around(
             read.layers().len(),
             &Question::OfLayout(OfLayout::KeyLayers, layout),

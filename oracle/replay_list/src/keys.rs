@@ -140,7 +140,7 @@ pub fn of_key(layout: Layout, key: i32) -> [Question; 4] {
 fn of_layouts() -> Vec<Question> {
     let mut questions = Vec::new();
     for layout in ACCEPTED.map(layout) {
-        // Two octaves on both sides: layers of an equalized scale repeat after two.
+        // Two octaves on both sides: layers and lamps of an equalized scale repeat after two.
         let two = 2 * i32::from(layout.octave);
         questions.extend(
             (-two - 1..0)
@@ -195,7 +195,7 @@ mod tests {
     }
 
     #[test]
-    fn an_equalized_scale_repeats_its_layers_after_two_octaves() {
+    fn an_equalized_scale_repeats_after_two_octaves() {
         let layout = layout((3, 8, 13));
         let answers = [0, -8, -16].map(|key| answer(&Question::Layer(layout, key)));
         assert_eq!(
@@ -205,7 +205,7 @@ mod tests {
         let answers = [0, -8, -16].map(|key| answer(&Question::Lamp(layout, key)));
         assert_eq!(
             answers,
-            ["0\n", "0\n", "0\n"].map(|text| Some(text.to_owned()))
+            ["0\n", "255\n", "0\n"].map(|text| Some(text.to_owned()))
         );
     }
 }

@@ -1,6 +1,6 @@
 //! The list of questions: the bench examples of document 01, small numbers
-//! densely, limits, and numbers of every size at random; then keys below 0, and other
-//! letters on key 0.
+//! densely, limits, and numbers of every size at random; then keys below 0, other letters
+//! on key 0, and strips of two octaves.
 
 use std::collections::HashSet;
 use std::iter;
@@ -19,6 +19,7 @@ use crate::questions::OfPattern;
 use crate::questions::Question;
 use crate::random::Random;
 use crate::starts;
+use crate::strips;
 
 /// The numbers at which an answer is likely to change its form.
 const LIMITS: [u16; 9] = [0, 1, 2, 255, 256, 32_767, 32_768, 65_534, 65_535];
@@ -43,6 +44,7 @@ pub fn all() -> Vec<Question> {
     questions.extend(unreadable());
     questions.extend(keys::all());
     questions.extend(starts::all());
+    questions.extend(strips::all());
 
     let mut asked = HashSet::new();
     questions.retain(|question| asked.insert(question.to_string()));

@@ -9,6 +9,7 @@ mod list;
 mod questions;
 mod random;
 mod starts;
+mod strips;
 
 use std::env;
 use std::fs;

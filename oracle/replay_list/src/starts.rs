@@ -38,7 +38,7 @@ pub fn all() -> Vec<Question> {
     questions
 }
 
-fn letters(code: u16) -> u16 {
+pub fn letters(code: u16) -> u16 {
     let chain = chains::chain(code).expect("a code of 0 to 5");
     u16::try_from(chain.count()).expect("at most nine letters")
 }

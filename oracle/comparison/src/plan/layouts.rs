@@ -34,6 +34,9 @@ pub fn plan(tasks: &mut Vec<Task>, mode: Mode, seed: u64) {
     for octave in (0..=40).rev() {
         tasks.push(Box::new(move |tally| all_starts_of_octave(tally, octave)));
     }
+    for octave in (5..=100).rev() {
+        tasks.push(Box::new(move |tally| equalized_of_octave(tally, octave)));
+    }
     for (index, octave) in LIMITS.into_iter().enumerate() {
         let randoms = Randoms::new(seed, STREAM + 10_000 + index as u64);
         tasks.push(Box::new(move |tally| {
@@ -121,6 +124,22 @@ fn compare_small_spellings(tally: &mut Tally, layout: &GivenLayout) {
                     stars: stars.max(0),
                 };
                 layout.compare_sounded(tally, spelling);
+            }
+        }
+    }
+}
+
+/// Layers and strip, of two octaves, of every equalized scale from every letter.
+fn equalized_of_octave(tally: &mut Tally, octave: u16) {
+    for code in 0..=5 {
+        for tritave in 0..=6 * octave + 6 {
+            let layout = GivenLayout::new(code, octave, tritave);
+            if layout.read(|layout| layout.pattern.sharpness()) != Ok(0) {
+                continue;
+            }
+            let own = own_start(code).into_iter();
+            for start in own.chain(starts(code, octave, tritave)) {
+                GivenLayout::beginning(code, octave, tritave, start).compare_octave(tally);
             }
         }
     }

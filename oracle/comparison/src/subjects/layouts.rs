@@ -157,7 +157,7 @@ impl GivenLayout {
         tally.compare(self.asking(Call::LayerCount), &answers, None);
     }
 
-    /// What holds an entry for each key of the octave: layers and strip.
+    /// What holds an entry for each key of the octave, or of two: layers and strip.
     pub fn compare_octave(&self, tally: &mut Tally) {
         self.compare_layers(tally);
         self.compare_strip(tally);
@@ -223,7 +223,7 @@ impl GivenLayout {
             .then(|layout| Original::of(layouts::layers(layout)))
     }
 
-    /// The original has no strips; its layers, with document 01's codes, make one.
+    /// The original has no strips; all its layers, with document 01's codes, make one.
     fn compare_strip(&self, tally: &mut Tally) {
         let reading = match &self.reading {
             Ok(layout) => layout.strip(),
