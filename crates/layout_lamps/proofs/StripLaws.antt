@@ -4,7 +4,7 @@ use mathlib.Core.Path.{_≡_, refl, sym, ap, ap₂, subst, _∙_}
 use mathlib.Core.Bool.{Bool, true, false, _&&_, and-false}
 use mathlib.Core.List.{List, [], _∷_, _++_}
 use native.Mathlib.Nat.{mod-lt, mod-eq-of-lt, mod-eq-sub-mod, mod-self, zero-mod, div-eq-of-lt, mul-pos, suc-mul, mul-le-mul-right}
-use native.Mathlib.Decide.{decLt, decEq}
+use native.Mathlib.Decide.{decLt}
 use native.Mathlib.Omega.{arith}
 use lib.ListN.{length, getD, set, drop, length-set}
 use lib.Seq.{set-append-left, set-out, getD-set-same, getD-set-other, ext-getD}
@@ -230,6 +230,13 @@ module _ (r : IsomorphicLayout) (l : Layout) (ok : Accepted r l) where
 
 -- ---- the strip
 
+pub equal-or-not : (i j : ℕ) → Dec (i ≡ j)
+equal-or-not i j = by (eqb i j) refl
+  where
+    by : (b : Bool) → eqb i j ≡ b → Dec (i ≡ j)
+    by true e = yes (eqb-true i j e)
+    by false e = no (eqb-false i j e)
+
 -- a number below 2 × P that is neither 0 nor P is no multiple of P
 pub between : (P i : ℕ) → i < 2 * P → (i ≡ P → ⊥) → (i ≡ 0 → ⊥) → i % P ≡ 0 → ⊥
 between P i h p z e = by (decLt i P)
@@ -246,7 +253,7 @@ pub homes : (f : ℕ → ℕ) (P count : ℕ) → 0 < P → count ≤ 2 * P → 
 homes f P count some few =
     ext-getD 0 (homed P (listed f count)) (listed g count)
     (long ∙ sym (length-listed g count))
-    (λ i h. at i (subst (λ (k : ℕ). i < k) long h) (decEq i P) (decEq i 0))
+    (λ i h. at i (subst (λ (k : ℕ). i < k) long h) (equal-or-not i P) (equal-or-not i 0))
   where
     g : ℕ → ℕ
     g i = pick (eqb (i % P) 0) 0 (f i)

@@ -4,7 +4,6 @@ use mathlib.Core.Path.{_≡_, refl, sym, ap, subst, _∙_}
 use mathlib.Core.Bool.{Bool, true, false}
 use mathlib.Core.List.{List, [], _∷_, _++_}
 use native.Mathlib.Nat.{one-mul, mul-le-mul, mod-self, zero-mod}
-use native.Mathlib.Decide.{decEq}
 use mathlib.Core.Logic.{_↔_}
 use native.Mathlib.Omega.{arith}
 use lib.Dec.{eqb, ltb}
@@ -24,7 +23,7 @@ use Rattle.layout_layers.specs.KeyLayers.{equalized, kindOf, numberIn, countIn}
 use Rattle.layout_layers.proofs.Counts.{keys-by-count}
 use Rattle.layout_lamps.specs.Lamps.{lampCode, kindAt, lampOf, codesOf, stripOf, lampable, lampIn, stripLengthIn, stripIn, hasLampsIn, kindIn}
 use Rattle.layout_lamps.specs.Theorems.{LampsByCount, LampsBoundTheOctave, CodesFitBytes, OneHome, StripsAreWhole, FirstOctaveStays, HomeGoesFirst, HomeChangesOneEntry}
-use Rattle.layout_lamps.proofs.StripLaws.{few-layers, lamps-by-count-at, between}
+use Rattle.layout_lamps.proofs.StripLaws.{few-layers, lamps-by-count-at, equal-or-not, between}
 
 pub lamps-by-count : LampsByCount
 lamps-by-count r l ok = lamps-by-count-at r l ok
@@ -130,7 +129,7 @@ home-changes-one-entry r l ok =
         by false q = omega arith
 
     zero-of : 0 < P → (i : ℕ) → i < 2 * P → (i ≡ P → ⊥) → i % P ≡ 0 → i ≡ 0
-    zero-of some i h p e = by (decEq i 0)
+    zero-of some i h p e = by (equal-or-not i 0)
       where
         by : Dec (i ≡ 0) → i ≡ 0
         by (yes z) = z

@@ -7,7 +7,7 @@ use Rattle.answer.specs.Outcome.{Outcome, given, refused}
 use Rattle.layout.specs.declared.IsomorphicLayout.{IsomorphicLayout}
 use Rattle.layout.specs.Examples.{layout}
 use Rattle.layout_layers.specs.declared.Layer.the-variants.{Natural, Sharp, Enharmonic, Flat}
-use Rattle.layout_lamps.specs.Lamps.{lampCode}
+use Rattle.layout_lamps.specs.Lamps.{lampCode, earlierLampIn}
 use Rattle.layout.specs.Answers.{ofLayout}
 use Rattle.layout.specs.Layouts.{Layout}
 use Rattle.layout_lamps.specs.Answers.{getStrip, getLamp}
