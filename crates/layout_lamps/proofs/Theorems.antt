@@ -3,7 +3,8 @@ use Prim.Native.Nat.{ℕ, zero, suc, _+_, _*_, _-_, _%_, _≤_, _<_}
 use mathlib.Core.Path.{_≡_, refl, sym, ap, subst, _∙_}
 use mathlib.Core.Bool.{Bool, true, false}
 use mathlib.Core.List.{List, [], _∷_, _++_}
-use native.Mathlib.Nat.{one-mul, mul-le-mul, mod-self, zero-mod}
+use native.Mathlib.Nat.{one-mul, mul-le-mul, mul-add, mul-assoc, mod-self, mod-eq-of-lt, zero-mod}
+use lib.IntN.{ℤ, pos, _+ℤ_, _*ℤ_}
 use mathlib.Core.Logic.{_↔_}
 use native.Mathlib.Omega.{arith}
 use lib.Dec.{eqb, ltb}
@@ -13,16 +14,23 @@ use borrow.Author.Tests.{eq-eqb, ne-eqb, eqb-true, eqb-false, leb-true, ltb-true
 use Rattle.answer.specs.Choice.{pick}
 use Rattle.text.specs.Writing.{joined}
 use Rattle.text.proofs.Joined.{joined-add, length-joined-each}
+use Rattle.answer.specs.Outcome.{given, ask}
+use Rattle.answer.proofs.Asked.{given-same}
+use Rattle.math.specs.Division.{quotient, remainder}
+use Rattle.math.proofs.Integers.{up, down, rep-self, rep-pos, rep-add, rep-mul, rep-agree}
+use Rattle.math.proofs.Division.{remainder-below, remainder-law, apart-iff, apart→remainder}
 use Rattle.layout.specs.declared.IsomorphicLayout.{IsomorphicLayout}
 use Rattle.layout.specs.Layouts.{Layout, Accepted}
 use Rattle.layout.proofs.Finding.{accepted}
+use Rattle.layout.proofs.Calls.{of-given}
 use Rattle.layout.proofs.PatternShape.{pattern-shape}
 use Rattle.layout_layers.specs.declared.Layer.{Layer}
 use Rattle.layout_layers.specs.declared.Layer.the-variants.{Natural, Sharp, Enharmonic, Flat}
 use Rattle.layout_layers.specs.KeyLayers.{equalized, kindOf, numberIn, countIn}
 use Rattle.layout_layers.proofs.Counts.{keys-by-count}
 use Rattle.layout_lamps.specs.Lamps.{lampCode, kindAt, lampOf, codesOf, stripOf, lampable, lampIn, stripLengthIn, stripIn, hasLampsIn, kindIn}
-use Rattle.layout_lamps.specs.Theorems.{LampsByCount, LampsBoundTheOctave, CodesFitBytes, OneHome, StripsAreWhole, FirstOctaveStays, HomeGoesFirst, HomeChangesOneEntry}
+use Rattle.layout_lamps.specs.Answers.{getLamp}
+use Rattle.layout_lamps.specs.Theorems.{LampsByCount, LampsBoundTheOctave, CodesFitBytes, OneHome, HomeKeys, StripsAreWhole, FirstOctaveStays, HomeGoesFirst, HomeChangesOneEntry}
 use Rattle.layout_lamps.proofs.StripLaws.{few-layers, lamps-by-count-at, equal-or-not, between}
 
 pub lamps-by-count : LampsByCount
@@ -95,6 +103,54 @@ home-alone false rest c e h = (λ q. absurd (let z : ⊥ = omega (arith, h, q) i
 pub one-home : OneHome
 unfolding lampOf
 one-home l key = home-alone (eqb (key % l .octave) 0) (key % l .octave) _ refl (code-above (kindIn l key))
+
+-- a strip holds whole octaves, so a remainder by its length has the remainder by the octave
+strip-rounds : (P : ℕ) → 0 < P → (b : Bool) (key : ℤ) → remainder key (pick b (2 * P) P) % P ≡ remainder key P
+strip-rounds P h false key = mod-eq-of-lt (remainder-below key P h)
+strip-rounds P h true key = sym (apart→remainder P h key (pos r) (q +ℤ q, sum))
+  where
+    q : ℤ
+    q = quotient key (2 * P)
+
+    r : ℕ
+    r = remainder key (2 * P)
+
+    sum : key ≡ pos r +ℤ pos P *ℤ (q +ℤ q)
+    sum =
+        remainder-law .divides key (2 * P) (omega arith) .sum
+        ∙ rep-agree
+        (rep-add (rep-mul (2 * P) (rep-self q)) (rep-pos r))
+        (rep-add (rep-pos r) (rep-mul P (rep-add (rep-self q) (rep-self q))))
+        (omega (
+          arith,
+          mul-add P (up q) (up q),
+          mul-add P (down q) (down q),
+          mul-assoc 2 P (up q),
+          mul-assoc 2 P (down q),
+        ))
+
+pub home-keys : HomeKeys
+unfolding getLamp
+home-keys r l ok has key = (
+  λ e. apart-iff P some key (pos 0) .0
+      (sym (strip-rounds P some (equalized (l .pattern)) key) ∙ one-home l entry .0 (given-same (sym lamp ∙ e)) ∙ sym (zero-mod P)),
+  λ a. lamp
+      ∙ ap given
+      (one-home l entry .1
+      (strip-rounds P some (equalized (l .pattern)) key ∙ apart-iff P some key (pos 0) .1 a ∙ zero-mod P)),
+)
+  where
+    P : ℕ
+    P = l .octave
+
+    some : 0 < P
+    some = accepted r l ok .positive
+
+    entry : ℕ
+    entry = remainder key (stripLengthIn l)
+
+    lamp : getLamp r key ≡ given (lampIn l entry)
+    lamp = sym (ap (λ (b : Bool). ask 9 b (given (lampIn l entry))) (sym has) ∙ of-given r _ l (sym ok))
 
 -- the two rules agree on a number that is 0 exactly where its remainder is
 same-rule : (i P c : ℕ) → ((i ≡ 0) ↔ (i % P ≡ 0)) → pick (eqb (i % P) 0) 0 c ≡ pick (eqb i 0) 0 c

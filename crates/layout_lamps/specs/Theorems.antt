@@ -4,10 +4,14 @@ use mathlib.Core.Logic.{_↔_}
 use mathlib.Core.Path.{_≡_}
 use mathlib.Core.Bool.{true, false}
 use lib.Dec.{leb}
+use lib.IntN.{ℤ, pos}
 use lib.ListN.{length, take}
+use Rattle.answer.specs.Outcome.{given}
+use Rattle.math.specs.Division.{Apart}
 use Rattle.layout.specs.declared.IsomorphicLayout.{IsomorphicLayout}
 use Rattle.layout.specs.Layouts.{Layout, Accepted}
 use Rattle.layout_layers.specs.KeyLayers.{equalized, countIn}
+use Rattle.layout_lamps.specs.Answers.{getLamp}
 use Rattle.layout_lamps.specs.Lamps.{lampIn, stripLengthIn, stripIn, hasLampsIn, octaveStripIn, earlierLampIn}
 
 -- Theorem: question 9 has the answer yes exactly where T is at most 202.
@@ -26,6 +30,12 @@ CodesFitBytes =
 -- Theorem: home's code is that of the keys whole octaves from key 0, and of no others.
 abbrev pub OneHome : Type 0
 OneHome = (l : Layout) (key : ℕ) → (lampIn l key ≡ 0) ↔ (key % l .octave ≡ 0)
+
+-- Theorem: so one key's lamp is home's exactly where the key is whole octaves from key 0, above or below it.
+abbrev pub HomeKeys : Type 0
+HomeKeys =
+    (r : IsomorphicLayout) (l : Layout) → Accepted r l → hasLampsIn l ≡ true
+    → (key : ℤ) → (getLamp r key ≡ given 0) ↔ Apart (l .octave) key (pos 0)
 
 -- Theorem: a strip has a code for each entry: for each key of the octave, or of two where the scale is equalized.
 abbrev pub StripsAreWhole : Type 0
