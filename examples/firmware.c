@@ -97,7 +97,8 @@ int main(void)
     show(FROM_C, 2);
     show(FROM_NOTHING, 0);
 
-    /* Porcupine[8] in 8 equal steps: the colours of one octave are not those of the next, so the strip has two. */
+    /* Porcupine[8] in 8 equal steps: the colours of one octave are not those of the next, so the strip has two;
+     * keys -8, 0, 8 and 16 are home. */
     if (!keep_lamps(3, 8, 13, 3))
         return 1;
     light(-8, 16);

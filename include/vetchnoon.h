@@ -83,6 +83,8 @@ extern "C" {
 
 /* The version of this header. The first number changes where a call, a number above or an answer is changed or taken away,
  * the second where some are added, the third where neither is so.
+ *   6.0.0: a key whole octaves from key 0 is home, whatever its layer: in a strip of two octaves the code at the octave is 0,
+ *          and so is vn_lamp of its keys. All other codes are what they were.
  *   5.0.0: at sharpness 0, where both steps are equal, vn_lamp_strip writes two octaves, and vn_lamp repeats after both. All
  *          other strips, and the first octave of these, have the codes that they had.
  *   4.0.0: a layout has a start, a uint16_t behind its tritave in every call, and each of these calls asks 18. With the
@@ -91,7 +93,7 @@ extern "C" {
  *          that they had.
  *   2.0.0: vn_sounded_key takes signs as one number, and asks 16 and 21.
  *   1.0.0, before these numbers stood here: it took sharps and flats as two numbers, and asked 15, VN_SPELLING. */
-#define VN_VERSION_MAJOR 5
+#define VN_VERSION_MAJOR 6
 #define VN_VERSION_MINOR 0
 #define VN_VERSION_PATCH 0
 
@@ -198,10 +200,10 @@ int64_t vn_layout_accidentals(uint16_t chain, uint16_t octave, uint16_t tritave,
 int64_t vn_sounded_key(uint16_t chain, uint16_t octave, uint16_t tritave, uint16_t start, uint16_t letter, int32_t signs,
                        uint16_t stars);
 
-/* ---- layers and lamps of a layout's keys. Keys of one layer number are lit alike, key 0 aside. Of T numbers, as
- * vn_layer_count says, 0 is the natural layer; j below T / 2 is sharp layer j - 1; j = T / 2, which only an even T has, is the
- * enharmonic layer j - 1; any other j is flat layer T - j - 1. So sharp and flat layers count from 0, away from the natural
- * one. */
+/* ---- layers and lamps of a layout's keys. Keys of one layer number are lit alike, but for home: key 0 and every key whole
+ * octaves from it. Of T numbers, as vn_layer_count says, 0 is the natural layer; j below T / 2 is sharp layer j - 1; j = T / 2,
+ * which only an even T has, is the enharmonic layer j - 1; any other j is flat layer T - j - 1. So sharp and flat layers count
+ * from 0, away from the natural one. */
 
 /* How many layer numbers there are: T. Asks 1, 2, 3, 4, 18. */
 int64_t vn_layer_count(uint16_t chain, uint16_t octave, uint16_t tritave, uint16_t start);
@@ -219,12 +221,13 @@ int64_t vn_layer(uint16_t chain, uint16_t octave, uint16_t tritave, uint16_t sta
 int64_t vn_layer_kind(uint16_t total, uint16_t number, uint16_t *out, size_t len);
 
 /* Writes the lamp code of each key of the octave, of two octaves at sharpness 0, where both steps are equal: there the colours
- * may alternate from octave to octave. Key 0 alone is home and has 0; else natural 1, sharp k 2 + k, flat k 102 + k,
- * enharmonic 255. Room for 2 x octave codes is always enough. Asks 1, 2, 3, 4, 18, 9, 10. */
+ * may alternate from octave to octave. Key 0 is home and has 0, and so has the key an octave up where there are two octaves,
+ * whatever its layer; else natural 1, sharp k 2 + k, flat k 102 + k, enharmonic 255. Room for 2 x octave codes is always
+ * enough. Asks 1, 2, 3, 4, 18, 9, 10. */
 int64_t vn_lamp_strip(uint16_t chain, uint16_t octave, uint16_t tritave, uint16_t start, uint8_t *out, size_t len);
 
 /* The lamp code of one key, of any octave: what vn_lamp_strip writes repeats, upwards and downwards, after all of its codes.
- * Asks 1, 2, 3, 4, 18, 9. */
+ * Every key whole octaves from key 0 is home and has 0, and no other key has it. Asks 1, 2, 3, 4, 18, 9. */
 int64_t vn_lamp(uint16_t chain, uint16_t octave, uint16_t tritave, uint16_t start, int32_t key);
 
 /* ---- books of key names, and key tables */

@@ -216,13 +216,14 @@ filling_from_layout! {
     /// The layer number of each key of the octave, or of two at sharpness 0 (1, 2, 3, 4, 18, 10).
     layout_layers = vn_layout_layers(; u16);
     /// The lamp code of each key of the octave, or of two at sharpness 0, where the colours may
-    /// alternate from octave to octave (1, 2, 3, 4, 18, 9, 10). Key 0 alone is home.
+    /// alternate from octave to octave (1, 2, 3, 4, 18, 9, 10). Key 0 is home, and so is the key
+    /// an octave up where there are two octaves, whatever its layer.
     ///
     /// ```
     /// let equalized = vetchnoon::Layout::new(1, 7, 11);
     /// let mut codes = [0; 2 * 7];
     /// assert_eq!(vetchnoon::lamp_strip(equalized, &mut codes), Ok(14));
-    /// assert_eq!(codes, [0, 1, 255, 255, 255, 255, 1, 1, 1, 255, 255, 255, 255, 1]);
+    /// assert_eq!(codes, [0, 1, 255, 255, 255, 255, 1, 0, 1, 255, 255, 255, 255, 1]);
     ///
     /// let twelve = vetchnoon::Layout::new(1, 12, 19);
     /// let mut codes = [0; 2 * 12];
@@ -253,7 +254,8 @@ number_from_layout! {
     /// ```
     layer = vn_layer(key: i32) -> u16;
     /// The lamp code of one key, of any octave (1, 2, 3, 4, 18, 9): what [`lamp_strip`] writes
-    /// repeats after all of its codes, two octaves of them at sharpness 0.
+    /// repeats after all of its codes, two octaves of them at sharpness 0. Every key whole
+    /// octaves from key 0 is home, and no other key is.
     ///
     /// ```
     /// let twelve = vetchnoon::Layout::new(1, 12, 19);
@@ -261,8 +263,9 @@ number_from_layout! {
     /// assert_eq!(vetchnoon::lamp(twelve, -1), Ok(255));
     ///
     /// let equalized = vetchnoon::Layout::new(3, 8, 13);
-    /// assert_eq!(vetchnoon::lamp(equalized, -8), Ok(255)); // an octave away, by its layer
-    /// assert_eq!(vetchnoon::lamp(equalized, -16), Ok(0)); // home
+    /// assert_eq!(vetchnoon::lamp(equalized, -8), Ok(0)); // home, whatever its layer
+    /// assert_eq!(vetchnoon::lamp(equalized, 5), Ok(255));
+    /// assert_eq!(vetchnoon::lamp(equalized, 5 - 8), Ok(1)); // an octave away, by its layer
     /// ```
     lamp = vn_lamp(key: i32) -> u8;
     /// How many bytes the book of a layout has (1, 2, 3, 4, 18).

@@ -1,5 +1,5 @@
 -- From the plan to what the calls answer: one law for each way in which a call ends.
-use Prim.Native.Nat.{ℕ, _*_, _≤_, _<_}
+use Prim.Native.Nat.{ℕ, _*_, _%_, _≤_, _<_}
 use mathlib.Core.Path.{_≡_, refl, sym, ap, _∙_}
 use mathlib.Core.Bool.{Bool, true, false}
 use mathlib.Core.List.{List}
@@ -93,10 +93,10 @@ module _ (r : IsomorphicLayout) (l : Layout) (e : given l ≡ layoutOutcome r) (
       round : place ≡ remainder key (stripLengthIn l)
       round = at ∙ ap (remainder key) (counted ∙ ap (λ (b : Bool). pick b (2 * l .octave) (l .octave)) (k .equalized-is))
 
-      pub lamp-at-home : place ≡ 0 → given 0 ≡ getLamp r key
+      pub lamp-at-home : place % l .octave ≡ 0 → given 0 ≡ getLamp r key
       lamp-at-home h = ap given (lamp-home l place h ∙ ap (lampIn l) round) ∙ lamp-of-layout key
 
-      pub lamp-given : (j c : ℕ) → (place ≡ 0 → ⊥) → j ≡ planNumber p place → c ≡ codeOf T j → given c ≡ getLamp r key
+      pub lamp-given : (j c : ℕ) → (place % l .octave ≡ 0 → ⊥) → j ≡ planNumber p place → c ≡ codeOf T j → given c ≡ getLamp r key
       lamp-given j c h number q =
           ap given
           (q ∙ ap (codeOf T) number ∙ lamp-is l p k (parts-of r l e .positive) T total place h ∙ ap (lampIn l) round)

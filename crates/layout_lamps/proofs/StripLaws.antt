@@ -1,17 +1,18 @@
 -- Codes and strips: T at most 202 leaves sharp and flat layers below 100, T above 202 has a key in sharp layer 100, and a plan's codes with home are the strip.
-use Prim.Native.Nat.{ℕ, zero, suc, _+_, _*_, _-_, _/_, _≤_, _<_}
+use Prim.Native.Nat.{ℕ, zero, suc, _+_, _*_, _-_, _/_, _%_, _≤_, _<_}
 use mathlib.Core.Path.{_≡_, refl, sym, ap, ap₂, subst, _∙_}
 use mathlib.Core.Bool.{Bool, true, false, _&&_, and-false}
 use mathlib.Core.List.{List, [], _∷_, _++_}
-use native.Mathlib.Nat.{mod-lt, mod-eq-of-lt, div-eq-of-lt, mul-pos}
+use native.Mathlib.Nat.{mod-lt, mod-eq-of-lt, mod-eq-sub-mod, mod-self, zero-mod, div-eq-of-lt, mul-pos, suc-mul, mul-le-mul-right}
+use native.Mathlib.Decide.{decLt}
 use native.Mathlib.Omega.{arith}
-use lib.ListN.{length, set, drop, length-set}
-use lib.Seq.{set-append-left}
+use lib.ListN.{length, getD, set, drop, length-set}
+use lib.Seq.{set-append-left, set-out, getD-set-same, getD-set-other, ext-getD}
 use lib.Dec.{eqb, ltb, leb}
 use borrow.Author.Tests.{eq-eqb, ne-eqb, eqb-true, eqb-false, lt-ltb, ltb-true, ltb-false, leb-true, leb-false}
 use Rattle.answer.specs.Choice.{pick}
 use Rattle.text.specs.Writing.{joined}
-use Rattle.text.proofs.Joined.{joined-same, joined-first}
+use Rattle.text.proofs.Joined.{joined-same}
 use Rattle.pergen.specs.Pergen.{cycle}
 use Rattle.mos_layers.specs.Layers.{layerSizes}
 use Rattle.layout.specs.declared.IsomorphicLayout.{IsomorphicLayout}
@@ -20,13 +21,13 @@ use Rattle.layout_layers.specs.declared.Layer.{Layer}
 use Rattle.layout_layers.specs.declared.Layer.the-variants.{Natural, Sharp, Enharmonic, Flat}
 use Rattle.layout_layers.specs.declared.parts.Plan.{Plan}
 use Rattle.layout_layers.specs.KeyLayers.{equalized, layerCount, kindOf, numberIn, countIn}
-use Rattle.layout_layers.specs.Parts.{Spread, InTurns, listedNumber, totalOf, Sound, PlanOf, turnLayer, planNumber, turnsOf, Fronted}
-use Rattle.layout_layers.proofs.SpreadLaws.{length-listed, spread-as, spread-front}
+use Rattle.layout_layers.specs.Parts.{keysOf, Spread, InTurns, listedNumber, totalOf, Sound, PlanOf, turnLayer, planNumber, turnsOf, listed, Fronted}
+use Rattle.layout_layers.proofs.SpreadLaws.{length-listed, listed-at, spread-as, spread-front}
 use Rattle.layout_layers.proofs.ChainLaws.{some-places}
 use Rattle.layout_layers.proofs.PlanLaws.{number-is, number-listed, keys-are, turns-fill, kind-natural, kind-sharp, kind-enharmonic, kind-flat, turn-below}
 use Rattle.layout_layers.proofs.Theorems.{counts-fit, each-number-is-met, first-keys}
 use Rattle.layout_lamps.specs.Lamps.{lampCode, kindAt, lampOf, codesOf, stripOf, lampable, every, hasLamps, lampIn, stripLengthIn, stripIn, hasLampsIn, octaveStripIn, kindIn}
-use Rattle.layout_lamps.specs.Parts.{codeOf, Degrees, planCodes, planStrip}
+use Rattle.layout_lamps.specs.Parts.{codeOf, Degrees, planCodes, homed, planStrip}
 
 -- ---- codes
 
@@ -70,7 +71,8 @@ pub length-plan-codes : (p : Plan) (T turns : ℕ) → length (planCodes p T tur
 length-plan-codes p T turns = length-listed (λ i. codeOf T (planNumber p i)) (turns * p .chain .«num_cycles»)
 
 pub length-strip : (p : Plan) (T turns : ℕ) → turns * p .chain .«num_cycles» ≡ length (planStrip p T turns)
-length-strip p T turns = sym (length-set (planCodes p T turns) 0 0 ∙ length-plan-codes p T turns)
+length-strip p T turns =
+    sym (length-set (set (planCodes p T turns) 0 0) (keysOf (p .chain)) 0 ∙ length-set (planCodes p T turns) 0 0 ∙ length-plan-codes p T turns)
 
 -- a strip in front, its degrees said otherwise
 pub as-degrees : (p : Plan) (T : ℕ) (xs : List ℕ) {turns k : ℕ} {ys : List ℕ} → turns ≡ k → Fronted (planStrip p T turns) xs ys
@@ -110,14 +112,43 @@ module _ (p : Plan) (T turns : ℕ) (sound : Sound p) (d : Degrees p turns) (xs 
   pub some-codes : 0 < turns * p .chain .«num_cycles»
   some-codes = mul-pos (d .some) (sound .unbroken .some-cycles)
 
-  pub home-over : {ys : List ℕ} → Spread (InTurns (p .chain .«num_cycles») turns) (λ i. codeOf T (planNumber p i)) xs ys
-      → Fronted (planStrip p T turns) xs (set ys 0 0)
-  home-over s =
+  -- key 0's home, and the text behind the codes
+  fronted : {ys : List ℕ} → Spread (InTurns (p .chain .«num_cycles») turns) (λ i. codeOf T (planNumber p i)) xs ys
+      → set ys 0 0 ≡ set (planCodes p T turns) 0 0 ++ drop (length (planCodes p T turns)) xs
+  fronted s =
       let text = planCodes p T turns in
       ap (λ (l : List ℕ). set l 0 0)
       (spread-front (p .chain .«num_cycles») turns (λ i. codeOf T (planNumber p i)) (sound .unbroken .some-cycles) room s)
       ∙ set-append-left text (drop (length text) xs) 0 0 (omega (arith, length-plan-codes p T turns, some-codes))
-      ∙ ap (λ (k : ℕ). set text 0 0 ++ drop k xs) (sym (length-set text 0 0))
+
+  codes-length : length (set (planCodes p T turns) 0 0) ≡ turns * p .chain .«num_cycles»
+  codes-length = length-set (planCodes p T turns) 0 0 ∙ length-plan-codes p T turns
+
+  -- one octave: there is no entry at the octave
+  pub home-over : turns ≤ p .chain .«reduced_period» → {ys : List ℕ}
+      → Spread (InTurns (p .chain .«num_cycles») turns) (λ i. codeOf T (planNumber p i)) xs ys → Fronted (planStrip p T turns) xs (set ys 0 0)
+  home-over h s =
+      let codes = set (planCodes p T turns) 0 0 in
+      let out : set codes (keysOf (p .chain)) 0 ≡ codes
+      = set-out codes (keysOf (p .chain)) 0 (omega (arith, codes-length, mul-le-mul-right (p .chain .«num_cycles») h)) in
+      fronted s
+      ∙ ap₂ (λ (l : List ℕ) (k : ℕ). l ++ drop k xs) (sym out) (sym (ap length out ∙ length-set (planCodes p T turns) 0 0))
+
+  -- two octaves: home at the octave too
+  pub octave-inside : p .chain .«reduced_period» < turns → keysOf (p .chain) < turns * p .chain .«num_cycles»
+  octave-inside h =
+      omega (arith, mul-le-mul-right (p .chain .«num_cycles») h, suc-mul (p .chain .«reduced_period») (p .chain .«num_cycles»), sound .unbroken .some-cycles)
+
+  pub homes-over : p .chain .«reduced_period» < turns → {ys : List ℕ}
+      → Spread (InTurns (p .chain .«num_cycles») turns) (λ i. codeOf T (planNumber p i)) xs ys
+      → Fronted (planStrip p T turns) xs (set (set ys 0 0) (keysOf (p .chain)) 0)
+  homes-over h s =
+      let codes = set (planCodes p T turns) 0 0 in
+      let behind = drop (length (planCodes p T turns)) xs in
+      ap (λ (l : List ℕ). set l (keysOf (p .chain)) 0) (fronted s)
+      ∙ set-append-left codes behind (keysOf (p .chain)) 0 (omega (arith, codes-length, octave-inside h))
+      ∙ ap (λ (k : ℕ). set codes (keysOf (p .chain)) 0 ++ drop k xs)
+      (sym (length-set codes (keysOf (p .chain)) 0 ∙ length-set (planCodes p T turns) 0 0))
 
 -- the codes of the layers, of a scale that is not equalized
 pub codes-listed : (p : Plan) (T turns : ℕ) {xs ys : List ℕ} → Degrees p turns → p .equalized ≡ false
@@ -199,17 +230,61 @@ module _ (r : IsomorphicLayout) (l : Layout) (ok : Accepted r l) where
 
 -- ---- the strip
 
--- key 0 is home, and the others have their codes
-pub home-first : (f : ℕ → ℕ) (P : ℕ) → set (joined (λ i. f i ∷ []) P) 0 0 ≡ joined (λ i. pick (eqb i 0) 0 (f i) ∷ []) P
-unfolding joined
-home-first f zero = refl
-home-first f (suc n) =
-    ap (λ (xs : List ℕ). set xs 0 0) (joined-first (λ i. f i ∷ []) n)
-    ∙ ap (λ (xs : List ℕ). 0 ∷ xs)
-    (joined-same (λ i. f (suc i) ∷ []) (λ i. pick (eqb (suc i) 0) 0 (f (suc i)) ∷ []) n
-    (λ i h. ap (λ (b : Bool). pick b 0 (f (suc i)) ∷ []) (sym (ne-eqb (suc i) 0 (λ e. omega arith)))))
-    ∙ ap (λ (b : Bool). pick b 0 (f 0) ∷ joined (λ i. pick (eqb (suc i) 0) 0 (f (suc i)) ∷ []) n) (sym (eq-eqb 0 0 refl))
-    ∙ sym (joined-first (λ i. pick (eqb i 0) 0 (f i) ∷ []) n)
+pub equal-or-not : (i j : ℕ) → Dec (i ≡ j)
+equal-or-not i j = by (eqb i j) refl
+  where
+    by : (b : Bool) → eqb i j ≡ b → Dec (i ≡ j)
+    by true e = yes (eqb-true i j e)
+    by false e = no (eqb-false i j e)
+
+-- a number below 2 × P that is neither 0 nor P is no multiple of P
+pub between : (P i : ℕ) → i < 2 * P → (i ≡ P → ⊥) → (i ≡ 0 → ⊥) → i % P ≡ 0 → ⊥
+between P i h p z e = by (decLt i P)
+  where
+    by : Dec (i < P) → ⊥
+    by (yes l) = z (sym (mod-eq-of-lt l) ∙ e)
+    by (no l) =
+        let above : P ≤ i = omega arith in
+        let rest : (i - P) % P ≡ i - P = mod-eq-of-lt (let q : i - P < P = omega arith in q) in
+        p (omega (arith, mod-eq-sub-mod above, rest, e))
+
+-- in two octaves at most, home at key 0 and at the octave is home at the multiples of the octave
+pub homes : (f : ℕ → ℕ) (P count : ℕ) → 0 < P → count ≤ 2 * P → homed P (listed f count) ≡ listed (λ i. pick (eqb (i % P) 0) 0 (f i)) count
+homes f P count some few =
+    ext-getD 0 (homed P (listed f count)) (listed g count)
+    (long ∙ sym (length-listed g count))
+    (λ i h. at i (subst (λ (k : ℕ). i < k) long h) (equal-or-not i P) (equal-or-not i 0))
+  where
+    g : ℕ → ℕ
+    g i = pick (eqb (i % P) 0) 0 (f i)
+
+    long : length (homed P (listed f count)) ≡ count
+    long = length-set (set (listed f count) 0 0) P 0 ∙ length-set (listed f count) 0 0 ∙ length-listed f count
+
+    house : (i : ℕ) → i % P ≡ 0 → 0 ≡ g i
+    house i e = ap (λ (b : Bool). pick b 0 (f i)) (sym (eq-eqb (i % P) 0 e))
+
+    other : (i : ℕ) → (i % P ≡ 0 → ⊥) → f i ≡ g i
+    other i e = ap (λ (b : Bool). pick b 0 (f i)) (sym (ne-eqb (i % P) 0 e))
+
+    at : (i : ℕ) → i < count → Dec (i ≡ P) → Dec (i ≡ 0) → getD (homed P (listed f count)) i 0 ≡ getD (listed g count) i 0
+    at i h (yes p) z =
+        ap (λ (k : ℕ). getD (homed P (listed f count)) k 0) p
+        ∙ getD-set-same (set (listed f count) 0 0) P 0 0 (omega (arith, length-set (listed f count) 0 0, length-listed f count, h, p))
+        ∙ house i (ap (λ (k : ℕ). k % P) p ∙ mod-self P)
+        ∙ sym (listed-at g count i h)
+    at i h (no p) (yes z) =
+        getD-set-other (set (listed f count) 0 0) P i 0 0 p
+        ∙ ap (λ (k : ℕ). getD (set (listed f count) 0 0) k 0) z
+        ∙ getD-set-same (listed f count) 0 0 0 (omega (arith, length-listed f count, h))
+        ∙ house i (ap (λ (k : ℕ). k % P) z ∙ zero-mod P)
+        ∙ sym (listed-at g count i h)
+    at i h (no p) (no z) =
+        getD-set-other (set (listed f count) 0 0) P i 0 0 p
+        ∙ getD-set-other (listed f count) 0 i 0 0 z
+        ∙ listed-at f count i h
+        ∙ other i (between P i (omega arith) p z)
+        ∙ sym (listed-at g count i h)
 
 module _ (l : Layout) (p : Plan) (k : PlanOf l p) (some : 0 < l .octave) (T : ℕ) (is : T ≡ countIn l) where
   -- the code of a key, by the plan
@@ -217,30 +292,38 @@ module _ (l : Layout) (p : Plan) (k : PlanOf l p) (some : 0 < l .octave) (T : �
   unfolding codeOf kindAt
   code-at i = ap₂ (λ (t j : ℕ). lampCode (kindOf t j)) is (number-is l p k i)
 
-  codes-are : (turns count : ℕ) → turns * p .chain .«num_cycles» ≡ count
+  codes-are : (turns count : ℕ) → turns * p .chain .«num_cycles» ≡ count → count ≤ 2 * l .octave
       → planStrip p T turns ≡ codesOf (l .octave) (l .generator) (l .letters) (l .start) (l .pattern) count
   unfolding codesOf lampOf
-  codes-are turns count many =
+  codes-are turns count many few =
       let f : ℕ → ℕ = λ i. lampCode (kindIn l i) in
-      ap (λ (xs : List ℕ). set xs 0 0)
+      ap₂ (λ (keys : ℕ) (xs : List ℕ). homed keys xs) (keys-are l p k some)
       (joined-same (λ i. codeOf T (planNumber p i) ∷ []) (λ i. f i ∷ []) (turns * p .chain .«num_cycles») (λ i h. ap (λ (x : ℕ). x ∷ []) (code-at i))
       ∙ ap (joined (λ i. f i ∷ [])) many)
-      ∙ home-first f count
+      ∙ homes f (l .octave) count some few
+
+  strip-few : stripLengthIn l ≤ 2 * l .octave
+  strip-few = by (equalized (l .pattern))
+    where
+      by : (b : Bool) → pick b (2 * l .octave) (l .octave) ≤ 2 * l .octave
+      by true = omega arith
+      by false = omega arith
 
   pub strip-is : planStrip p T (turnsOf p) ≡ stripIn l
   unfolding stripOf
-  strip-is = codes-are (turnsOf p) (stripLengthIn l) (turns-fill l p k some)
+  strip-is = codes-are (turnsOf p) (stripLengthIn l) (turns-fill l p k some) strip-few
 
   pub octave-strip-is : (turns : ℕ) → turns ≡ p .chain .«reduced_period» → planStrip p T turns ≡ octaveStripIn l
-  octave-strip-is turns is = codes-are turns (l .octave) (ap (λ (x : ℕ). x * p .chain .«num_cycles») is ∙ keys-are l p k some)
+  octave-strip-is turns is =
+      codes-are turns (l .octave) (ap (λ (x : ℕ). x * p .chain .«num_cycles») is ∙ keys-are l p k some) (omega arith)
 
-  pub lamp-is : (i : ℕ) → (i ≡ 0 → ⊥) → codeOf T (planNumber p i) ≡ lampIn l i
+  pub lamp-is : (i : ℕ) → (i % l .octave ≡ 0 → ⊥) → codeOf T (planNumber p i) ≡ lampIn l i
   unfolding lampOf
   lamp-is i h =
       code-at i
-      ∙ ap (λ (b : Bool). pick b 0 (lampCode (kindIn l i))) (sym (ne-eqb i 0 h))
+      ∙ ap (λ (b : Bool). pick b 0 (lampCode (kindIn l i))) (sym (ne-eqb (i % l .octave) 0 h))
 
-pub lamp-home : (l : Layout) (i : ℕ) → i ≡ 0 → 0 ≡ lampIn l i
+pub lamp-home : (l : Layout) (i : ℕ) → i % l .octave ≡ 0 → 0 ≡ lampIn l i
 unfolding lampOf
 lamp-home l i e =
-    ap (λ (b : Bool). pick b 0 (lampCode (kindIn l i))) (sym (eq-eqb i 0 e))
+    ap (λ (b : Bool). pick b 0 (lampCode (kindIn l i))) (sym (eq-eqb (i % l .octave) 0 e))

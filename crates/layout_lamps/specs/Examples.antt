@@ -7,7 +7,9 @@ use Rattle.answer.specs.Outcome.{Outcome, given, refused}
 use Rattle.layout.specs.declared.IsomorphicLayout.{IsomorphicLayout}
 use Rattle.layout.specs.Examples.{layout}
 use Rattle.layout_layers.specs.declared.Layer.the-variants.{Natural, Sharp, Enharmonic, Flat}
-use Rattle.layout_lamps.specs.Lamps.{lampCode}
+use Rattle.layout_lamps.specs.Lamps.{lampCode, earlierLampIn}
+use Rattle.layout.specs.Answers.{ofLayout}
+use Rattle.layout.specs.Layouts.{Layout}
 use Rattle.layout_lamps.specs.Answers.{getStrip, getLamp}
 
 pub record StripExample : Type 0 where
@@ -54,13 +56,15 @@ abbrev pub lampExamples : List LampExample
 lampExamples =
     record { layout = layout 2 7 8; key = pos 3; code = given 2 }
     ∷ record { layout = layout 1 7 11; key = pos 0; code = given 0 }
-    -- the entry at the octave has its layer's colour; the strip of two octaves repeats, above and below
-    ∷ record { layout = layout 1 7 11; key = pos 7; code = given 1 }
+    -- the entry at the octave is home; the strip of two octaves repeats, above and below
+    ∷ record { layout = layout 1 7 11; key = pos 7; code = given 0 }
+    ∷ record { layout = layout 1 7 11; key = pos 8; code = given 1 }
     ∷ record { layout = layout 1 7 11; key = pos 14; code = given 0 }
-    ∷ record { layout = layout 1 7 11; key = negsuc 6; code = given 1 }
+    ∷ record { layout = layout 1 7 11; key = negsuc 6; code = given 0 }
+    ∷ record { layout = layout 1 7 11; key = negsuc 5; code = given 1 }
     ∷ record { layout = layout 1 7 11; key = negsuc 13; code = given 0 }
-    -- enharmonic at the octave: Porcupine[8] with 8 and 13
-    ∷ record { layout = layout 3 8 13; key = pos 8; code = given 255 }
+    -- "In Porcupine[8] with 8 and 13 that entry goes from 255 to 0."
+    ∷ record { layout = layout 3 8 13; key = pos 8; code = given 0 }
     ∷ record { layout = layout 1 7 11; key = pos 9; code = given 255 }
     ∷ record { layout = layout 1 707 1111; key = pos 100; code = given 101 }
     ∷ record { layout = layout 1 714 1122; key = pos 0; code = refused 9 }
@@ -78,3 +82,5 @@ pub record ExamplesHold : Type 0 where
   pub codes : map lampCode (Natural ∷ Sharp 0 ∷ Sharp 99 ∷ Flat 0 ∷ Flat 99 ∷ Enharmonic 7 ∷ []) ≡ 1 ∷ 2 ∷ 101 ∷ 102 ∷ 201 ∷ 255 ∷ []
   pub strips : map (λ (e : StripExample). getStrip (e .layout)) stripExamples ≡ map (λ (e : StripExample). e .strip) stripExamples
   pub lamps : map (λ (e : LampExample). getLamp (e .layout) (e .key)) lampExamples ≡ map (λ (e : LampExample). e .code) lampExamples
+  -- before W-206 the entry at the octave of code 3, 8, 13 was enharmonic
+  pub earlier : ofLayout (layout 3 8 13) (λ (l : Layout). given (earlierLampIn l 8)) ≡ given 255

@@ -1,5 +1,5 @@
--- The lamp strip of a layout (document 01, "Lamps and book", as document 02 amends it: W-204).
-use Prim.Native.Nat.{ℕ, zero, suc, _+_}
+-- The lamp strip of a layout (document 01, "Lamps and book", as document 02 amends it: W-204, W-206).
+use Prim.Native.Nat.{ℕ, zero, suc, _+_, _%_}
 use mathlib.Core.Bool.{Bool, true, false, _&&_}
 use mathlib.Core.List.{List, [], _∷_}
 use lib.Dec.{eqb, ltb}
@@ -27,10 +27,11 @@ unfoldable pub kindAt : (P G N start : ℕ) → Mos → ℕ → Layer
 unfolding kindOf layerCount layerNumber
 kindAt P G N start m i = kindOf (layerCount P G m) (layerNumber P G N start m i)
 
--- The code of entry i: "Only key 0 is home", any other entry has the colour of its layer.
+-- The code of entry i. "The home rule now goes first" (document 02, W-206): a key whole octaves from key 0 is home, by its note; any other
+-- has the colour of its layer.
 unfoldable pub lampOf : (P G N start : ℕ) → Mos → ℕ → ℕ
 unfolding lampCode kindAt
-lampOf P G N start m i = pick (eqb i 0) home (lampCode (kindAt P G N start m i))
+lampOf P G N start m i = pick (eqb (i % P) 0) home (lampCode (kindAt P G N start m i))
 
 -- The one-byte codes of the first entries.
 unfoldable pub codesOf : (P G N start : ℕ) → Mos → (count : ℕ) → List ℕ
@@ -79,6 +80,10 @@ hasLampsIn l = hasLamps (l .octave) (l .generator) (l .letters) (l .start) (l .p
 -- Document 01's strip, before W-204: the codes of one octave, whatever the sharpness. The key table still has these.
 abbrev pub octaveStripIn : Layout → List ℕ
 octaveStripIn l = codesOf (l .octave) (l .generator) (l .letters) (l .start) (l .pattern) (l .octave)
+
+-- The code of an entry before W-206: key 0 alone was home. For the statement `HomeGoesFirst`.
+abbrev pub earlierLampIn : Layout → ℕ → ℕ
+earlierLampIn l i = pick (eqb i 0) home (lampCode (kindAt (l .octave) (l .generator) (l .letters) (l .start) (l .pattern) i))
 
 -- The kind of an entry's layer.
 abbrev pub kindIn : Layout → ℕ → Layer

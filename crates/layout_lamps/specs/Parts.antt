@@ -6,7 +6,7 @@ use mathlib.Core.List.{List}
 use lib.ListN.{set}
 use Rattle.layout_layers.specs.declared.parts.Plan.{Plan}
 use Rattle.layout_layers.specs.KeyLayers.{kindOf}
-use Rattle.layout_layers.specs.Parts.{planNumber, listed}
+use Rattle.layout_layers.specs.Parts.{keysOf, planNumber, listed}
 use Rattle.layout_lamps.specs.Lamps.{lampCode}
 
 -- The code of a layer's number, of T.
@@ -24,6 +24,10 @@ pub record Degrees (p : Plan) (turns : ℕ) : Type 0 where
 abbrev pub planCodes : Plan → (T turns : ℕ) → List ℕ
 planCodes p T turns = listed (λ i. codeOf T (planNumber p i)) (turns * p .chain .«num_cycles»)
 
--- The strip of so many: key 0 is home.
+-- Home at key 0, and at the octave where there is a second one: a store past the end changes nothing.
+abbrev pub homed : (keys : ℕ) → List ℕ → List ℕ
+homed keys codes = set (set codes 0 0) keys 0
+
+-- The strip of so many scale degrees.
 abbrev pub planStrip : Plan → (T turns : ℕ) → List ℕ
-planStrip p T turns = set (planCodes p T turns) 0 0
+planStrip p T turns = homed (keysOf (p .chain)) (planCodes p T turns)

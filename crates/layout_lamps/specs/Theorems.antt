@@ -1,13 +1,18 @@
 -- What holds of every strip. Proofs: proofs/Theorems.antt.
-use Prim.Native.Nat.{ℕ, _≤_, _<_}
+use Prim.Native.Nat.{ℕ, _%_, _≤_, _<_}
+use mathlib.Core.Logic.{_↔_}
 use mathlib.Core.Path.{_≡_}
 use mathlib.Core.Bool.{true, false}
 use lib.Dec.{leb}
+use lib.IntN.{ℤ, pos}
 use lib.ListN.{length, take}
+use Rattle.answer.specs.Outcome.{given}
+use Rattle.math.specs.Division.{Apart}
 use Rattle.layout.specs.declared.IsomorphicLayout.{IsomorphicLayout}
 use Rattle.layout.specs.Layouts.{Layout, Accepted}
 use Rattle.layout_layers.specs.KeyLayers.{equalized, countIn}
-use Rattle.layout_lamps.specs.Lamps.{lampCode, lampIn, stripLengthIn, stripIn, hasLampsIn, octaveStripIn, kindIn}
+use Rattle.layout_lamps.specs.Answers.{getLamp}
+use Rattle.layout_lamps.specs.Lamps.{lampIn, stripLengthIn, stripIn, hasLampsIn, octaveStripIn, earlierLampIn}
 
 -- Theorem: question 9 has the answer yes exactly where T is at most 202.
 abbrev pub LampsByCount : Type 0
@@ -22,10 +27,15 @@ abbrev pub CodesFitBytes : Type 0
 CodesFitBytes =
     (r : IsomorphicLayout) (l : Layout) → Accepted r l → hasLampsIn l ≡ true → (key : ℕ) → lampIn l key < 256
 
--- Theorem: of a strip's entries, key 0 has home's code and no other has it.
-pub record OneHome : Type 0 where
-  pub zero : (l : Layout) → lampIn l 0 ≡ 0
-  pub others : (l : Layout) (entry : ℕ) → 0 < entry → entry < stripLengthIn l → 0 < lampIn l entry
+-- Theorem: home's code is that of the keys whole octaves from key 0, and of no others.
+abbrev pub OneHome : Type 0
+OneHome = (l : Layout) (key : ℕ) → (lampIn l key ≡ 0) ↔ (key % l .octave ≡ 0)
+
+-- Theorem: so one key's lamp is home's exactly where the key is whole octaves from key 0, above or below it.
+abbrev pub HomeKeys : Type 0
+HomeKeys =
+    (r : IsomorphicLayout) (l : Layout) → Accepted r l → hasLampsIn l ≡ true
+    → (key : ℤ) → (getLamp r key ≡ given 0) ↔ Apart (l .octave) key (pos 0)
 
 -- Theorem: a strip has a code for each entry: for each key of the octave, or of two where the scale is equalized.
 abbrev pub StripsAreWhole : Type 0
@@ -36,7 +46,13 @@ pub record FirstOctaveStays : Type 0 where
   pub unchanged : (l : Layout) → equalized (l .pattern) ≡ false → stripIn l ≡ octaveStripIn l
   pub first-half : (l : Layout) → equalized (l .pattern) ≡ true → take (l .octave) (stripIn l) ≡ octaveStripIn l
 
--- Theorem: the entry at the octave has the colour of its layer.
-abbrev pub OctaveByItsLayer : Type 0
-OctaveByItsLayer =
-    (r : IsomorphicLayout) (l : Layout) → Accepted r l → lampIn l (l .octave) ≡ lampCode (kindIn l (l .octave))
+-- Theorem: "The old answers that change are the entry at octave in every equalized strip, and nothing else" (document 02, W-206).
+pub record HomeGoesFirst (l : Layout) : Type 0 where
+  -- in a strip of two octaves, the entry at the octave had a layer's colour and is home now;
+  pub at-octave : equalized (l .pattern) ≡ true
+      → (l .octave < stripLengthIn l) × (0 < earlierLampIn l (l .octave)) × (lampIn l (l .octave) ≡ 0)
+  -- every other entry of every strip is what it was.
+  pub elsewhere : (entry : ℕ) → entry < stripLengthIn l → (entry ≡ l .octave → ⊥) → lampIn l entry ≡ earlierLampIn l entry
+
+abbrev pub HomeChangesOneEntry : Type 0
+HomeChangesOneEntry = (r : IsomorphicLayout) (l : Layout) → Accepted r l → HomeGoesFirst l

@@ -1,7 +1,7 @@
 // The lamp strip of a layout (document 01, "Lamps and book"): a one-byte code for each key of the octave, of two octaves where the scale is
 // equalized, since its colours may alternate from octave to octave (document 02, W-204).
 //
-// Home is 0, natural keys have 1, sharp layers 2 to 101, flat layers 102 to 201 and enharmonic ones 255.
+// Home, which is key 0 and every key whole octaves from it, is 0, natural keys have 1, sharp layers 2 to 101, flat layers 102 to 201 and enharmonic ones 255.
 // specs/: Lamps defines, Answers says what each call answers, Theorems and Examples state what holds.
 // A layout with a sharp or flat layer of number 100 or more has no strip (9). Lamps follow the layers and not the names.
 // Every entry point answers every input; the modules of parts ask for more, as their heads say. Nothing is assumed.
@@ -68,7 +68,7 @@ pub fn lamp(layout: IsomorphicLayout, key: i32) -> NumberAnswer
             }
             let entries = layout_layers::parts::entry_count(plan, found.octave);
             let place = math::parts::rem_u32(key, entries);
-            if place == 0 {
+            if place % (found.octave as u32) == 0 {
                 return NumberAnswer::Given(0);
             }
             let solved = euclid::solve(found.octave, found.generator);

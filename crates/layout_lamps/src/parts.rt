@@ -27,13 +27,20 @@ pub fn code(total: u16, number: u16) -> u8
     (101 + (total - number)) as u8
 }
 
-// The strip of so many scale degrees at the front of a slice that is known to hold it: key 0 is home.
+// The strip of so many scale degrees at the front of a slice that is known to hold it: key 0 is home, and so is the octave where a second
+// one follows.
 pub fn put_strip(out: &mut [u8], plan: Plan, total: u16, turns: u32)
     requires { ⌜ Sound plan × (total ≡ totalOf plan) × (total ≤ 202) × Degrees plan turns × (turns * plan .chain .«num_cycles» ≤ length (now out)) ⌝ }
     ensures { λ r. ⌜ Fronted (planStrip plan total turns) (now (out .entry)) (now (out .exit)) ⌝ }
 {
     key_codes::put_codes(out, plan, total, turns);
     out[0] = 0;
+    let chain = plan.chain;
+    if turns <= chain.reduced_period as u32 {
+        return;
+    }
+    let keys = (chain.reduced_period as usize) * (chain.num_cycles as usize);
+    out[keys] = 0;
 }
 
 // The strip at the front of a slice that holds it (10).

@@ -345,12 +345,13 @@ fn pattern_layers(n: Numbers) -> Row {
     )
 }
 
-/// Document 01's code for a layer of the original.
-fn lamp(key: usize, layer: Layer) -> u8 {
-    match key {
-        0 => HOME,
-        _ => reading::layouts::lamp(layouts::kind_of(layer)),
+/// Document 01's code for a layer of the original. A strip has at most two octaves, and the
+/// first key of each is home.
+fn lamp(octave: u16, key: u16, layer: Layer) -> u8 {
+    if key == 0 || key == octave {
+        return HOME;
     }
+    reading::layouts::lamp(layouts::kind_of(layer))
 }
 
 fn strip(n: Numbers) -> Row {
@@ -364,11 +365,8 @@ fn strip(n: Numbers) -> Row {
             length + usize::from(codes[length - 1])
         },
         move || {
-            let layers = layout().get_layers().into_iter();
-            let codes: Vec<u8> = layers
-                .enumerate()
-                .map(|(key, layer)| lamp(key, layer))
-                .collect();
+            let keys = (0..).zip(layout().get_layers());
+            let codes: Vec<u8> = keys.map(|(key, layer)| lamp(n.1, key, layer)).collect();
             codes.len() + usize::from(codes[codes.len() - 1])
         },
     )
@@ -392,7 +390,7 @@ fn their_table(line: &str) -> String {
     let mut table = String::new();
     for (key, layer) in (0..n.1).zip(layout.get_layers()) {
         let name = layout.get_note_name(key);
-        let lamp = lamp(key.into(), layer);
+        let lamp = lamp(n.1, key, layer);
         writeln!(table, "{key} {name} {lamp}").expect("a string takes all text");
     }
     table

@@ -77,11 +77,11 @@ pub fn kind_of(layer: Layer) -> Kind {
     }
 }
 
-/// The strip that all of the original's layers make with document 01's lamp codes, or the
-/// refusal where they have no codes.
+/// The strip that all of the original's layers make with document 01's lamp codes, home's
+/// going first (W-206), or the refusal where they have no codes.
 pub fn strip(layout: &IsomorphicLayout) -> Answer<Outcome<Vec<u8>>> {
     let kinds: Vec<Kind> = layers(layout)?.into_iter().map(kind_of).collect();
-    Ok(strip_of(&kinds))
+    Ok(strip_of(layout.pergen().period().into(), &kinds))
 }
 
 /// The names of the octave's keys.
@@ -151,7 +151,7 @@ mod tests {
     #[test]
     fn a_strip_of_two_octaves() {
         let seven = create(Genchain::Meantone7, 7, 11).unwrap().unwrap();
-        let codes = vec![0, 1, 255, 255, 255, 255, 1, 1, 1, 255, 255, 255, 255, 1];
+        let codes = vec![0, 1, 255, 255, 255, 255, 1, 0, 1, 255, 255, 255, 255, 1];
         assert_eq!(strip(&seven), Ok(Ok(codes)));
     }
 

@@ -111,7 +111,7 @@ impl Layout {
             .iter()
             .map(|number| layers::kind((*number).into(), total))
             .collect();
-        strip_of(&kinds)
+        strip_of(self.pergen.period, &kinds)
     }
 }
 
@@ -125,19 +125,26 @@ pub fn repeated<T: Copy>(entries: &[T], key: i32) -> T {
 
 /// The lamp codes of a strip's keys. Question 9: "is every sharp and flat layer number
 /// of the lamp strip below 100?"
-pub fn strip_of(kinds: &[Kind]) -> Outcome<Vec<u8>> {
+pub fn strip_of(octave: Whole, kinds: &[Kind]) -> Outcome<Vec<u8>> {
     let below_100 = |kind: &Kind| match kind {
         Kind::Sharp(level) | Kind::Flat(level) => *level < 100,
         Kind::Natural | Kind::Enharmonic(_) => true,
     };
     ask(9, kinds.iter().all(below_100))?;
 
-    let mut strip: Vec<u8> = kinds.iter().copied().map(lamp).collect();
-    strip[0] = HOME;
-    Ok(strip)
+    let keys = (0..).zip(kinds);
+    Ok(keys.map(|(key, kind)| code(octave, key, *kind)).collect())
 }
 
-/// "Key 0 is 0, home", and "only key 0 is home" (W-204).
+/// "Key 0 is 0, home." A key whole octaves from it "is home by its note, and it has a layer
+/// colour. The home rule now goes first" (W-206).
+fn code(octave: Whole, key: Whole, kind: Kind) -> u8 {
+    if key % octave == 0 {
+        return HOME;
+    }
+    lamp(kind)
+}
+
 pub const HOME: u8 = 0;
 
 /// "Natural 1, sharp k 2 + k, flat k 102 + k, enharmonic 255."
@@ -210,7 +217,7 @@ mod tests {
     #[test]
     fn strips() {
         let strip = |octave, tritave| Layout::new(1, octave, tritave).unwrap().strip();
-        let seven = vec![0, 1, 255, 255, 255, 255, 1, 1, 1, 255, 255, 255, 255, 1];
+        let seven = vec![0, 1, 255, 255, 255, 255, 1, 0, 1, 255, 255, 255, 255, 1];
         assert_eq!(strip(7, 11), Ok(seven));
         assert_eq!(
             strip(12, 19),
@@ -223,9 +230,10 @@ mod tests {
     fn an_equalized_strip_has_two_octaves() {
         let strip = Layout::new(3, 8, 13).unwrap().strip().unwrap();
         assert_eq!(strip.len(), 16);
-        // Enharmonic at the octave, and home after both, on both sides.
+        // Home at every octave, on both sides; the keys beside it alternate.
         let lamp = |key| repeated(&strip, key);
-        assert_eq!([0, 8, 16, -8, -16].map(lamp), [0, 255, 0, 255, 0]);
+        assert_eq!([0, 8, 16, -8, -16].map(lamp), [0; 5]);
+        assert_eq!([1, 9, 17, -7, -15].map(lamp), [1, 255, 1, 255, 1]);
         // The last strip whose sharp layers have codes, and the first without.
         let cycles = |n: u16| Layout::new(1, 7 * n, 11 * n).unwrap().strip();
         assert_eq!(cycles(101).unwrap().len(), 2 * 707);
@@ -254,8 +262,8 @@ mod tests {
             Kind::Flat(99),
             Kind::Enharmonic(400),
         ];
-        assert_eq!(strip_of(&kinds), Ok(vec![0, 1, 2, 101, 102, 201, 255]));
-        assert_eq!(strip_of(&[Kind::Natural, Kind::Sharp(100)]), Err(9));
-        assert_eq!(strip_of(&[Kind::Natural, Kind::Flat(100)]), Err(9));
+        assert_eq!(strip_of(7, &kinds), Ok(vec![0, 1, 2, 101, 102, 201, 255]));
+        assert_eq!(strip_of(2, &[Kind::Natural, Kind::Sharp(100)]), Err(9));
+        assert_eq!(strip_of(2, &[Kind::Natural, Kind::Flat(100)]), Err(9));
     }
 }

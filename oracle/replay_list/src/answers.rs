@@ -416,7 +416,7 @@ mod tests {
         };
         assert_eq!(
             answer(&Question::OfLayout(OfLayout::Lamps, layout)).as_deref(),
-            Some("0 1 255 255 255 255 1 1 1 255 255 255 255 1\n")
+            Some("0 1 255 255 255 255 1 0 1 255 255 255 255 1\n")
         );
     }
 

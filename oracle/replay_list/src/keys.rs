@@ -202,10 +202,11 @@ mod tests {
             answers,
             ["n\n", "e0\n", "n\n"].map(|text| Some(text.to_owned()))
         );
-        let answers = [0, -8, -16].map(|key| answer(&Question::Lamp(layout, key)));
+        // Home has no layer's colour, so the keys beside it show the alternation.
+        let answers = [0, -8, 1, -7, -15].map(|key| answer(&Question::Lamp(layout, key)));
         assert_eq!(
             answers,
-            ["0\n", "255\n", "0\n"].map(|text| Some(text.to_owned()))
+            ["0\n", "0\n", "1\n", "255\n", "1\n"].map(|text| Some(text.to_owned()))
         );
     }
 }

@@ -41,37 +41,46 @@ entry-count-requires c κs = search needs
 rem-u32-requires : tie.Need-rem-u32-requires
 rem-u32-requires c κs =
     let found = c .before .before .before .before .before in
+    let start = found .before .before .before in
     let e = sym (ap foundOutcome (found .found .given .1)) ∙ found .before .before .ask .ensures in
     entries-some (c .before .before .before .plan-of .result) _ _ (parts-of _ _ e .positive) (c .entry-count .ensures .0)
 
+cast-if2 : tie.Need-cast-if2
+cast-if2 c = search needs
+
+rem-if2 : tie.Need-rem-if2
+rem-if2 c =
+    let found = c .before .before .before .before .before .before .before in
+    parts-of _ _ (sym (ap foundOutcome (found .found .given .1)) ∙ found .before .before .ask .ensures) .positive
+
 returns-2 : tie.Need-returns-2
 returns-2 c =
-    let found = c .before .before .before .before .before .before .before in
+    let found = c .before .before .before .before .before .before .before .before in
     let start = found .before .before .before in
     let e = sym (ap foundOutcome (found .found .given .1)) ∙ found .before .before .ask .ensures in
-    lamp-at-home _ _ e _ (c .before .before .before .before .before .plan-of .ensures) _ (c .before .before .before .before .total-of .ensures)
-    (c .before .before .before .if1 .left)
-    (start .args .key) _ _ (c .before .before .entry-count .ensures .0)
-    (remainder-read w32 (start .args .key) (start .fits .key) _ _ (c .before .rem-u32 .ensures))
+    lamp-at-home _ _ e _ (c .before .before .before .before .before .before .plan-of .ensures) _ (c .before .before .before .before .before .total-of .ensures)
+    (c .before .before .before .before .if1 .left)
+    (start .args .key) _ _ (c .before .before .before .entry-count .ensures .0)
+    (remainder-read w32 (start .args .key) (start .fits .key) _ _ (c .before .before .rem-u32 .ensures))
     (c .if2 .taken)
 
 solve-requires : tie.Need-solve-requires
 solve-requires c κs =
-    let found = c .before .before .before .before .before .before .before in
+    let found = c .before .before .before .before .before .before .before .before in
     parts-of _ _ (sym (ap foundOutcome (found .found .given .1)) ∙ found .before .before .ask .ensures) .positive
 
 number-of-requires : tie.Need-number-of-requires
 number-of-requires c κs =
-    let found = c .before .before .before .before .before .before .before .before in
+    let found = c .before .before .before .before .before .before .before .before .before in
     let start = found .before .before .before in
-    let plan = c .before .before .before .before .before .before .plan-of in
-    let counted = c .before .before .before .entry-count .ensures in
-    let e = sym (ap foundOutcome (found .found .given .1)) ∙ found .before .before .ask .ensures in (
+    let e = sym (ap foundOutcome (found .found .given .1)) ∙ found .before .before .ask .ensures in
+    let plan = c .before .before .before .before .before .before .before .plan-of in
+    let counted = c .before .before .before .before .entry-count .ensures in (
       plan .ensures .sound,
       inverse-given _ _ e _ (plan .ensures) _ (c .solve .ensures),
       omega (
         arith,
-        remainder-read w32 (start .args .key) (start .fits .key) _ _ (c .before .before .rem-u32 .ensures),
+        remainder-read w32 (start .args .key) (start .fits .key) _ _ (c .before .before .before .rem-u32 .ensures),
         remainder-below (start .args .key) _ (entries-some (plan .result) _ _ (parts-of _ _ e .positive) (counted .0)),
         counted .1,
       ),
@@ -79,26 +88,25 @@ number-of-requires c κs =
 
 code-requires : tie.Need-code-requires
 code-requires c κs = (
-  c .before .before .before .before .before .if1 .left,
-  number-below _ (c .before .before .before .before .before .before .before .plan-of .ensures .sound) _ _ _ (c .number-of .ensures)
-      (c .before .before .before .before .before .before .total-of .ensures),
+  c .before .before .before .before .before .before .if1 .left,
+  number-below _ (c .before .before .before .before .before .before .before .before .plan-of .ensures .sound) _ _ _ (c .number-of .ensures) (c .before .before .before .before .before .before .before .total-of .ensures),
 )
 
-cast-t16 : tie.Need-cast-t16
-cast-t16 c = search needs
+cast-t18 : tie.Need-cast-t18
+cast-t18 c = search needs
 
 returns-3 : tie.Need-returns-3
 returns-3 c = lamp-refused _ _ (sym (ap foundOutcome (c .before .q .given .1)) ∙ c .before .before .before .ask .ensures) _
 
 returns-4 : tie.Need-returns-4
 returns-4 c =
-    let found = c .before .before .before .before .before .before .before .before .before .before in
+    let found = c .before .before .before .before .before .before .before .before .before .before .before in
     let start = found .before .before .before in
     let e = sym (ap foundOutcome (found .found .given .1)) ∙ found .before .before .ask .ensures in
-    lamp-given _ _ e _ (c .before .before .before .before .before .before .before .before .plan-of .ensures) _
-    (c .before .before .before .before .before .before .before .total-of .ensures) (c .before .before .before .before .before .before .if1 .left)
-    (start .args .key) _ _ (c .before .before .before .before .before .entry-count .ensures .0)
-    (remainder-read w32 (start .args .key) (start .fits .key) _ _ (c .before .before .before .before .rem-u32 .ensures))
+    lamp-given _ _ e _ (c .before .before .before .before .before .before .before .before .before .plan-of .ensures) _
+    (c .before .before .before .before .before .before .before .before .total-of .ensures) (c .before .before .before .before .before .before .before .if1 .left)
+    (start .args .key) _ _ (c .before .before .before .before .before .before .entry-count .ensures .0)
+    (remainder-read w32 (start .args .key) (start .fits .key) _ _ (c .before .before .before .before .before .rem-u32 .ensures))
     _ _ (c .before .before .before .if2 .left) (c .before .number-of .ensures) (c .code .ensures)
 
 pub lamp-spec : {M : Type 1} → statement M
@@ -113,10 +121,12 @@ lamp-spec =
     returns
     entry-count-requires
     rem-u32-requires
+    cast-if2
+    rem-if2
     returns-2
     solve-requires
     number-of-requires
     code-requires
-    cast-t16
+    cast-t18
     returns-3
     returns-4)
