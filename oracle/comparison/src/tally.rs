@@ -164,22 +164,22 @@ impl Tally {
         call: impl Fn(&mut [T]) -> Result<usize, Refused>,
     ) {
         let room = reading.as_ref().map_or(0, Vec::len);
-        self.compare_filling_in_room(question, room, reading, original, class, call);
+        let library = lending::lent(room, call);
+        self.compare_lent(question, reading, original, class, library);
     }
 
-    /// The same for a call that writes `room` elements or none, and asks for room last. A
-    /// refusal is seen in that room too, where writing begins before it is noticed.
+    /// The same for a call of no class that writes `room` elements or none, and asks for room
+    /// last. A refusal is seen in that room too, in which a call may have begun to write.
     pub fn compare_filling_in_room<T: Element>(
         &mut self,
         question: Question,
         room: usize,
         reading: Outcome<Vec<T>>,
         original: Original<Vec<T>>,
-        class: Option<Class>,
         call: impl Fn(&mut [T]) -> Result<usize, Refused>,
     ) {
         let library = lending::lent(room, call);
-        self.compare_lent(question, reading, original, class, library);
+        self.compare_lent(question, reading, original, None, library);
     }
 
     /// Compares a call that writes `room` elements or none, and asks for room first.

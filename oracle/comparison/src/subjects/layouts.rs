@@ -244,7 +244,7 @@ impl GivenLayout {
             vetchnoon::lamp,
         );
         if let (Ok(layout), Ok(strip)) = (&self.reading, &reading) {
-            self.compare_conversions(tally, layout, strip, &original, class);
+            self.compare_conversions(tally, layout, strip, &original);
         }
         let question = self.asking(Call::LampStrip);
         let call = |out: &mut [u16]| vetchnoon::lamp_strip(self.given, out);
@@ -252,33 +252,43 @@ impl GivenLayout {
     }
 
     /// The strip that was stored before codes had 16 bits, wherever there was one, against
-    /// the strip of today. Where there was none, the way back is refused.
+    /// the strip of today. Where there was none, the way back is refused. The original has
+    /// its part where it has layers; where it overflows, the strip itself tells.
     fn compare_conversions(
         &self,
         tally: &mut Tally,
         layout: &Layout,
         strip: &[u16],
         original: &Original<Vec<u16>>,
-        class: Option<Class>,
     ) {
+        let asked = matches!(original, Original::Answered(_));
         let former = layout.former_strip();
         if let Ok(former) = &former {
             let today = Expected {
                 reading: Ok(strip.to_vec()),
-                original: original.clone(),
-                class,
+                original: if asked {
+                    original.clone()
+                } else {
+                    Original::Silent
+                },
             };
             strips::widen_to(tally, former, today);
         }
-        let original = self
-            .original
-            .then(|layout| Original::of_option(layouts::former_strip(layout).map(Result::ok)));
         let back = Expected {
             reading: former.map_err(|_| NO_OLD_CODE),
-            original,
-            class,
+            original: if asked {
+                self.original_former_strip()
+            } else {
+                Original::Silent
+            },
         };
         strips::narrow_to(tally, strip, back);
+    }
+
+    /// What the original's layers make with one-byte codes, or nothing.
+    fn original_former_strip(&self) -> Original<Vec<u8>> {
+        self.original
+            .then(|layout| Original::of_option(layouts::former_strip(layout).map(Result::ok)))
     }
 
     /// The book and its length. The names in it are compared with the original's.

@@ -4,18 +4,15 @@
 use reading::Outcome;
 use reading::codes;
 
-use crate::classes::Class;
 use crate::question::Call;
 use crate::question::Question;
 use crate::tally::Original;
 use crate::tally::Tally;
 
-/// What is expected of a conversion: the reading's answer, the original's, and the class
-/// of the strip.
+/// What is expected of a conversion: the reading's answer, and the original's.
 pub struct Expected<T> {
     pub reading: Outcome<Vec<T>>,
     pub original: Original<Vec<T>>,
-    pub class: Option<Class>,
 }
 
 impl<T> Expected<T> {
@@ -24,7 +21,6 @@ impl<T> Expected<T> {
         Self {
             reading,
             original: Original::Silent,
-            class: None,
         }
     }
 }
@@ -50,7 +46,6 @@ pub fn widen_to(tally: &mut Tally, strip: &[u8], expected: Expected<u16>) {
         strip.len(),
         expected.reading,
         expected.original,
-        expected.class,
         |out| vetchnoon::widen_strip(strip, out),
     );
 }
@@ -66,7 +61,6 @@ pub fn narrow_to(tally: &mut Tally, strip: &[u16], expected: Expected<u8>) {
         strip.len(),
         expected.reading,
         expected.original,
-        expected.class,
         |out| vetchnoon::narrow_strip(strip, out),
     );
 }
