@@ -15,9 +15,9 @@ const ALPHABET: [u8; 8] = *b"019 \n\r-x";
 /// A line that is answered, whose bytes are changed.
 const LINE: &[u8] = b"1 12 19\n";
 
-/// Lines with long tables: the longest found by trying, of about 1.7 million bytes, and
-/// 1,365 and 585 cycles.
-const LONG_TABLES: [&[u8]; 3] = [b"2 4095 4914\n", b"3 4095 5460\n", b"1 4095 6435\n"];
+/// Lines with long tables: 819 cycles, of 1,720,118 bytes, the longest that was found; 585
+/// cycles; and the largest octave with one cycle, whose names have the most signs.
+const LONG_TABLES: [&[u8]; 3] = [b"2 4095 4914\n", b"1 4095 6435\n", b"2 4096 4097\n"];
 
 pub fn plan(tasks: &mut Vec<Task>, mode: Mode, seed: u64) {
     for octave in (0..=mode.pick(72, 144)).rev() {
