@@ -172,7 +172,7 @@ const MANY_LAYERS: [(u16, u16, u16); 6] = [
 ];
 
 /// Small layouts times the numbers that bring their count of layers close to the
-/// 202 with which a strip just has one-byte codes.
+/// 202 with which a strip just had one-byte codes.
 fn strips_at_limit(tally: &mut Tally, octave: u16) {
     for code in 0..=5 {
         for tritave in 0..=3 * octave {
