@@ -10,9 +10,9 @@ use Rattle.layout.specs.declared.IsomorphicLayout.{IsomorphicLayout}
 use Rattle.layout.specs.Layouts.{Layout, Accepted, accidentalsIn}
 use Rattle.layout_layers.specs.KeyLayers.{equalized, entryCount, numberIn, keyNumberIn, layersIn, countIn}
 
--- Theorem: T is at most the octave's number of keys.
+-- Theorem: T is below the octave's number of keys, by three at least: the natural layer alone has five keys or more.
 abbrev pub CountsFit : Type 0
-CountsFit = (r : IsomorphicLayout) (l : Layout) → Accepted r l → countIn l ≤ l .octave
+CountsFit = (r : IsomorphicLayout) (l : Layout) → Accepted r l → countIn l + 3 ≤ l .octave
 
 -- Theorem: .. and the octave has at most N × T keys.
 abbrev pub KeysByCount : Type 0
