@@ -152,8 +152,8 @@ pub(crate) fn write_lines(table: Table, out: &mut [u8]) -> CountAnswer
     CountAnswer::Given(bytes)
 }
 
-// A refusal's line; the place after it.
-fn put_refusal(out: &mut [u8], number: u16) -> usize
+// A refusal's line at the front of a slice that is known to hold it; the place after it.
+pub fn put_refusal(out: &mut [u8], number: u16) -> usize
     requires { ⌜ Room (now out) 0 (refusalLine number) ⌝ }
     ensures { λ r. ⌜ Wrote (now (out .entry)) 0 (refusalLine number) (now (out .exit)) r ⌝ }
 {
@@ -163,7 +163,7 @@ fn put_refusal(out: &mut [u8], number: u16) -> usize
 }
 
 // A refusal's line at the front of a slice that holds it (10).
-pub fn write_refusal(number: u16, out: &mut [u8]) -> CountAnswer
+pub(crate) fn write_refusal(number: u16, out: &mut [u8]) -> CountAnswer
     ensures { λ r. ⌜ Filled (heldIn (length (now (out .entry))) (refusalLine number)) (countOutcome r) (now (out .entry)) (now (out .exit)) ⌝ }
 {
     let bytes = decimal::number_len(number) + 9;
