@@ -81,8 +81,8 @@ put-there {xs} {ys} {text} {n} room w =
     let is : n ≡ length text = w .end ∙ zero-add (length text) in (
       omega (arith, is, room, wrote-length w),
       ap (λ (k : ℕ). take k ys) is
-      ∙ ap (take (length text)) (wrote-front room w)
-      ∙ take-append-seam text (drop (length text) xs),
+          ∙ ap (take (length text)) (wrote-front room w)
+          ∙ take-append-seam text (drop (length text) xs),
     )
 
 module _ (buffer : List ℕ) (input : Input) (number : ℕ) (r : Refusing buffer input number) (text : List ℕ) (is : text ≡ refusalLine number) where

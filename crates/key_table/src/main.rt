@@ -174,12 +174,7 @@ fn print(line: &[u8], input: Input) -> Output
         FoundAnswer::Refused(q) => print_refusal(line, input, q.number() as u16),
         FoundAnswer::Given(found) => {
             let mut out = [0u8; 65536];
-            print_table(
-                line,
-                input,
-                layout_table::parts::table_of(found),
-                &mut out,
-            )
+            print_table(line, input, layout_table::parts::table_of(found), &mut out)
         }
     }
 }

@@ -38,9 +38,7 @@ pub fn strip_len(layout: IsomorphicLayout) -> CountAnswer
     match layout::parts::ask(layout) {
         FoundAnswer::Refused(q) => CountAnswer::Refused(q),
         FoundAnswer::Given(found) => {
-            CountAnswer::Given(layout_layers::parts::entries(
-                layout_layers::parts::plan_of(found),
-            ))
+            CountAnswer::Given(layout_layers::parts::entries(layout_layers::parts::plan_of(found)))
         }
     }
 }
@@ -60,10 +58,7 @@ pub fn lamp(layout: IsomorphicLayout, key: i32) -> NumberAnswer
             }
             let solved = euclid::solve(found.octave, found.generator);
             let number = layout_layers::parts::number_of(plan, solved.generator_inverse, place);
-            NumberAnswer::Given(parts::code(
-                layout_layers::parts::total_of(plan),
-                number,
-            ))
+            NumberAnswer::Given(parts::code(layout_layers::parts::total_of(plan), number))
         }
     }
 }

@@ -120,8 +120,8 @@ module _ (r : IsomorphicLayout) (l : Layout) (ok : Accepted r l) where
       omega (
         arith,
         few-behind (holding a b x y)
-        (sharps a b ((x - 1) / 2) ((y - 1) / 2) ++ (holding a b ((x - 1) % 2) ((y - 1) % 2) ∷ reverse (sharps a b ((x - 1) / 2) ((y - 1) / 2))))
-        (omega (arith, natural-size, shape .at-least-five)),
+            (sharps a b ((x - 1) / 2) ((y - 1) / 2) ++ (holding a b ((x - 1) % 2) ((y - 1) % 2) ∷ reverse (sharps a b ((x - 1) / 2) ((y - 1) / 2))))
+            (omega (arith, natural-size, shape .at-least-five)),
         natural-size,
         layer-sizes-sum m,
         shape .reduced-is,

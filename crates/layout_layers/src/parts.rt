@@ -166,10 +166,7 @@ fn layer_by(plan: Plan, turn: u32, degree: u16) -> u16
     }
     let chain = plan.chain;
     let runs = plan.runs;
-    layer_at(
-        runs,
-        chain_place(chain.start, degree, chain.reduced_period),
-    )
+    layer_at(runs, chain_place(chain.start, degree, chain.reduced_period))
 }
 
 // An entry's number, with the inverse that no whole-octave work needs.

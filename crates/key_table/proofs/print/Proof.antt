@@ -27,7 +27,7 @@ cast-print-refusal : tie.Need-cast-print-refusal
 cast-print-refusal c = search needs
 
 print-refusal-requires : tie.Need-print-refusal-requires
-print-refusal-requires c κs = 
+print-refusal-requires c κs =
     let q = c .before .before in
     refusing _ _ _ (c .before .before .before .before .before .before .before .before .pre) (c .before .before .before .before .before .before .kept .ensures) _ _ (c .number .ensures) (sym (ap foundOutcome (q .q .given .1)) ∙ q .before .before .ask-line .ensures)
 
@@ -41,7 +41,7 @@ slice-aggregate-print-table : tie.Need-slice-aggregate-print-table
 slice-aggregate-print-table c = search needs
 
 print-table-requires : tie.Need-print-table-requires
-print-table-requires c κs = 
+print-table-requires c κs =
     let found = c .before .before .before in
     let e = sym (ap foundOutcome (found .found .given .1)) ∙ found .before .before .ask-line .ensures in
     (ready _ _ _ (c .before .before .before .before .before .before .before .before .before .pre) (c .before .before .before .before .before .before .before .kept .ensures) _ e _ (c .before .table-of .ensures), zeros-hold 65536 65536 (omega arith))

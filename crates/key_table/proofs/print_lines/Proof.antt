@@ -13,7 +13,7 @@ use Rattle.key_table.proofs.print_lines.Statement.{statement}
 use Rattle.key_table.proofs.print_lines.Tie as tie
 
 put-lines-requires : tie.Need-put-lines-requires
-put-lines-requires c κs = 
+put-lines-requires c κs =
     let start = c .before .before .before in
     let t = start .args .table in
     let from = start .args .from in
@@ -21,7 +21,7 @@ put-lines-requires c κs =
     (start .pre .0 .sound, start .pre .1 .inside, omega (arith, part-room _ _ t (start .pre .0) from count (start .pre .1 .inside) (start .pre .1 .few), start .pre .2))
 
 slice-reshare-prefix-write-part : tie.Need-slice-reshare-prefix-write-part
-slice-reshare-prefix-write-part c = 
+slice-reshare-prefix-write-part c =
     let start = c .before .before .before .before .before .before in
     let t = start .args .table in
     let from = start .args .from in
@@ -29,7 +29,7 @@ slice-reshare-prefix-write-part c =
     put-there (let room : length (joined (lineFrom t from) count) ≤ length (start .args .out .now) = omega (arith, part-room _ _ t (start .pre .0) from count (start .pre .1 .inside) (start .pre .1 .few), start .pre .2) in room) (c .before .before .put-lines .ensures) .0
 
 slice-aggregate-write-part : tie.Need-slice-aggregate-write-part
-slice-aggregate-write-part c = 
+slice-aggregate-write-part c =
     let start = c .before .before .before .before .before .before .before in
     let t = start .args .table in
     let from = start .args .from in
@@ -37,7 +37,7 @@ slice-aggregate-write-part c =
     sym (length-take-le _ _ (put-there (let room : length (joined (lineFrom t from) count) ≤ length (start .args .out .now) = omega (arith, part-room _ _ t (start .pre .0) from count (start .pre .1 .inside) (start .pre .1 .few), start .pre .2) in room) (c .before .before .before .put-lines .ensures) .0))
 
 write-part-requires : tie.Need-write-part-requires
-write-part-requires c κs = 
+write-part-requires c κs =
     let start = c .before .before .before .before .before .before .before in
     let t = start .args .table in
     let from = start .args .from in
@@ -48,7 +48,7 @@ same-length : tie.Need-same-length
 same-length c = search needs
 
 returns : tie.Need-returns
-returns c = 
+returns c =
     let start = c .before .before .before .before .before .before .before .before in
     let t = start .args .table in
     let from = start .args .from in

@@ -14,31 +14,31 @@ slice-aggregate-put-refusal : tie.Need-slice-aggregate-put-refusal
 slice-aggregate-put-refusal c = search needs
 
 put-refusal-requires : tie.Need-put-refusal-requires
-put-refusal-requires c κs = 
+put-refusal-requires c κs =
     let start = c .before .before in
     let few : start .args .number ≤ 65535 = search needs in
     omega (arith, refusal-room (start .args .number) few)
 
 array-share-prefix-out : tie.Need-array-share-prefix-out
-array-share-prefix-out c = 
+array-share-prefix-out c =
     let start = c .before .before .before .before in
     let few : start .args .number ≤ 65535 = search needs in
     put-there (refusal-room (start .args .number) few) (c .before .put-refusal .ensures) .0
 
 slice-aggregate-write-part : tie.Need-slice-aggregate-write-part
-slice-aggregate-write-part c = 
+slice-aggregate-write-part c =
     let start = c .before .before .before .before .before in
     let few : start .args .number ≤ 65535 = search needs in
     sym (length-take-le _ _ (put-there (refusal-room (start .args .number) few) (c .before .before .put-refusal .ensures) .0))
 
 write-part-requires : tie.Need-write-part-requires
-write-part-requires c κs = 
+write-part-requires c κs =
     let start = c .before .before .before .before .before in
     let few : start .args .number ≤ 65535 = search needs in
     refusal-next _ _ _ (start .pre) _ (put-there (refusal-room (start .args .number) few) (c .before .before .put-refusal .ensures) .1)
 
 returns : tie.Need-returns
-returns c = 
+returns c =
     let start = c .before .before .before .before .before .before in
     let few : start .args .number ≤ 65535 = search needs in
     refusal-printed _ _ _ (start .pre) _ (put-there (refusal-room (start .args .number) few) (c .before .before .before .put-refusal .ensures) .1) _ (c .write-part .ensures)

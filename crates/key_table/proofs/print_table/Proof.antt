@@ -13,7 +13,7 @@ use Rattle.key_table.proofs.print_table.Statement.{statement}
 use Rattle.key_table.proofs.print_table.Tie as tie
 
 abbrev Inv-loop : tie.InvT-loop
-Inv-loop line input table out₀ done₀ from₀ out done from = 
+Inv-loop line input table out₀ done₀ from₀ out done from =
     (done .handed ≡ length (joined (lineOf table) from)) × (from ≤ table .keys) × (length out ≡ length out₀)
 
 abbrev μ-loop : tie.MeasureT-loop
@@ -29,7 +29,7 @@ at-once-requires : tie.Need-at-once-requires Inv-loop μ-loop
 at-once-requires c κs = search needs
 
 print-lines-requires : tie.Need-print-lines-requires Inv-loop μ-loop
-print-lines-requires c κs = 
+print-lines-requires c κs =
     let loop = c .before .before .before .before .before .loop in
     let start = c .before .before .before .before .before .before .before .before in
     let t = start .args .table in
@@ -43,7 +43,7 @@ same-length : tie.Need-same-length Inv-loop μ-loop
 same-length c = search needs
 
 returns : tie.Need-returns Inv-loop μ-loop
-returns c = 
+returns c =
     let loop = c .before .before .before .before .before .before .before .before .before .before .loop in
     let start = c .before .before .before .before .before .before .before .before .before .before .before .before .before in
     let t = start .args .table in
@@ -53,14 +53,14 @@ add-from : tie.Need-add-from Inv-loop μ-loop
 add-from c = search needs
 
 loop-less : tie.Need-loop-less Inv-loop μ-loop
-loop-less c = 
+loop-less c =
     let loop = c .before .before .before .before .before .before .before .before .before .before .loop in
     let start = c .before .before .before .before .before .before .before .before .before .before .before .before .before in
     let t = start .args .table in
     let once = c .before .before .before .before .before .before .at-once .ensures in omega (arith, once .0, once .2 (omega arith))
 
 loop-again : tie.Need-loop-again Inv-loop μ-loop
-loop-again c = 
+loop-again c =
     let loop = c .before .before .before .before .before .before .before .before .before .before .loop in
     let start = c .before .before .before .before .before .before .before .before .before .before .before .before .before in
     let t = start .args .table in

@@ -9,7 +9,7 @@ write-all-requires : tie.Need-write-all-requires
 write-all-requires c κs = search needs
 
 add-t7 : tie.Need-add-t7
-add-t7 c = 
+add-t7 c =
     let start = c .before .before .before .before in
     omega (arith, part-counted _ _ _ (start .args .past) (start .pre))
 

@@ -30,7 +30,7 @@ entry-count-requires : tie.Need-entry-count-requires
 entry-count-requires c κs = search needs
 
 rem-u32-requires : tie.Need-rem-u32-requires
-rem-u32-requires c κs = 
+rem-u32-requires c κs =
     let found = c .before .before .before in
     let e = sym (ap foundOutcome (found .found .given .1)) ∙ found .before .before .ask .ensures in
     entries-some (c .before .plan-of .result) _ _ (parts-of _ _ e .positive) (c .entry-count .ensures .0)
@@ -39,12 +39,12 @@ cast-if1 : tie.Need-cast-if1
 cast-if1 c = search needs
 
 rem-if1 : tie.Need-rem-if1
-rem-if1 c = 
+rem-if1 c =
     let found = c .before .before .before .before .before in
     parts-of _ _ (sym (ap foundOutcome (found .found .given .1)) ∙ found .before .before .ask .ensures) .positive
 
 returns : tie.Need-returns
-returns c = 
+returns c =
     let found = c .before .before .before .before .before .before in
     let start = found .before .before .before in
     let e = sym (ap foundOutcome (found .found .given .1)) ∙ found .before .before .ask .ensures in
@@ -54,12 +54,12 @@ returns c =
     (c .if1 .taken)
 
 solve-requires : tie.Need-solve-requires
-solve-requires c κs = 
+solve-requires c κs =
     let found = c .before .before .before .before .before .before in
     parts-of _ _ (sym (ap foundOutcome (found .found .given .1)) ∙ found .before .before .ask .ensures) .positive
 
 number-of-requires : tie.Need-number-of-requires
-number-of-requires c κs = 
+number-of-requires c κs =
     let found = c .before .before .before .before .before .before .before in
     let start = found .before .before .before in
     let e = sym (ap foundOutcome (found .found .given .1)) ∙ found .before .before .ask .ensures in
@@ -85,7 +85,7 @@ returns-2 : tie.Need-returns-2
 returns-2 c = lamp-refused _ _ (sym (ap foundOutcome (c .before .q .given .1)) ∙ c .before .before .before .ask .ensures) _
 
 returns-3 : tie.Need-returns-3
-returns-3 c = 
+returns-3 c =
     let found = c .before .before .before .before .before .before .before .before .before .before in
     let start = found .before .before .before in
     let e = sym (ap foundOutcome (found .found .given .1)) ∙ found .before .before .ask .ensures in

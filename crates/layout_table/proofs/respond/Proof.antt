@@ -36,7 +36,7 @@ same-length : tie.Need-same-length
 same-length c = search needs
 
 returns : tie.Need-returns
-returns c = 
+returns c =
     let number = c .before .before .before .before in
     let q = c .before .before .before .before .before .before in
     filled-as (ap (heldIn _) (output-refused _ _ _ (number .number .ensures) (sym (ap foundOutcome (q .q .given .1)) ∙ q .before .before .ask-line .ensures))) (c .before .before .write-refusal .ensures)
@@ -45,7 +45,7 @@ same-length-2 : tie.Need-same-length-2
 same-length-2 c = search needs
 
 returns-2 : tie.Need-returns-2
-returns-2 c = 
+returns-2 c =
     let found = c .before .before .before .before .before .before in
     let e = sym (ap foundOutcome (found .found .given .1)) ∙ found .before .before .ask-line .ensures in
     filled-as (ap (heldIn _) (table-is _ _ (c .before .before .before .before .table-of .ensures) ∙ output-given _ _ e)) (c .before .before .write-lines .ensures)

@@ -27,7 +27,7 @@ returns : tie.Need-returns
 returns c = ap counted (table-refused _ _ (sym (ap foundOutcome (c .before .q .given .1)) ∙ c .before .before .before .ask .ensures))
 
 returns-2 : tie.Need-returns-2
-returns-2 c = 
+returns-2 c =
     let found = c .before .before .before in
     table-counted _ _ (sym (ap foundOutcome (found .found .given .1)) ∙ found .before .before .ask .ensures) _ (c .before .table-of .ensures) _ (c .lines-length .ensures)
 

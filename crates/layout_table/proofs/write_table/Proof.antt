@@ -30,7 +30,7 @@ same-length : tie.Need-same-length
 same-length c = search needs
 
 returns-2 : tie.Need-returns-2
-returns-2 c = 
+returns-2 c =
     let found = c .before .before .before .before .before .before in
     let e = sym (ap foundOutcome (found .found .given .1)) ∙ found .before .before .ask .ensures in
     filled-as (table-in-room _ _ e _ (c .before .before .before .before .table-of .ensures) _) (c .before .before .write-lines .ensures)

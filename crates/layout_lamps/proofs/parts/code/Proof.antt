@@ -15,12 +15,12 @@ mul-result : tie.Need-mul-result
 mul-result c = search needs
 
 returns-2 : tie.Need-returns-2
-returns-2 c = 
+returns-2 c =
     let start = c .before .before in
     code-low (start .args .total) (start .args .number) (start .pre) (c .before .if1 .left) (c .if2 .taken)
 
 returns-3 : tie.Need-returns-3
-returns-3 c = 
+returns-3 c =
     let start = c .before .before .before in
     code-half (start .args .total) (start .args .number) (start .pre) (c .before .before .if1 .left) (c .if3 .taken)
 
@@ -31,7 +31,7 @@ add-result : tie.Need-add-result
 add-result c = search needs
 
 returns-4 : tie.Need-returns-4
-returns-4 c = 
+returns-4 c =
     let start = c .before .before .before in
     code-high (start .args .total) (start .args .number) (start .pre) (c .before .before .if1 .left) (omega (arith, c .before .if2 .left, c .if3 .left))
 

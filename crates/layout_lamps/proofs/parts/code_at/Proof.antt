@@ -14,7 +14,7 @@ code-requires : tie.Need-code-requires
 code-requires c κs = let start = c .before .before in number-below (start .args .plan) (start .pre .0) (start .args .key) _ _ (c .number-at .ensures) (start .pre .1)
 
 returns-2 : tie.Need-returns-2
-returns-2 c = 
+returns-2 c =
     let start = c .before .before .before in
     plan-other (start .args .plan) (start .args .total) (start .args .key) (c .before .before .if1 .left) _ _ (c .before .number-at .ensures) (c .code .ensures)
 

@@ -23,12 +23,12 @@ mul-number : tie.Need-mul-number Inv-loop μ-loop
 mul-number c = omega (arith, c .before .before .before .pre .held)
 
 slice-read-number : tie.Need-slice-read-number Inv-loop μ-loop
-slice-read-number c = 
+slice-read-number c =
     let loop = c .before .before .loop in
     omega (arith, loop .inv .0 .kept, c .before .before .before .before .pre .held)
 
 code-requires : tie.Need-code-requires Inv-loop μ-loop
-code-requires c κs = 
+code-requires c κs =
     let start = c .before .before .before .before in
     let loop = c .before .before .loop in
     subst (λ (j : ℕ). j < start .args .total) (sym (not-reached (start .args .total) (loop .entry) (loop .inv .0))) (start .pre .below (loop .entry) (omega arith))
@@ -37,7 +37,7 @@ mul-out : tie.Need-mul-out Inv-loop μ-loop
 mul-out c = omega (arith, c .before .before .before .before .before .pre .held)
 
 slice-write-out : tie.Need-slice-write-out Inv-loop μ-loop
-slice-write-out c = 
+slice-write-out c =
     let loop = c .before .before .before .loop in
     omega (arith, loop .inv .0 .kept, c .before .before .before .before .before .pre .held)
 
@@ -48,7 +48,7 @@ loop-less : tie.Need-loop-less Inv-loop μ-loop
 loop-less c = search needs
 
 loop-again : tie.Need-loop-again Inv-loop μ-loop
-loop-again c = 
+loop-again c =
     let start = c .before .before .before .before .before in
     let loop = c .before .before .before .loop in (
       colour-more (start .args .total) (loop .entry) _ (omega (arith, start .pre .held)) (loop .inv .0) (c .code .ensures),
@@ -59,7 +59,7 @@ same-length : tie.Need-same-length Inv-loop μ-loop
 same-length c = c .before .loop .inv .0 .kept
 
 returns : tie.Need-returns Inv-loop μ-loop
-returns c = 
+returns c =
     let start = c .before .before .before in
     let loop = c .before .loop in
     let all : loop .entry ≡ start .args .count = omega arith in

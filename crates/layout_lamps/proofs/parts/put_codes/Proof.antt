@@ -11,7 +11,7 @@ entries-requires : tie.Need-entries-requires
 entries-requires c κs = search needs
 
 colour-requires : tie.Need-colour-requires
-colour-requires c κs = 
+colour-requires c κs =
     let start = c .before .before .before .before .before .before .before in
     numbers-there (start .args .plan) (start .args .total) (start .args .out .now) _ (c .before .before .before .before .put-layers .ensures) (start .pre .0) (start .pre .1) _ (c .entries .ensures) (start .pre .2)
 
@@ -19,7 +19,7 @@ same-length : tie.Need-same-length
 same-length c = search needs
 
 returns : tie.Need-returns
-returns c = 
+returns c =
     let start = c .before .before .before .before .before .before .before .before .before .before in
     codes-there (start .args .plan) (start .args .total) (start .args .out .now) _ (c .before .before .before .before .before .before .before .put-layers .ensures) _ (c .before .before .before .entries .ensures) (start .pre .2) (c .before .before .colour .ensures)
 

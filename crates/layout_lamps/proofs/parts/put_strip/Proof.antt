@@ -9,7 +9,7 @@ put-codes-requires : tie.Need-put-codes-requires
 put-codes-requires c κs = search needs
 
 slice-write-out : tie.Need-slice-write-out
-slice-write-out c = 
+slice-write-out c =
     let start = c .before .before .before .before .before in
     first-inside (start .args .plan) (start .args .total) (start .pre .0) (start .args .out .now) _ (c .before .before .put-codes .ensures) (start .pre .2)
 
@@ -29,7 +29,7 @@ same-length : tie.Need-same-length
 same-length c = search needs
 
 returns : tie.Need-returns
-returns c = 
+returns c =
     let start = c .before .before .before .before .before .before .before .before .before .before in
     home-over (start .args .plan) (start .args .total) (start .pre .0) (start .args .out .now) _ (c .before .before .before .before .before .before .before .put-codes .ensures) _ (c .before .entries .ensures) (c .if1 .taken)
 
@@ -37,7 +37,7 @@ mul-out : tie.Need-mul-out
 mul-out c = search needs
 
 slice-write-out-2 : tie.Need-slice-write-out-2
-slice-write-out-2 c = 
+slice-write-out-2 c =
     let start = c .before .before .before .before .before .before .before .before .before .before in
     octave-inside (start .args .plan) (start .args .total) (start .pre .0) (start .args .out .now) _ (c .before .before .before .before .before .before .before .put-codes .ensures) (start .pre .2) _ (c .before .entries .ensures) (c .if1 .left)
 
@@ -45,7 +45,7 @@ same-length-2 : tie.Need-same-length-2
 same-length-2 c = search needs
 
 returns-2 : tie.Need-returns-2
-returns-2 c = 
+returns-2 c =
     let start = c .before .before .before .before .before .before .before .before .before .before in
     homes-over (start .args .plan) (start .args .total) (start .pre .0) (start .args .out .now) _ (c .before .before .before .before .before .before .before .put-codes .ensures) _ (c .before .entries .ensures) (c .if1 .left)
 

@@ -14,7 +14,7 @@ entries-requires : tie.Need-entries-requires
 entries-requires c κs = search needs
 
 returns : tie.Need-returns
-returns c = 
+returns c =
     let start = c .before .before .before in
     text-too-long (planStrip (start .args .plan) (totalOf (start .args .plan))) _ _ (c .before .entries .ensures ∙ length-strip (start .args .plan) (totalOf (start .args .plan))) (c .if1 .taken)
 

@@ -16,12 +16,12 @@ alternate-requires : tie.Need-alternate-requires
 alternate-requires c κs = search needs
 
 returns : tie.Need-returns
-returns c = 
+returns c =
     let start = c .before .before in
     layer-alternates (start .args .plan) (start .args .turn) _ (c .before .if1 .taken) (c .alternate .ensures)
 
 chain-place-requires : tie.Need-chain-place-requires
-chain-place-requires c κs = 
+chain-place-requires c κs =
     let start = c .before .before .before in
     let chain = start .args .plan .chain in (
       start .pre .0 .unbroken .start-below,
@@ -29,7 +29,7 @@ chain-place-requires c κs =
     )
 
 layer-at-requires : tie.Need-layer-at-requires
-layer-at-requires c κs = 
+layer-at-requires c κs =
     let start = c .before .before .before .before in
     let plan = start .args .plan in (
       subst (λ (k : ℕ). k < sum (runSizes (plan .runs))) (sym (place-by (plan .chain) (start .args .turn) _ _ (start .pre .1) (c .chain-place .ensures))) (place-listed plan (start .pre .0) (start .args .turn)),
@@ -37,7 +37,7 @@ layer-at-requires c κs =
     )
 
 returns-2 : tie.Need-returns-2
-returns-2 c = 
+returns-2 c =
     let start = c .before .before .before .before .before in
     let plan = start .args .plan in
     layer-listed plan (start .args .turn) _ _ (c .before .before .before .before .if1 .left) (place-by (plan .chain) (start .args .turn) _ _ (start .pre .1) (c .before .chain-place .ensures)) (c .layer-at .ensures)

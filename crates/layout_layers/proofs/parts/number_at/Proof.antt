@@ -15,18 +15,18 @@ cast-layer-by : tie.Need-cast-layer-by
 cast-layer-by c = let start = c .before .before in omega (arith, div-le-self (start .args .key) (start .args .plan .chain .«num_cycles»))
 
 layer-by-requires : tie.Need-layer-by-requires
-layer-by-requires c κs = 
+layer-by-requires c κs =
     let start = c .before .before in
     let few : start .args .key ≤ 65535 = search needs in
     (start .pre .0, start .pre .1, omega (arith, div-le-self (start .args .key) (start .args .plan .chain .«num_cycles»), few))
 
 mul-result : tie.Need-mul-result
-mul-result c = 
+mul-result c =
     let start = c .before .before .before .before in
     omega (arith, turn-fits (start .args .plan) (start .pre .0) _ (c .before .layer-by .result) (c .before .layer-by .ensures))
 
 add-result : tie.Need-add-result
-add-result c = 
+add-result c =
     let start = c .before .before .before .before in
     omega (
       arith,
@@ -36,7 +36,7 @@ add-result c =
     )
 
 returns : tie.Need-returns
-returns c = 
+returns c =
     let start = c .before .before .before .before in
     let n = start .args .plan .chain .«num_cycles» in
     ap₂ (λ (k i : ℕ). k * n + i) (c .before .layer-by .ensures) (start .pre .2)

@@ -16,12 +16,12 @@ div-turn : tie.Need-div-turn
 div-turn c = search needs
 
 cast-degree : tie.Need-cast-degree
-cast-degree c = 
+cast-degree c =
     let start = c .before .before in
     omega (arith, div-le-self (start .args .entry) (start .args .plan .chain .«num_cycles»), start .pre .2)
 
 mul-degree : tie.Need-mul-degree
-mul-degree c = 
+mul-degree c =
     let start = c .before .before in
     let turn = start .args .entry / start .args .plan .chain .«num_cycles» in
     let few : turn ≤ 131070 = omega (arith, div-le-self (start .args .entry) (start .args .plan .chain .«num_cycles»), start .pre .2) in
@@ -34,13 +34,13 @@ rem-degree : tie.Need-rem-degree
 rem-degree c = search needs
 
 cast-layer-by : tie.Need-cast-layer-by
-cast-layer-by c = 
+cast-layer-by c =
     let start = c .before .before .before in
     let chain = start .args .plan .chain in
     omega (arith, mod-lt (start .args .inverse * (start .args .entry / chain .«num_cycles»)) (some-places chain (start .pre .0 .unbroken)))
 
 layer-by-requires : tie.Need-layer-by-requires
-layer-by-requires c κs = 
+layer-by-requires c κs =
     let start = c .before .before .before in
     let chain = start .args .plan .chain in
     let turn = start .args .entry / chain .«num_cycles» in (
@@ -50,7 +50,7 @@ layer-by-requires c κs =
     )
 
 mul-result : tie.Need-mul-result
-mul-result c = 
+mul-result c =
     let start = c .before .before .before .before .before in
     omega (arith, turn-fits (start .args .plan) (start .pre .0) _ (c .before .layer-by .result) (c .before .layer-by .ensures))
 
@@ -58,12 +58,12 @@ rem-result : tie.Need-rem-result
 rem-result c = search needs
 
 cast-result : tie.Need-cast-result
-cast-result c = 
+cast-result c =
     let start = c .before .before .before .before .before in
     omega (arith, mod-lt (start .args .entry) (start .pre .0 .unbroken .some-cycles))
 
 add-result : tie.Need-add-result
-add-result c = 
+add-result c =
     let start = c .before .before .before .before .before in
     omega (
       arith,
@@ -72,7 +72,7 @@ add-result c =
     )
 
 returns : tie.Need-returns
-returns c = 
+returns c =
     let start = c .before .before .before .before .before in
     let n = start .args .plan .chain .«num_cycles» in
     ap (λ (k : ℕ). k * n + start .args .entry % n) (c .before .layer-by .ensures)

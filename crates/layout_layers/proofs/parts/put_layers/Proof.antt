@@ -10,7 +10,7 @@ turns-of-requires : tie.Need-turns-of-requires
 turns-of-requires c κs = search needs
 
 put-alternating-requires : tie.Need-put-alternating-requires
-put-alternating-requires c κs = 
+put-alternating-requires c κs =
     let start = c .before .before .before .before in (
       start .pre .0,
       c .before .before .if1 .taken,
@@ -22,12 +22,12 @@ same-length : tie.Need-same-length
 same-length c = search needs
 
 returns : tie.Need-returns
-returns c = 
+returns c =
     let start = c .before .before .before .before .before .before .before in
     entries-front (start .args .plan) (start .pre .0) _ (c .before .before .before .turns-of .ensures .0) (start .pre .1) (c .before .before .put-alternating .ensures)
 
 put-chain-requires : tie.Need-put-chain-requires
-put-chain-requires c κs = 
+put-chain-requires c κs =
     let start = c .before .before .before in
     let other = c .before .if1 .left in (
       start .pre .0,
@@ -39,7 +39,7 @@ same-length-2 : tie.Need-same-length-2
 same-length-2 c = search needs
 
 returns-2 : tie.Need-returns-2
-returns-2 c = 
+returns-2 c =
     let start = c .before .before .before .before .before .before in
     let plan = start .args .plan in
     let other = c .before .before .before .before .if1 .left in

@@ -19,7 +19,7 @@ same-length : tie.Need-same-length
 same-length c = search needs
 
 returns-2 : tie.Need-returns-2
-returns-2 c = 
+returns-2 c =
     let start = c .before .before .before .before .before .before .before in
     text-held (planLayers (start .args .plan)) _ _ (c .before .before .before .before .before .entries .ensures) (c .before .before .before .before .if1 .left) (c .before .before .put-layers .ensures)
 

@@ -26,7 +26,7 @@ returns : tie.Need-returns
 returns c = line-not-read _ _ (sym (ap lineAnswered (c .before .q .given .1)) ∙ c .before .before .before .parse .ensures)
 
 returns-2 : tie.Need-returns-2
-returns-2 c = 
+returns-2 c =
     let g = c .before .before in
     line-read _ _ _ (sym (ap lineAnswered (g .before .asked .given .1)) ∙ g .before .before .before .parse .ensures) (c .ask .ensures ∙ ap layoutOutcome (c .before .default-layout .ensures))
 

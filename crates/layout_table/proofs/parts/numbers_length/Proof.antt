@@ -17,7 +17,7 @@ use Rattle.layout_table.proofs.parts.numbers_length.Statement.{statemen
 use Rattle.layout_table.proofs.parts.numbers_length.Tie as tie
 
 abbrev Inv-loop : tie.InvT-loop
-Inv-loop table solved total₀ step₀ key₀ total step key = 
+Inv-loop table solved total₀ step₀ key₀ total step key =
     At (table .speller .solved) key step × (total ≡ length (joined (numbersOf table) key)) × (total ≤ 13 * key) × (key ≤ table .keys)
 
 abbrev μ-loop : tie.MeasureT-loop
@@ -30,7 +30,7 @@ loop-holds : tie.Need-loop-holds Inv-loop μ-loop
 loop-holds c = (c .first .ensures, sym (ap length (joined-none (numbersOf (c .before .before .args .table)))), omega arith, omega arith)
 
 code-at-requires : tie.Need-code-at-requires Inv-loop μ-loop
-code-at-requires c κs = 
+code-at-requires c κs =
     let start = c .before .before .before .before .before in
     let at = step-for-lamps (start .args .table) (start .pre) _ _ (c .before .before .loop .inv .0) in
     (start .pre .layers, start .pre .total-is, at .0, at .1)
@@ -51,7 +51,7 @@ add-total-3 : tie.Need-add-total-3 Inv-loop μ-loop
 add-total-3 c = search needs
 
 next-requires : tie.Need-next-requires Inv-loop μ-loop
-next-requires c κs = 
+next-requires c κs =
     let names = c .before .before .before .before .before .before .before .before .pre .names in
     let w = on-walk _ names _ _ (c .before .before .before .before .before .loop .inv .0) in
     (names .walkable, w .degree-below, w .cycle-below)
@@ -63,7 +63,7 @@ loop-less : tie.Need-loop-less Inv-loop μ-loop
 loop-less c = search needs
 
 loop-again : tie.Need-loop-again Inv-loop μ-loop
-loop-again c = 
+loop-again c =
     let l = c .before .before .before .before .before .before in
     let start = c .before .before .before .before .before .before .before .before .before in
     let t = start .args .table in
@@ -83,7 +83,7 @@ loop-again c =
     )
 
 returns : tie.Need-returns Inv-loop μ-loop
-returns c = 
+returns c =
     let loop = c .before .before .loop in
     let t = c .before .before .before .before .before .args .table in
     let all = le-antisymm (loop .inv .3) (c .if1 .left) in

@@ -18,7 +18,7 @@ use Rattle.layout_table.proofs.parts.put_lines.Statement.{statement}
 use Rattle.layout_table.proofs.parts.put_lines.Tie as tie
 
 abbrev Inv-loop : tie.InvT-loop
-Inv-loop out₀ table from count solved place₀ step₀ past₀ out place step past = 
+Inv-loop out₀ table from count solved place₀ step₀ past₀ out place step past =
     At (table .speller .solved) (from + past) step × Wrote out₀ 0 (joined (lineFrom table from) past) out place × (past ≤ count) × (length out ≡ length out₀)
 
 abbrev μ-loop : tie.MeasureT-loop
@@ -28,7 +28,7 @@ step-at-requires : tie.Need-step-at-requires Inv-loop μ-loop
 step-at-requires c κs = c .before .before .pre .0 .names .walkable
 
 loop-holds : tie.Need-loop-holds Inv-loop μ-loop
-loop-holds c = 
+loop-holds c =
     let start = c .before .before .before in
     (subst (λ (k : ℕ). At (start .args .table .speller .solved) k (c .step-at .result)) (sym (add-zero (start .args .from))) (c .step-at .ensures), joined-start _ (start .args .out .now) 0, omega arith, refl)
 
@@ -36,19 +36,19 @@ add-key : tie.Need-add-key Inv-loop μ-loop
 add-key c = let start = c .before .before .before .before .before in omega (arith, start .pre .1, start .pre .0 .keys-are, start .pre .0 .names .fits)
 
 plan-at-requires : tie.Need-plan-at-requires Inv-loop μ-loop
-plan-at-requires c κs = 
+plan-at-requires c κs =
     let names = c .before .before .before .before .before .pre .0 .names in
     (names, on-walk _ names _ _ (c .before .loop .inv .0))
 
 code-at-requires : tie.Need-code-at-requires Inv-loop μ-loop
-code-at-requires c κs = 
+code-at-requires c κs =
     let start = c .before .before .before .before .before .before in
     let t = start .args .table in
     let at = step-for-lamps t (start .pre .0) _ _ (c .before .before .loop .inv .0) in
     (start .pre .0 .layers, start .pre .0 .total-is, at .0, at .1)
 
 put-line-requires : tie.Need-put-line-requires Inv-loop μ-loop
-put-line-requires c κs = 
+put-line-requires c κs =
     let l = c .before .before .before .before in
     let start = l .before .before .before .before in
     let t = start .args .table in
@@ -59,7 +59,7 @@ put-line-requires c κs =
     (c .before .before .plan-at .ensures .short, omega arith)
 
 next-requires : tie.Need-next-requires Inv-loop μ-loop
-next-requires c κs = 
+next-requires c κs =
     let names = c .before .before .before .before .before .before .before .before .before .before .before .pre .0 .names in
     let w = on-walk _ names _ _ (c .before .before .before .before .before .before .before .loop .inv .0) in
     (names .walkable, w .degree-below, w .cycle-below)
@@ -71,7 +71,7 @@ loop-less : tie.Need-loop-less Inv-loop μ-loop
 loop-less c = search needs
 
 loop-again : tie.Need-loop-again Inv-loop μ-loop
-loop-again c = 
+loop-again c =
     let p = c .before .before .before in
     let l = c .before .before .before .before .before .before .before .before in
     let start = c .before .before .before .before .before .before .before .before .before .before .before .before in

@@ -16,7 +16,7 @@ cast-degree : tie.Need-cast-degree
 cast-degree c = search needs
 
 mul-degree : tie.Need-mul-degree
-mul-degree c = 
+mul-degree c =
     let start = c .before .before in
     let turn = start .args .key / start .args .solved .«num_cycles» in
     let few : turn ≤ 65535 = omega (arith, div-le-self (start .args .key) (start .args .solved .«num_cycles»)) in
@@ -29,7 +29,7 @@ rem-degree : tie.Need-rem-degree
 rem-degree c = search needs
 
 cast-t5 : tie.Need-cast-t5
-cast-t5 c = 
+cast-t5 c =
     let start = c .before .before .before in
     let s = start .args .solved in
     omega (arith, mod-lt (s .«generator_inverse» * (start .args .key / s .«num_cycles»)) (let h : 0 < s .«reduced_period» = omega (arith, start .pre .below) in h))

@@ -18,7 +18,7 @@ total-of-requires : tie.Need-total-of-requires
 total-of-requires c κs = search needs
 
 returns : tie.Need-returns
-returns c = 
+returns c =
     let start = c .before .before .before .before in
     table-made _ (start .pre) _ (c .before .speller-of .ensures) _ (c .before .before .plan-of .ensures) _ (c .total-of .ensures)
 

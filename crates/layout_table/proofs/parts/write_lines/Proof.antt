@@ -18,13 +18,13 @@ lines-length-requires : tie.Need-lines-length-requires
 lines-length-requires c κs = search needs
 
 returns : tie.Need-returns
-returns c = 
+returns c =
     let start = c .before .before .before in
     let t = start .args .table in
     filled-refused 10 _ (not-held _ (joined (lineOf t) (t .keys)) (omega (arith, c .before .lines-length .ensures, c .if1 .taken))) refl
 
 put-lines-requires : tie.Need-put-lines-requires
-put-lines-requires c κs = 
+put-lines-requires c κs =
     let start = c .before .before .before .before in
     let t = start .args .table in (
       start .pre,
@@ -36,7 +36,7 @@ same-length : tie.Need-same-length
 same-length c = search needs
 
 returns-2 : tie.Need-returns-2
-returns-2 c = 
+returns-2 c =
     let start = c .before .before .before .before .before .before .before in
     let t = start .args .table in
     let counted = c .before .before .before .before .before .lines-length .ensures in
