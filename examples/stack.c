@@ -8,7 +8,7 @@
 
 #include "vetchnoon.h"
 
-enum { STACK = 65536, PAINT = 0xA5, FOR_KEY_TABLE = 2560, FOR_OTHERS = 1024 };
+enum { STACK = 65536, PAINT = 0xA5, ALLOWED = 1024 };
 
 static uint8_t stack[STACK];
 static uint16_t numbers[2 * 65536];
@@ -101,7 +101,7 @@ static size_t used(size_t which)
 
 int main(void)
 {
-    size_t nothing, bytes, allowed, which;
+    size_t nothing, bytes, which;
     int wrong = 0;
 
     used(COUNT); /* once before, so that the linker's work at a first use is not counted */
@@ -111,9 +111,8 @@ int main(void)
     nothing = used(COUNT);
     for (which = 0; which < COUNT; which++) {
         bytes = used(which) - nothing;
-        allowed = strncmp(texts[which], "vn_key_table", 12) == 0 ? FOR_KEY_TABLE : FOR_OTHERS;
-        printf("%4zu bytes%s: %s\n", bytes, bytes > allowed ? ", too many" : "", texts[which]);
-        wrong |= bytes > allowed;
+        printf("%4zu bytes%s: %s\n", bytes, bytes > ALLOWED ? ", too many" : "", texts[which]);
+        wrong |= bytes > ALLOWED;
     }
     return wrong;
 }
