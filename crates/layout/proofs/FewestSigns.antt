@@ -2,7 +2,7 @@
 -- law), and of these two the printed ones have the fewer, case by case of `ByCounts`.
 use Prim.Native.Nat.{ℕ, zero, suc, _≤_, _<_}
 use mathlib.Core.Path.{_≡_, refl, sym, ap, subst, _∙_}
-use mathlib.Core.Bool.{Bool, true, false}
+use mathlib.Core.Bool.{true, false}
 use mathlib.Core.Logic.{_↔_, _⊎_, inl, inr, ⊎-elim}
 use mathlib.Core.List.{List, [], _∷_, List·Memᴰ, List·Memᴰ·head, List·Memᴰ·tail, List·Memᴰ·cases-cons, List·Memᴰ·eq-of-singleton}
 use native.Mathlib.Nat.{le-antisymm}
@@ -10,8 +10,8 @@ use native.Mathlib.Omega.{arith}
 use lib.IntN.{ℤ, pos}
 use lib.ListN.{length}
 use borrow.Author.Tests.{eq-eqb}
-use Rattle.math.specs.Division.{remainder, Apart}
-use Rattle.notes.specs.Names.{signsIn, letterAlone, printed}
+use Rattle.math.specs.Division.{Apart}
+use Rattle.notes.specs.Names.{signsIn, letterAlone}
 use Rattle.notes.specs.Theorems.{SameSpelling}
 use Rattle.notes.proofs.Printing.{ByCounts, alone, fewer-sharps, fewer-flats, sharp-flat, flat-sharp, by-counts, alone-by-indices}
 use Rattle.notes.proofs.OneSpelling.{same-spelling}
@@ -20,14 +20,14 @@ use Rattle.pergen.specs.declared.Signs.{Signs}
 use Rattle.pergen.specs.declared.Signs.the-variants.{Sharps, Flats}
 use Rattle.pergen.specs.declared.Spelling.{Spelling}
 use Rattle.pergen.specs.Pergen.{keyDegree}
-use Rattle.pergen.specs.Spelling.{keyAccidentals, place, soundedKey, starsOf, sharpSpelling, flatSpelling}
+use Rattle.pergen.specs.Spelling.{place, sharpSpelling, flatSpelling}
 use Rattle.pergen.proofs.Keys.{sounds-at-the-degree}
 use Rattle.pergen.proofs.DegreePlaces.{stars-of-key, letter-without-signs}
 use Rattle.pergen.proofs.FewestSigns.{FewestOfEach, fewest-of-each}
 use Rattle.layout.specs.Layouts.{Layout, reducedIn, accidentalsIn, sharpFirst}
-use Rattle.layout.specs.Names.{placeIn, keyOf, printedIn, cycleIn}
+use Rattle.layout.specs.Names.{placeIn, keyOf, printedIn}
 use Rattle.layout.specs.Theorems.{SoundsKey}
-use Rattle.layout.specs.FewestSigns.{signCount, Simplest, Least, SimplestName, NamesHaveFewestSigns, StarsFollow}
+use Rattle.layout.specs.FewestSigns.{signCount, Simplest, Least, EquallyMany, NamesHaveFewestSigns, StarsFollow}
 use Rattle.layout.proofs.Finding.{Parts, accepted}
 use Rattle.layout.proofs.PatternShape.{pattern-shape}
 use Rattle.layout.proofs.Naming.{sharp-sound, flat-sound, names-sound-their-key}
@@ -238,13 +238,10 @@ module _ (l : Layout) (a : Parts l) (key : ℤ) where
   flats-are k h =
       le-antisymm (h .least _ _ (flat-sound l a key) refl) (least-flats flats refl .least (h .some .0) k (h .some .1) (h .some .2))
 
-  abbrev EquallyMany : Type 0
-  EquallyMany = (k : ℕ) × (0 < k) × Least l key Sharps k × Least l key Flats k
+  equally-many : sharps ≡ flats → 0 < sharps → EquallyMany l key
+  equally-many p q = (sharps, omega arith, least-sharps sharps refl, least-flats sharps p)
 
-  equally-many : sharps ≡ flats → 0 < sharps → EquallyMany
-  equally-many p q = (sharps, q, least-sharps sharps refl, least-flats sharps p)
-
-  two-names : {names : List Spelling} → ByCounts both names → length names ≡ 2 → EquallyMany
+  two-names : {names : List Spelling} → ByCounts both names → length names ≡ 2 → EquallyMany l key
   two-names (alone p q) e = absurd (let z : _≡_ {A = ℕ} 1 2 = e in let t : ⊥ = omega arith in t)
   two-names (fewer-sharps p) e = absurd (let z : _≡_ {A = ℕ} 1 2 = e in let t : ⊥ = omega arith in t)
   two-names (fewer-flats p) e = absurd (let z : _≡_ {A = ℕ} 1 2 = e in let t : ⊥ = omega arith in t)
@@ -258,7 +255,7 @@ module _ (l : Layout) (a : Parts l) (key : ℤ) where
   names-two (sharp-flat n p) e h = refl
   names-two (flat-sharp n p) e h = refl
 
-  two-printed : {names : List Spelling} → ByCounts both names → (length names ≡ 2) ↔ EquallyMany
+  two-printed : {names : List Spelling} → ByCounts both names → (length names ≡ 2) ↔ EquallyMany l key
   two-printed v = (
     two-names v,
     λ t. let s = sharps-are (t .0) (t .2) in

@@ -33,6 +33,10 @@ pub record Least (l : Layout) (key : ℤ) (kind : ℕ → Signs) (k : ℕ) : Typ
   pub some : (x : Spelling) × SoundsKey l key x × (x .signs ≡ kind k)
   pub least : (x : Spelling) (count : ℕ) → SoundsKey l key x → x .signs ≡ kind count → k ≤ count
 
+-- The least number of sharps and the least number of flats are equal, and more than 0.
+abbrev pub EquallyMany : Layout → ℤ → Type 0
+EquallyMany l key = (k : ℕ) × (0 < k) × Least l key Sharps k × Least l key Flats k
+
 -- Of the name of a key, as the naming call writes it:
 pub record SimplestName (r : IsomorphicLayout) (l : Layout) (key : ℤ) : Type 0 where
   -- its bytes are the text of the printed spellings and of no others, as in demand 3;
@@ -43,8 +47,8 @@ pub record SimplestName (r : IsomorphicLayout) (l : Layout) (key : ℤ) : Type 0
   pub every : (y : Spelling) → Simplest l key y → (x : Spelling) × List·Memᴰ x (printedIn l key) × SameSpelling x y
   -- a bare letter is printed exactly where some spelling without signs sounds the key;
   pub bare : ((x : Spelling) × (printedIn l key ≡ x ∷ []) × (signCount x ≡ 0)) ↔ ((y : Spelling) × SoundsKey l key y × (signCount y ≡ 0))
-  -- two are printed exactly where the least number of sharps is the least number of flats, and more than 0.
-  pub two : (length (printedIn l key) ≡ 2) ↔ ((k : ℕ) × (0 < k) × Least l key Sharps k × Least l key Flats k)
+  -- two are printed exactly where the fewest sharps are as many as the fewest flats, and some.
+  pub two : (length (printedIn l key) ≡ 2) ↔ EquallyMany l key
 
 abbrev pub NamesHaveFewestSigns : Type 0
 NamesHaveFewestSigns = (r : IsomorphicLayout) (l : Layout) → Accepted r l → (key : ℤ) → SimplestName r l key

@@ -9,9 +9,8 @@ use Rattle.pergen.specs.declared.Cycle.{Cycle}
 use Rattle.pergen.specs.declared.Cycle.the-variants.{Absent, Number}
 use Rattle.pergen.specs.declared.Accidentals.{Accidentals}
 use Rattle.pergen.specs.declared.Signs.the-variants.{Sharps, Flats}
-use Rattle.pergen.specs.declared.Spelling.{Spelling}
 use Rattle.pergen.specs.Spelling.{keyAccidentals, soundedKey}
-use Rattle.notes.specs.Names.{nameText, printed}
+use Rattle.notes.specs.Names.{printed}
 use Rattle.notes.specs.Reading.{Reading, readName}
 use Rattle.notes.specs.Answers.{chainName, nameLengthOutcome, nameOutcome}
 

@@ -8,7 +8,7 @@ use native.Mathlib.Omega.{arith}
 use lib.IntN.{ℤ, pos}
 use Rattle.math.specs.Division.{Apart}
 use Rattle.math.proofs.Congruence.{add-cong, add-cancel}
-use Rattle.math.proofs.Integers.{Rep, rep-pos}
+use Rattle.math.proofs.Integers.{rep-pos}
 use Rattle.math.proofs.Division.{remainders-agree, apart→remainder}
 use Rattle.pergen.specs.declared.Accidentals.{Accidentals}
 use Rattle.pergen.specs.declared.Cycle.{Cycle}
