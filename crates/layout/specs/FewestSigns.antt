@@ -1,7 +1,7 @@
 -- Our names are the simplest (document 02, W-211): "no spelling that sounds the key, with the same stars, has fewer sharps or flats than the
 -- one printed. Where two are printed, both have that least number. This holds for every start and for negative keys."
--- `SoundsKey l key x` (Theorems) says all of "x is a spelling that sounds the key, with the same stars"; nobody need have printed x.
--- Proofs: proofs/FewestSigns.
+-- `SoundsKey l key x` (Theorems) says just that x is a spelling that sounds the key, with the same stars; x need not be printed. An accepted
+-- layout has any start that question 18 lets through, and a key is any integer. Proofs: proofs/FewestSigns.
 use Prim.Native.Nat.{ℕ, _≤_, _<_}
 use mathlib.Core.Path.{_≡_}
 use mathlib.Core.Logic.{_↔_}
