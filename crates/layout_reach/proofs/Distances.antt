@@ -61,6 +61,9 @@ module _ (P : ℕ) (h : 0 < P) where
   distance-cong x y x′ y′ ex ey =
       ap₂ (λ (u v : ℕ). min u v) (difference-cong x y x′ y′ ex ey) (difference-cong y x y′ x′ ey ex)
 
+  pub round-below : (key : ℤ) (k : ℕ) → k ≡ remainder key P → k < P
+  round-below key k round = omega (arith, round, remainder-below key P h)
+
   remainder-again : (z : ℤ) → remainder z P ≡ remainder (pos (remainder z P)) P
   remainder-again z = sym (mod-eq-of-lt (remainder-below z P h))
 

@@ -78,9 +78,6 @@ module _ (P G letter start first n : ℕ) (key : ℤ) (k : ℕ) (h : 0 < P)
   pub block : Block P first n
   block = record { some = g .positive; fits = omega (arith, b, cycles-are, sounds-fit P G letter start h) }
 
-  pub key-below : k < P
-  key-below = omega (arith, round, remainder-below key P h)
-
   pub nearest-from : (j : ℕ) → NearestIn P first n k j → NearestFrom P G start key letter j
   nearest-from j m =
       record {
@@ -108,9 +105,11 @@ module _ (r : IsomorphicLayout) (key : ℤ) (letter : ℕ) where
   unfolding getNearest
   nearest-refused n e = of-refused r _ n e
 
-  pub nearest-given : (l : Layout) → given l ≡ layoutOutcome r → (o : Outcome ℕ) → o ≡ nearestIn l key letter → o ≡ getNearest r key letter
+  -- the key as it was handed on
+  pub nearest-given : (l : Layout) → given l ≡ layoutOutcome r → (z : ℤ) → z ≡ key → (o : Outcome ℕ) → o ≡ nearestIn l z letter
+      → o ≡ getNearest r key letter
   unfolding getNearest
-  nearest-given l e o q = q ∙ of-given r _ l e
+  nearest-given l e z same o q = q ∙ ap (λ (y : ℤ). nearestIn l y letter) same ∙ of-given r _ l e
 
 -- ---- the theorems
 

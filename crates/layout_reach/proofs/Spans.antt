@@ -16,7 +16,7 @@ use Rattle.answer.proofs.Lent.{held, not-held, filled-refused}
 use Rattle.math.specs.Division.{remainder}
 use Rattle.math.proofs.Division.{remainder-below}
 use Rattle.text.specs.Writing.{Room, Wrote}
-use Rattle.text.proofs.Writing.{wrote-none, wrote-one, then, wrote-as, filled-given}
+use Rattle.text.proofs.Writing.{wrote-none, wrote-one, then, wrote-as, room-first, filled-given}
 use Rattle.layout.specs.declared.IsomorphicLayout.{IsomorphicLayout}
 use Rattle.layout.specs.Layouts.{Layout, layoutOutcome}
 use Rattle.layout.specs.Answers.{inRoom}
@@ -134,6 +134,10 @@ run-step {xs} {ys} {at} {o} from key h w =
 
 -- ---- the definition's list
 
+-- of a key that was brought round the octave
+pub span-round : (P : ℕ) (key : ℤ) (d k : ℕ) (s : Span) → k ≡ remainder key P → SpanOf P k d s → SpanOf P (remainder key P) d s
+span-round P key d k s round h = subst (λ (x : ℕ). SpanOf P x d s) round h
+
 module _ (P : ℕ) (key : ℤ) (d : ℕ) (some : 0 < P) (s : Span) (h : SpanOf P (remainder key P) d s) where
   abbrev test : ℕ → Bool
   test k = leb (distance P (pos k) key) d
@@ -169,6 +173,9 @@ module _ (P : ℕ) (key : ℤ) (d : ℕ) (some : 0 < P) (s : Span) (h : SpanOf P
   -- room for both runs, as the code has asked for it
   pub runs-fit : (xs : List ℕ) (n : ℕ) → n ≡ min (2 * d + 1) P → n ≤ length xs → Room xs 0 runs
   runs-fit xs n e l = omega (arith, length-runs, e)
+
+  pub first-fits : (xs : List ℕ) (n : ℕ) → n ≡ min (2 * d + 1) P → n ≤ length xs → Room xs 0 (run 0 (s .wrapped - 0))
+  first-fits xs n e l = room-first xs 0 (run 0 (s .wrapped - 0)) (run (s .from) (s .to - s .from)) (runs-fit xs n e l)
 
   pub reach-written : {xs ys zs : List ℕ} {mid next : ℕ} (n : ℕ) → n ≡ min (2 * d + 1) P → n ≤ length xs
       → Wrote xs 0 (run 0 (s .wrapped - 0)) ys mid → Wrote ys mid (run (s .from) (s .to - s .from)) zs next

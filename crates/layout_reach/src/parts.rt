@@ -96,13 +96,7 @@ pub(crate) fn nearest_of_letter(found: Found, key: i32, letter: u16) -> NumberAn
     if found.num_letters <= letter {
         return NumberAnswer::Refused(Refusal::Letter);
     }
-    NumberAnswer::Given(nearest_from(
-        found.octave,
-        found.generator,
-        found.start,
-        key,
-        letter,
-    ))
+    NumberAnswer::Given(nearest_from(found.octave, found.generator, found.start, key, letter))
 }
 
 // How many keys of the octave are in reach: the key's own, and as many on either side as the distance says, but never more than all.
