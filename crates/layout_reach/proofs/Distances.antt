@@ -8,7 +8,7 @@ use lib.IntN.{ℤ, pos, _-ℤ_}
 use borrow.Author.Tests.{ltb-true, ltb-false}
 use native.Mathlib.Nat.{mod-eq-of-lt}
 use native.Mathlib.Omega.{arith}
-use Rattle.math.specs.Division.{remainder, Apart}
+use Rattle.math.specs.Division.{remainder}
 use Rattle.math.proofs.Congruence.{add-cong}
 use Rattle.math.proofs.Integers.{up, down, rep-self, rep-minus}
 use Rattle.math.proofs.Division.{remainder-below, remainders-agree, remainder→apart, apart→remainder}

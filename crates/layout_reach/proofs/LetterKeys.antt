@@ -2,8 +2,8 @@
 -- two digits, the stars to the base n and the letter's place times G / n to the base R.
 use Prim.Native.Nat.{ℕ, zero, suc, _+_, _*_, _-_, _/_, _%_, _≤_, _<_}
 use mathlib.Core.Path.{_≡_, refl, sym, ap, ap₂, _∙_, subst}
-use mathlib.Core.Bool.{Bool, true, false, _&&_, false≢true}
-use mathlib.Core.Logic.{_↔_, _⊎_, inl, inr}
+use mathlib.Core.Bool.{Bool, true, false, false≢true}
+use mathlib.Core.Logic.{_⊎_, inl, inr}
 use mathlib.Core.List.{List, [], _∷_, _++_, append-nil}
 use lib.Dec.{eqb}
 use lib.IntN.{ℤ, pos, _-ℤ_}
@@ -35,13 +35,13 @@ use Rattle.pergen.proofs.DegreePlaces.{accidentals-sound-their-key, place-sharp
 use Rattle.pergen_sounding.proofs.Differences.{sounded-is}
 use Rattle.layout.specs.declared.IsomorphicLayout.{IsomorphicLayout}
 use Rattle.layout.specs.Layouts.{Layout, Accepted, accidentalsIn, sharpFirst, cyclesIn}
-use Rattle.layout.specs.Names.{IsSpelling, placeIn, keyOf, printedIn, nameIn}
+use Rattle.layout.specs.Names.{placeIn, keyOf, printedIn, nameIn}
 use Rattle.layout.specs.Theorems.{SoundsKey}
 use Rattle.layout.proofs.Finding.{Parts, accepted}
 use Rattle.layout.proofs.Naming.{enough-keys, names-sound-their-key}
 use Rattle.layout_reach.specs.Reach.{passing, starred, bears, keysOf}
 use Rattle.layout_reach.specs.Parts.{run}
-use Rattle.layout_reach.specs.Theorems.{BearsIsTheName, bare, BareLettersSoundTheirKeys, LetterHasKeys, LettersHaveKeys}
+use Rattle.layout_reach.specs.Theorems.{BearsIsTheName, bare, BareLettersSoundTheirKeys, LettersHaveKeys}
 use Rattle.layout_reach.proofs.Passing.{length-run, kept-to, left-out-to, none-passes, not-true}
 
 -- ---- the test on the name's bytes

@@ -1,12 +1,11 @@
 -- The nearest key of a letter: what is nearest among its neighbouring keys is what the definition's search finds; and what the call answers.
-use Prim.Native.Nat.{ℕ, _+_, _≤_, _<_}
+use Prim.Native.Nat.{ℕ, _≤_, _<_}
 use mathlib.Core.Path.{_≡_, refl, sym, ap, _∙_, subst}
-use mathlib.Core.Bool.{Bool}
 use lib.Dec.{ltb}
 use lib.IntN.{ℤ, pos, _-ℤ_}
 use borrow.Author.Tests.{ltb-true}
 use native.Mathlib.Omega.{arith}
-use Rattle.answer.specs.Outcome.{Outcome, given, refused, ask, andThen}
+use Rattle.answer.specs.Outcome.{Outcome, given, refused, andThen}
 use Rattle.answer.proofs.Asked.{given-same, asked-yes, asked-rest}
 use Rattle.answer.proofs.Questions.{ask-above, ask-below}
 use Rattle.math.specs.Division.{remainder}

@@ -8,8 +8,6 @@ use Rattle.layout_reach.proofs.Spans.{reach-not-written, reach-given}
 use borrow.Author.Needs.{needs}
 use Rattle.layout_reach.proofs.keys_in_reach.Statement.{statement}
 use Rattle.layout_reach.proofs.keys_in_reach.Tie as tie
-use Rattle.layout.proofs.parts.ask.Reads as ask-reads
-use Rattle.layout_reach.proofs.parts.write_reach.Reads as write-reach-reads
 
 ask-requires : tie.Need-ask-requires
 ask-requires c κs = search needs

@@ -5,8 +5,6 @@ use Rattle.layout_reach.proofs.Spans.{count-refused, count-given}
 use borrow.Author.Needs.{needs}
 use Rattle.layout_reach.proofs.keys_in_reach_len.Statement.{statement}
 use Rattle.layout_reach.proofs.keys_in_reach_len.Tie as tie
-use Rattle.layout.proofs.parts.ask.Reads as ask-reads
-use Rattle.layout_reach.proofs.parts.reach_count.Reads as reach-count-reads
 
 ask-requires : tie.Need-ask-requires
 ask-requires c κs = search needs

@@ -8,8 +8,6 @@ use Rattle.layout_reach.proofs.Nearest.{nearest-refused, nearest-given}
 use borrow.Author.Needs.{needs}
 use Rattle.layout_reach.proofs.nearest_natural.Statement.{statement}
 use Rattle.layout_reach.proofs.nearest_natural.Tie as tie
-use Rattle.layout.proofs.parts.ask.Reads as ask-reads
-use Rattle.layout_reach.proofs.parts.nearest_of_letter.Reads as nearest-of-letter-reads
 
 ask-requires : tie.Need-ask-requires
 ask-requires c κs = search needs

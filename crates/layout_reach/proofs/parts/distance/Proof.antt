@@ -3,7 +3,6 @@ use Rattle.layout_reach.proofs.Blocks.{distance-first, distance-second}
 use borrow.Author.Needs.{needs}
 use Rattle.layout_reach.proofs.parts.distance.Statement.{statement}
 use Rattle.layout_reach.proofs.parts.distance.Tie as tie
-use Rattle.layout_reach.proofs.parts.shorter.Reads as shorter-reads
 
 sub-shorter : tie.Need-sub-shorter
 sub-shorter c = search needs

@@ -5,7 +5,6 @@ use native.Mathlib.Omega.{arith}
 use borrow.Author.Needs.{needs}
 use Rattle.layout_reach.proofs.parts.nearer_end.Statement.{statement}
 use Rattle.layout_reach.proofs.parts.nearer_end.Tie as tie
-use Rattle.layout_reach.proofs.parts.distance.Reads as distance-reads
 
 distance-requires : tie.Need-distance-requires
 distance-requires c κs = search needs

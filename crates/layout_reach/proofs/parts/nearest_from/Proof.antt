@@ -6,10 +6,6 @@ use Rattle.layout_reach.proofs.Nearest.{block, nearest-from}
 use borrow.Author.Needs.{needs}
 use Rattle.layout_reach.proofs.parts.nearest_from.Statement.{statement}
 use Rattle.layout_reach.proofs.parts.nearest_from.Tie as tie
-use Rattle.layout_reach.proofs.parts.nearest_in.Reads as nearest-in-reads
-use Rattle.math.proofs.gcd_u16.Reads as gcd-u16-reads
-use Rattle.math.proofs.parts.rem_u16.Reads as rem-u16-reads
-use Rattle.pergen_sounding.proofs.parts.sounded.Reads as sounded-reads
 
 sounded-requires : tie.Need-sounded-requires
 sounded-requires c κs = search needs

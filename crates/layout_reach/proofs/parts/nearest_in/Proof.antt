@@ -5,7 +5,6 @@ use Rattle.layout_reach.proofs.Blocks.{key-itself, end-is}
 use borrow.Author.Needs.{needs}
 use Rattle.layout_reach.proofs.parts.nearest_in.Statement.{statement}
 use Rattle.layout_reach.proofs.parts.nearest_in.Tie as tie
-use Rattle.layout_reach.proofs.parts.nearer_end.Reads as nearer-end-reads
 
 sub-last : tie.Need-sub-last
 sub-last c = search needs

@@ -8,7 +8,6 @@ use Rattle.layout_reach.specs.Parts.{NearestFrom}
 use Rattle.layout_reach.proofs.Nearest.{no-letter, letter-found}
 use Rattle.layout_reach.proofs.parts.nearest_of_letter.Statement.{statement}
 use Rattle.layout_reach.proofs.parts.nearest_of_letter.Tie as tie
-use Rattle.layout_reach.proofs.parts.nearest_from.Reads as nearest-from-reads
 
 returns : tie.Need-returns
 returns c = no-letter _ _ _ (c .if1 .taken)

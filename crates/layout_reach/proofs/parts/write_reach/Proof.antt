@@ -9,10 +9,6 @@ use Rattle.layout_reach.proofs.Spans.{span-round, runs-fit, first-fits,
 use borrow.Author.Needs.{needs}
 use Rattle.layout_reach.proofs.parts.write_reach.Statement.{statement}
 use Rattle.layout_reach.proofs.parts.write_reach.Tie as tie
-use Rattle.layout_reach.proofs.parts.put_run.Reads as put-run-reads
-use Rattle.layout_reach.proofs.parts.reach_count.Reads as reach-count-reads
-use Rattle.layout_reach.proofs.parts.reach_span.Reads as reach-span-reads
-use Rattle.math.proofs.parts.rem_u16.Reads as rem-u16-reads
 
 reach-count-requires : tie.Need-reach-count-requires
 reach-count-requires c κs = search needs
