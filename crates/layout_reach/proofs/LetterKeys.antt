@@ -19,7 +19,7 @@ use Rattle.math.proofs.Integers.{rep-pos, rep-minus, rep-agree}
 use Rattle.math.proofs.Division.{remainder-rep, remainders-agree, apart-iff, apart→remainder}
 use Rattle.notes.specs.Names.{letterText, letterAt, spellingText, letterAlone, printed, firstPrinted, printedText, nameText}
 use Rattle.notes.specs.Answers.{chainName}
-use Rattle.notes.specs.Theorems.{Lettered, SameSpelling}
+use Rattle.notes.specs.Theorems.{SameSpelling}
 use Rattle.notes.proofs.Printing.{printed-alone, spellings-in-a-name-are-the-keys}
 use Rattle.notes.proofs.OneSpelling.{equal-names-have-one-first-spelling}
 use Rattle.pergen.specs.declared.Cycle.{Cycle}
@@ -31,14 +31,14 @@ use Rattle.pergen.specs.Spelling.{keyAccidentals, byCoordinates, sharpCoordinat
 use Rattle.pergen.proofs.Inverse.{numbers, cycles-positive}
 use Rattle.pergen.proofs.Keys.{spellings-of-one-key, degree-sounds-key, key-cycle-below, key-degree-below}
 use Rattle.pergen.proofs.Indices.{flat-rep, flat-inside, accidentals-high}
-use Rattle.pergen.proofs.DegreePlaces.{accidentals-sound-their-key, place-sharps}
+use Rattle.pergen.proofs.DegreePlaces.{place-sharps}
 use Rattle.pergen_sounding.proofs.Differences.{sounded-is}
 use Rattle.layout.specs.declared.IsomorphicLayout.{IsomorphicLayout}
 use Rattle.layout.specs.Layouts.{Layout, Accepted, accidentalsIn, sharpFirst, cyclesIn}
 use Rattle.layout.specs.Names.{placeIn, keyOf, printedIn, nameIn}
 use Rattle.layout.specs.Theorems.{SoundsKey}
 use Rattle.layout.proofs.Finding.{Parts, accepted}
-use Rattle.layout.proofs.Naming.{enough-keys, names-sound-their-key}
+use Rattle.layout.proofs.Naming.{enough-keys, lettered, names-sound-their-key}
 use Rattle.layout_reach.specs.Reach.{passing, starred, bears, keysOf}
 use Rattle.layout_reach.specs.Parts.{run}
 use Rattle.layout_reach.specs.Theorems.{BearsIsTheName, bare, BareLettersSoundTheirKeys, LettersHaveKeys}
@@ -206,12 +206,6 @@ module _ (r : IsomorphicLayout) (l : Layout) (e : Accepted r l) (letter : ℕ) (
       )
 
   -- and the other way: the name's first spelling is the letter with those stars
-  lettered : (key : ℤ) → Lettered (l .chain) (accidentalsIn l key)
-  unfolding accidentalsIn
-  lettered key =
-      let t = accidentals-sound-their-key P G N (l .start) key (a .positive) (a .start-below) in
-      record { sharp = omega (arith, a .letters-are, t .2 .0); flat = omega (arith, a .letters-are, t .2 .1) }
-
   named-sounds : (key : ℤ) (c : ℕ) → nameIn l key ≡ letterText (letterAt (chainOf (l .chain) .letters) letter) ++ replicate c 42
       → (c < cycles P G) × (sounds P G at c ≡ remainder key P)
   unfolding printedIn nameIn chainName keyOf placeIn
@@ -219,7 +213,7 @@ module _ (r : IsomorphicLayout) (l : Layout) (e : Accepted r l) (letter : ℕ) (
       let sf = sharpFirst l in
       let x = firstPrinted sf (accidentalsIn l key) in
       let same : SameSpelling x (firstPrinted sf (alone (Number c) letter))
-      = equal-names-have-one-first-spelling (l .chain) (a .chain) sf (accidentalsIn l key) (alone (Number c) letter) (lettered key)
+      = equal-names-have-one-first-spelling (l .chain) (a .chain) sf (accidentalsIn l key) (alone (Number c) letter) (lettered l a key)
       (record { sharp = omega (arith, a .letters-are); flat = omega (arith, a .letters-are) })
       (q ∙ sym (name-bare (chainOf (l .chain) .letters) sf (Number c) letter)) in
       let is-bare : SameSpelling x (bare letter c) = subst (λ (y : Spelling). SameSpelling x y) (first-bare sf (Number c) letter) same in
