@@ -31,6 +31,9 @@ nearestExamples =
     ∷ record { layout = layout 1 24 38; key = pos 12; letter = 3; nearest = given 1 }
     ∷ record { layout = layout 1 24 38; key = pos 13; letter = 3; nearest = given 0 }
     ∷ record { layout = layout 1 24 38; key = negsuc 0; letter = 3; nearest = given 0 }
+    -- both ends of 32 signed bits, which are 16 and 7 round the octave
+    ∷ record { layout = layout 1 24 38; key = negsuc 2147483647; letter = 3; nearest = given 0 }
+    ∷ record { layout = layout 1 24 38; key = pos 2147483647; letter = 3; nearest = given 1 }
     -- three cycles: D, D* and D** are 0, 1 and 2; from 19 the first and the last are equally near, and the lower is answered
     ∷ record { layout = layout 1 36 57; key = pos 19; letter = 3; nearest = given 0 }
     ∷ record { layout = layout 1 36 57; key = pos 18; letter = 3; nearest = given 2 }
@@ -67,7 +70,7 @@ reachExamples =
     ∷ record { layout = layout 2 4 6; key = pos 2; distance = 0; keys = refused 4 }
     ∷ []
 
--- The keys of D, and of B.
+-- The keys of a letter.
 abbrev pub lettersKeys : IsomorphicLayout → ℕ → Outcome (List ℕ)
 lettersKeys r letter = ofLayout r (λ (l : Layout). given (keysOf l letter))
 
@@ -77,6 +80,7 @@ pub record ExamplesHold : Type 0 where
       ≡ map (λ (e : NearestExample). e .nearest) nearestExamples
   pub reaches : map (λ (e : ReachExample). getReach (e .layout) (e .key) (e .distance)) reachExamples
       ≡ map (λ (e : ReachExample). e .keys) reachExamples
+  -- D; D and D*; B, B* and B**
   pub one-d : lettersKeys (layout 1 12 19) 3 ≡ given (0 ∷ [])
   pub two-ds : lettersKeys (layout 1 24 38) 3 ≡ given (0 ∷ 1 ∷ [])
   pub three-bs : lettersKeys (layout 1 36 57) 6 ≡ given (27 ∷ 28 ∷ 29 ∷ [])

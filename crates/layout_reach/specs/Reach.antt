@@ -49,7 +49,7 @@ unfolding passing bears distance
 nearer l key letter k =
     passing (λ j. bears l letter (pos j) && ltb (distance (l .octave) (pos j) key) (distance (l .octave) (pos k) key)) (l .octave) 0
 
--- The first key of the letter than which none is nearer.
+-- The first key of the letter than which none is nearer; `SomeNearest` says that there is one.
 unfoldable pub nearest : Layout → ℤ → ℕ → ℕ
 unfolding first bears nearer
 nearest l key letter = first (λ k. bears l letter (pos k) && eqb (length (nearer l key letter k)) 0) (l .octave) 0
