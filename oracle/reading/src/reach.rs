@@ -22,7 +22,7 @@ pub fn is_bare(name: &str, letter: &str) -> bool {
 
 /// The keys of the octave that a letter names, given the names of all.
 pub fn keys_of(letter: &str, names: &[String]) -> Vec<u16> {
-    let keys = (0..).zip(names);
+    let keys = (0..=u16::MAX).zip(names);
     keys.filter(|(_, name)| is_bare(name, letter))
         .map(|(key, _)| key)
         .collect()
@@ -118,6 +118,12 @@ mod tests {
         assert_eq!(nearest_in((1, 12, 19), 0, 6), Ok(9));
         assert_eq!(nearest_in((1, 12, 19), 0, 7), Err(16));
         assert_eq!(nearest_in((0, 12, 19), 0, 9), Err(4));
+    }
+
+    #[test]
+    fn the_largest_octave() {
+        let names = vec!["D".to_owned(); 65_535];
+        assert_eq!(keys_of("D", &names).last(), Some(&65_534));
     }
 
     #[test]

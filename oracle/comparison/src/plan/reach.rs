@@ -63,7 +63,7 @@ fn all_of_octave(tally: &mut Tally, octave: u16) {
 }
 
 /// Every letter from each key of three octaves, one of them below 0, with a key more on both
-/// sides; lists from each key of the octave and one more on both sides.
+/// sides; some lists.
 fn compare_own_start(tally: &mut Tally, layout: &GivenLayout, octave: u16) {
     let steps = i32::from(octave);
     let keys = match layout.is_accepted() {
@@ -72,14 +72,14 @@ fn compare_own_start(tally: &mut Tally, layout: &GivenLayout, octave: u16) {
     };
     let keys: Vec<i32> = keys.chain(ENDS).collect();
     layout.compare_nearest(tally, &keys);
-    for key in keys_of(layout, octave) {
+    for key in [i32::MIN, -1, 0, steps / 2, steps] {
         for distance in distances(octave) {
             layout.compare_reach(tally, key, distance);
         }
     }
 }
 
-/// Every letter from each key of the octave and one more on both sides; some lists.
+/// Every letter from each key of the octave and one more on both sides; two lists.
 fn compare_other_start(tally: &mut Tally, layout: &GivenLayout, octave: u16) {
     layout.compare_nearest(tally, &keys_of(layout, octave));
     for distance in [1, octave / 2] {

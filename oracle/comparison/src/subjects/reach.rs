@@ -18,9 +18,12 @@ use crate::tally::Original;
 use crate::tally::Tally;
 use crate::tally::outcome;
 
+/// Keys from which a letter that is none is asked for.
+const FEW: &[i32] = &[i32::MIN, -1, 0, 1, i32::MAX];
+
 impl GivenLayout {
-    /// The nearest key of every letter, of one beyond and of the largest number, from each
-    /// of the keys.
+    /// The nearest key of every letter from each of the keys; of one beyond and of the largest
+    /// number from a few.
     pub fn compare_nearest(&self, tally: &mut Tally, keys: &[i32]) {
         let names = self.read(reach::octave_of_names);
         let original = self
@@ -29,8 +32,11 @@ impl GivenLayout {
         let letters: u16 = self
             .read(|layout| fitted(layout.chain.count()))
             .unwrap_or(0);
-        for place in (0..=letters).chain([u16::MAX]) {
+        for place in 0..letters {
             self.compare_letter(tally, place, keys, &names, &original);
+        }
+        for place in [letters, u16::MAX] {
+            self.compare_letter(tally, place, FEW, &names, &original);
         }
     }
 
