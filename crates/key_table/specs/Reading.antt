@@ -3,7 +3,7 @@
 -- named here as a list, which the counts and tests of `Input` hold to what each read told.
 use Prim.Native.Nat.{ℕ, _+_, _-_, _<_, min}
 use mathlib.Core.Bool.{Bool, true, false}
-use mathlib.Core.List.{List, [], _∷_, _++_}
+use mathlib.Core.List.{List, [], _∷_}
 use mathlib.Core.Path.{_≡_}
 use lib.ListN.{length, getD, take, set}
 use lib.Dec.{eqb, ltb}

@@ -1,11 +1,11 @@
 -- The two conversions range by range, by what the code tests.
 use Prim.Native.Nat.{ℕ, _+_, _*_, _-_, _/_, _%_, _≤_, _<_}
-use mathlib.Core.Bool.{Bool, true, false, _||_}
-use mathlib.Core.Path.{_≡_, refl, sym, ap, _∙_}
+use mathlib.Core.Bool.{true, _||_}
+use mathlib.Core.Path.{_≡_}
 use lib.Dec.{eqb, ltb}
 use native.Mathlib.Omega.{arith}
 use borrow.Author.Tests.{lt-ltb, le-ltb, eq-eqb, ne-eqb}
-use Rattle.lamp_codes.specs.Codes.{isOld, wideCode, isConverted, oldCode}
+use Rattle.lamp_codes.specs.Codes.{wideCode, oldCode}
 
 -- ---- from one byte to two
 

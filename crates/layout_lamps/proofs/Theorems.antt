@@ -1,5 +1,5 @@
 -- The laws of StripLaws, as the statements of specs/Theorems.
-use Prim.Native.Nat.{ℕ, zero, suc, _+_, _*_, _-_, _%_, _≤_, _<_}
+use Prim.Native.Nat.{ℕ, _+_, _*_, _-_, _%_, _≤_, _<_}
 use mathlib.Core.Path.{_≡_, refl, sym, ap, subst, _∙_}
 use mathlib.Core.Bool.{Bool, true, false}
 use mathlib.Core.List.{List, [], _∷_, _++_}
@@ -27,9 +27,9 @@ use Rattle.layout_layers.specs.declared.Layer.{Layer}
 use Rattle.layout_layers.specs.declared.Layer.the-variants.{Natural, Sharp, Enharmonic, Flat}
 use Rattle.layout_layers.specs.KeyLayers.{equalized, kindOf, numberIn, countIn}
 use Rattle.layout_layers.proofs.Theorems.{counts-fit, numbers-are-below}
-use Rattle.layout_lamps.specs.Lamps.{lampCode, kindAt, lampOf, codesOf, stripOf, lampIn, stripLengthIn, stripIn, kindIn}
+use Rattle.layout_lamps.specs.Lamps.{lampCode, kindAt, lampOf, codesOf, stripOf, lampIn, stripLengthIn, kindIn}
 use Rattle.layout_lamps.specs.Answers.{getLamp}
-use Rattle.layout_lamps.specs.Theorems.{CodesFit, CodesTellKindsApart, NoCodeIsShared, LampsByCount, OneHome, HomeKeys, StripsAreWhole, FirstOctaveStays, HomeGoesFirst, HomeChangesOneEntry}
+use Rattle.layout_lamps.specs.Theorems.{CodesFit, CodesTellKindsApart, NoCodeIsShared, LampsByCount, OneHome, HomeKeys, StripsAreWhole, FirstOctaveStays, HomeChangesOneEntry}
 use Rattle.layout_lamps.proofs.StripLaws.{lamps-by-count-at, equal-or-not, between}
 
 pub lamps-by-count : LampsByCount

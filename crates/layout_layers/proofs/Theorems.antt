@@ -28,10 +28,10 @@ use Rattle.layout.specs.declared.IsomorphicLayout.{IsomorphicLayout}
 use Rattle.layout.specs.Layouts.{Layout, Accepted}
 use Rattle.layout.proofs.Finding.{Parts, accepted}
 use Rattle.layout.proofs.PatternShape.{PatternShape, pattern-shape}
-use Rattle.layout_layers.specs.KeyLayers.{equalized, entryCount, listedLayer, alternating, alternateLayer, layerOf, layerNumber, keyLayers, layerCount, numberIn, layersIn, countIn}
+use Rattle.layout_layers.specs.KeyLayers.{equalized, entryCount, listedLayer, alternating, alternateLayer, layerOf, layerNumber, keyLayers, layerCount, numberIn, countIn}
 use Rattle.layout_layers.specs.Theorems.{CountsFit, NumbersAreBelow, KeyZeroIsNatural, EachNumberIsMet, EntriesAreCounted, NumbersRepeat, LayersFromZeroOn}
 use Rattle.layout_layers.proofs.RunPlaces.{numbered-below, numbered-met}
-use Rattle.layout_layers.proofs.PlanLaws.{alternating-below, alternating-same, pick-below, pick-most, block-fits}
+use Rattle.layout_layers.proofs.PlanLaws.{alternating-below, alternating-same, pick-below, block-fits}
 
 pub entries-are-counted : EntriesAreCounted
 unfolding keyLayers

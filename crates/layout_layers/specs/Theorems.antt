@@ -1,11 +1,10 @@
 -- What holds of the layers of every accepted layout. Proofs: proofs/Theorems.antt.
-use Prim.Native.Nat.{ℕ, _+_, _*_, _/_, _%_, _≤_, _<_}
+use Prim.Native.Nat.{ℕ, _+_, _*_, _≤_, _<_}
 use mathlib.Core.Path.{_≡_}
 use mathlib.Core.Bool.{false}
 use lib.IntN.{ℤ, pos}
 use lib.ListN.{length}
 use Rattle.pergen.specs.Spelling.{starsOf}
-use Rattle.pergen.specs.declared.Accidentals.{Accidentals}
 use Rattle.layout.specs.declared.IsomorphicLayout.{IsomorphicLayout}
 use Rattle.layout.specs.Layouts.{Layout, Accepted, accidentalsIn}
 use Rattle.layout_layers.specs.KeyLayers.{equalized, entryCount, numberIn, keyNumberIn, layersIn, countIn}

@@ -1,15 +1,14 @@
 -- From what was asked to what the calls answer: the lines of a layout's speller and plan are its table, and one law for each way in which a call ends.
-use Prim.Native.Nat.{ℕ, _+_, _*_, _/_, _%_, _≤_, _<_}
-use mathlib.Core.Path.{_≡_, refl, sym, ap, ap₂, subst, _∙_}
-use mathlib.Core.Bool.{Bool, true, false, _&&_}
+use Prim.Native.Nat.{ℕ, _*_, _/_, _%_, _≤_}
+use mathlib.Core.Path.{_≡_, refl, sym, ap, subst, _∙_}
+use mathlib.Core.Bool.{_&&_}
 use mathlib.Core.List.{List}
 use native.Mathlib.Nat.{zero-add}
 use native.Mathlib.Omega.{arith}
 use lib.ListN.{length}
-use lib.Dec.{leb}
 use borrow.Author.Tests.{leb-true}
-use Rattle.answer.specs.Outcome.{Outcome, given, refused, ask, andThen}
-use Rattle.answer.specs.Lent.{heldIn, counted, Filled}
+use Rattle.answer.specs.Outcome.{Outcome, given, refused, andThen}
+use Rattle.answer.specs.Lent.{heldIn, counted}
 use Rattle.answer.proofs.Asked.{given-same, asked-yes, asked-rest, and-right}
 use Rattle.text.specs.Writing.{joined}
 use Rattle.text.proofs.Joined.{joined-same}
@@ -17,7 +16,7 @@ use Rattle.pergen.specs.Parts.{solvedOf, At}
 use Rattle.pergen.specs.declared.euclid.Solved.{Solved}
 use Rattle.pergen.specs.declared.stepping.Step.{Step}
 use Rattle.layout.specs.declared.IsomorphicLayout.{IsomorphicLayout}
-use Rattle.layout.specs.Layouts.{Layout, layoutOutcome, Accepted}
+use Rattle.layout.specs.Layouts.{Layout, layoutOutcome}
 use Rattle.layout.specs.Answers.{inRoom}
 use Rattle.layout.specs.Names.{listedName}
 use Rattle.layout.specs.Parts.{Laid}
@@ -29,10 +28,8 @@ use Rattle.layout_layers.proofs.PlanLaws.{count-is}
 use Rattle.layout_speller.specs.declared.speller.Speller.{Speller}
 use Rattle.layout_speller.specs.Parts.{SpellerOf}
 use Rattle.layout_lamps.specs.Lamps.{lampIn}
-use Rattle.layout_lamps.specs.Parts.{planLamp}
 use Rattle.layout_lamps.proofs.StripLaws.{octave-lamp-is}
 use Rattle.line.specs.Lines.{isField, octaveAt, tritaveAt, isLine, space, lineFeed, lineOutcome}
-use Rattle.text.specs.Decimal.{valueAt}
 use Rattle.line.specs.declared.Line.{Line}
 use Rattle.layout_table.specs.declared.parts.Table.{Table}
 use Rattle.layout_table.specs.Tables.{keyLine, lineIn, tableIn, getTable, layoutOn, lineLayout, lineTable, refusalLine, outputOf, output}

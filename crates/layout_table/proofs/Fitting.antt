@@ -5,7 +5,7 @@ use mathlib.Core.Path.{_≡_, refl, sym, ap, subst}
 use mathlib.Core.Bool.{Bool, true, false}
 use mathlib.Core.Option.{Option, none, some}
 use mathlib.Core.List.{List}
-use native.Mathlib.Nat.{le-refl, one-mul, mul-one, mul-suc, suc-mul, mul-add, mul-comm, mul-assoc, mul-le-mul, mul-le-mul-left, mod-lt, div-add-mod', le-div-iff-mul-le}
+use native.Mathlib.Nat.{le-refl, one-mul, mul-one, mul-suc, mul-add, mul-comm, mul-assoc, mul-le-mul, mul-le-mul-left, mod-lt, div-add-mod', le-div-iff-mul-le}
 use native.Mathlib.Decide.{decLt}
 use native.Mathlib.Omega.{arith}
 use lib.IntN.{ℤ, pos}
@@ -27,6 +27,7 @@ use Rattle.layout.specs.Layouts.{Layout, lettersOf, withPattern, layoutOutcome,
 use Rattle.layout.specs.Names.{nameIn, listedName}
 use Rattle.layout.proofs.Finding.{Parts, generatorOf, walked, accepted, octave-is}
 use Rattle.layout.proofs.PatternShape.{PatternShape, pattern-shape}
+use Rattle.layout_layers.proofs.Counts.{sum-by-product}
 use Rattle.layout_lamps.specs.Lamps.{lampIn}
 use Rattle.layout_lamps.proofs.Theorems.{codes-fit}
 use Rattle.layout_speller.proofs.Rounds.{short-texts}
@@ -39,10 +40,6 @@ use Rattle.layout_table.proofs.Lines.{length-line, length-refusal}
 use Rattle.layout_table.proofs.Calls.{line-parts, output-refused, output-given, line-laid}
 
 -- ---- signs and stars
-
-sum-by-product : (a b : ℕ) → 0 < a → 0 < b → a + b ≤ a * b + 1
-sum-by-product zero b h k = absurd (let z : ⊥ = omega arith in z)
-sum-by-product (suc a) b h k = omega (arith, suc-mul a b, mul-le-mul-left a k, mul-one a)
 
 -- a quotient and one more is enough
 quotient-most : (N signs R : ℕ) → 0 < N → N * signs < R + N → signs ≤ R / N + 1

@@ -2,9 +2,7 @@
 use Prim.Native.Nat.{_≤_}
 use mathlib.Core.Path.{sym}
 use native.Mathlib.Omega.{arith}
-use lib.ListN.{length, take}
 use lib.Seq.{length-take-le}
-use Rattle.layout_table.specs.Tables.{refusalLine}
 use Rattle.key_table.proofs.Printing.{refusal-room, put-there, refusal-next, refusal-printed}
 use borrow.Author.Needs.{needs}
 use Rattle.key_table.proofs.print_refusal.Statement.{statement}

@@ -1,10 +1,10 @@
 -- After each turn the lines of the keys before `from` were handed over.
-use Prim.Native.Nat.{ℕ, _+_, _-_, _≤_}
-use mathlib.Core.Path.{_≡_, refl, sym, ap, _∙_}
+use Prim.Native.Nat.{ℕ, _-_, _≤_}
+use mathlib.Core.Path.{_≡_, refl, ap, _∙_}
 use native.Mathlib.Nat.{le-antisymm}
 use native.Mathlib.Omega.{arith}
 use lib.ListN.{length}
-use borrow.Author.Tests.{not-true, not-false}
+use borrow.Author.Tests.{not-true}
 use Rattle.text.specs.Writing.{joined}
 use Rattle.layout_table.specs.Parts.{lineOf}
 use Rattle.key_table.proofs.Printing.{none-before, lines-onward, table-printed, not-taken}

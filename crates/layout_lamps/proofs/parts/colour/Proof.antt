@@ -2,7 +2,6 @@
 use Prim.Native.Nat.{ℕ, _-_, _≤_, _<_}
 use mathlib.Core.Path.{_≡_, sym, subst}
 use native.Mathlib.Omega.{arith}
-use lib.ListN.{length}
 use Rattle.layout_layers.specs.Parts.{Spread}
 use Rattle.layout_lamps.specs.Parts.{InFront, codeAt}
 use Rattle.layout_lamps.proofs.StripLaws.{colour-none, not-reached, colour-more}

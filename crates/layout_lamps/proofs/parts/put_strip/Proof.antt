@@ -1,5 +1,4 @@
 -- The codes, home over the first, and over the one at the octave where there is a second octave.
-use native.Mathlib.Omega.{arith}
 use Rattle.layout_lamps.proofs.StripLaws.{first-inside, octave-inside, home-over, homes-over}
 use borrow.Author.Needs.{needs}
 use Rattle.layout_lamps.proofs.parts.put_strip.Statement.{statement}

@@ -1,6 +1,5 @@
 -- Question 10, then the strip of all entries.
-use mathlib.Core.Path.{sym, ap, subst, _∙_}
-use native.Mathlib.Omega.{arith}
+use mathlib.Core.Path.{subst, _∙_}
 use Prim.Native.Nat.{ℕ}
 use Rattle.layout_layers.specs.Parts.{totalOf, Fronted}
 use Rattle.layout_layers.proofs.Calls.{text-too-long, text-held}

@@ -1,6 +1,6 @@
 -- The layer of the key's scale degree, times the cycles, and the key's cycle.
-use Prim.Native.Nat.{ℕ, _+_, _*_, _/_, _≤_}
-use mathlib.Core.Path.{ap, ap₂}
+use Prim.Native.Nat.{ℕ, _+_, _*_, _≤_}
+use mathlib.Core.Path.{ap₂}
 use native.Mathlib.Nat.{div-le-self, mod-lt}
 use native.Mathlib.Omega.{arith}
 use Rattle.layout_layers.proofs.PlanLaws.{turn-fits}

@@ -1,7 +1,6 @@
 -- Question 10, then all entries.
-use native.Mathlib.Omega.{arith}
 use Rattle.layout_layers.specs.Parts.{planLayers}
-use Rattle.layout_layers.proofs.Calls.{text-too-long, text-room, text-held}
+use Rattle.layout_layers.proofs.Calls.{text-too-long, text-held}
 use borrow.Author.Needs.{needs}
 use Rattle.layout_layers.proofs.parts.write_layers.Statement.{statement}
 use Rattle.layout_layers.proofs.parts.write_layers.Tie as tie

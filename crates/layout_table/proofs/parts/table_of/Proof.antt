@@ -1,5 +1,4 @@
 -- Speller and plan of the layout.
-use mathlib.Core.Path.{refl}
 use Rattle.layout_table.proofs.Calls.{table-made}
 use borrow.Author.Needs.{needs}
 use Rattle.layout_table.proofs.parts.table_of.Statement.{statement}

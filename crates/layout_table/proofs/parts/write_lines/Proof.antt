@@ -1,7 +1,6 @@
 -- Question 10, then all lines.
 use Prim.Native.Nat.{_≤_}
-use mathlib.Core.Path.{refl, ap, sym, _∙_}
-use native.Mathlib.Nat.{zero-add}
+use mathlib.Core.Path.{refl, ap}
 use native.Mathlib.Omega.{arith}
 use lib.ListN.{length}
 use Rattle.answer.proofs.Lent.{held, not-held, filled-refused}
