@@ -87,9 +87,9 @@ extern "C" {
 /* The version of this header. The first number changes where a call, a number above or an answer is changed or taken away,
  * the second where some are added, the third where neither is so.
  *   7.1.0: vn_nearest_natural and vn_keys_in_reach are added.
- *   7.0.0: a lamp code is a uint16_t; it was a uint8_t. Home, natural and sharp 0 keep 0, 1 and 2, and all other codes are new
- *          ones. vn_lamp_strip, vn_lamp and the key table ask 9 no more, and so answer for layouts that they refused with it.
- *          vn_widen_strip and vn_narrow_strip, which ask 17, convert strips that were stored before.
+ *   7.0.0: a lamp code is a uint16_t; it was a uint8_t. Home, natural, sharp 0 and flat 99 keep 0, 1, 2 and 201, and all other
+ *          codes are new ones. vn_lamp_strip, vn_lamp and the key table ask 9 no more, and so answer for layouts that they
+ *          refused with it. vn_widen_strip and vn_narrow_strip, which ask 17, convert strips that were stored before.
  *   6.0.0: a key whole octaves from key 0 is home, whatever its layer: in a strip of two octaves the code at the octave is 0,
  *          and so is vn_lamp of its keys. All other codes are what they were.
  *   5.0.0: at sharpness 0, where both steps are equal, vn_lamp_strip writes two octaves, and vn_lamp repeats after both. All
