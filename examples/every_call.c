@@ -170,6 +170,8 @@ static void call_reach(void)
     NUMBERS(0, 1, 9, 10, 11);
     IS(vn_keys_in_reach(1, 12, 19, 3, 2, 5, numbers, 12), 11);
     NUMBERS(0, 1, 2, 3, 4, 5, 6, 7, 9, 10, 11);
+    IS(vn_keys_in_reach(1, 12, 19, 3, 2, 6, numbers, 64), 12);
+    NUMBERS(0, 1, 2, 3, 4, 5, 6, 7, 8, 9, 10, 11);
     IS(vn_keys_in_reach(1, 12, 19, 3, INT32_MIN, 0, numbers, 1), 1);
     NUMBERS(4);
     IS(vn_keys_in_reach(1, 12, 19, 3, INT32_MAX, 0, numbers, 1), 1);
