@@ -137,10 +137,7 @@ fn answered_other(kind: usize, line: &[u8], end: usize, room: u16) -> bool {
     if kind == names::NARROW {
         return strips::narrow(line, end, room);
     }
-    if kind == names::NEAREST {
-        return reach::answer(kind, line, end, room);
-    }
-    if kind == names::REACH {
+    if kind <= names::REACH {
         return reach::answer(kind, line, end, room);
     }
     false
