@@ -31,6 +31,7 @@ static void holds(int line, const void *slice, const void *wanted, size_t bytes)
     } while (0)
 
 static uint16_t numbers[64];
+static uint16_t strip[2400];
 static uint8_t text[512];
 
 static void call_numbers(void)
@@ -166,20 +167,33 @@ static void call_layers(void)
     IS(vn_layer_kind(5, 3, numbers, 2), 2);
     NUMBERS(VN_FLAT, 1);
     IS(vn_layer_kind(5, 3, numbers, 1), -VN_ROOM);
-    IS(vn_lamp_strip(1, 12, 19, 3, text, 12), 12);
-    holds(__LINE__, text, "\0\377\1\1\377\1\377\1\377\1\1\377", 12);
-    IS(vn_lamp_strip(1, 7, 11, 3, text, 14), 14);
-    holds(__LINE__, text, "\0\1\377\377\377\377\1\0\1\377\377\377\377\1", 14);
-    IS(vn_lamp_strip(1, 7, 11, 3, text, 13), -VN_ROOM);
-    IS(vn_lamp_strip(3, 8, 13, 3, text, sizeof text), 16);
-    holds(__LINE__, text, "\0\1\1\1\1\377\377\377\0\377\377\377\377\1\1\1", 16);
-    IS(vn_lamp_strip(1, 2400, 3800, 3, text, sizeof text), -VN_LAMP_LAYER);
-    IS(vn_lamp(1, 31, 49, 3, 65535), 103);
+}
+
+/* What enharmonic keys have. */
+enum { E = 65535 };
+
+static void call_lamps(void)
+{
+    IS(vn_lamp_strip(1, 12, 19, 3, numbers, 12), 12);
+    NUMBERS(0, E, 1, 1, E, 1, E, 1, E, 1, 1, E);
+    IS(vn_lamp_strip(1, 31, 49, 3, numbers, 31), 31);
+    NUMBERS(0, 5, 2, 3, 4, 1, 3);
+    IS(vn_lamp_strip(1, 7, 11, 3, numbers, 14), 14);
+    NUMBERS(0, 1, E, E, E, E, 1, 0, 1, E, E, E, E, 1);
+    IS(vn_lamp_strip(1, 7, 11, 3, numbers, 13), -VN_ROOM);
+    IS(vn_lamp_strip(3, 8, 13, 3, numbers, 64), 16);
+    NUMBERS(0, 1, 1, 1, 1, E, E, E, 0, E, E, E, E, 1, 1, 1);
+    IS(vn_lamp_strip(1, 2400, 3800, 3, strip, 2400), 2400);
+    IS(strip[199], 2 + 2 * 198);
+    IS(strip[200], E);
+    IS(strip[201], 3 + 2 * 198);
+    IS(vn_lamp_strip(1, 2400, 3800, 3, strip, 2399), -VN_ROOM);
+    IS(vn_lamp(1, 31, 49, 3, 65535), 5);
     IS(vn_lamp(1, 31, 49, 3, 31), 0);
     IS(vn_lamp(1, 31, 49, 3, -31), 0);
-    IS(vn_lamp(1, 31, 49, 3, -1), 3);
-    IS(vn_lamp(1, 31, 49, 3, INT32_MIN), 102);
-    IS(vn_lamp(1, 31, 49, 3, INT32_MAX), 103);
+    IS(vn_lamp(1, 31, 49, 3, -1), 4);
+    IS(vn_lamp(1, 31, 49, 3, INT32_MIN), 3);
+    IS(vn_lamp(1, 31, 49, 3, INT32_MAX), 5);
     IS(vn_lamp(1, 7, 11, 3, 7), 0);
     IS(vn_lamp(1, 7, 11, 3, -7), 0);
     IS(vn_lamp(1, 7, 11, 3, 14), 0);
@@ -187,11 +201,36 @@ static void call_layers(void)
     IS(vn_lamp(3, 8, 13, 3, 8), 0);
     IS(vn_lamp(3, 8, 13, 3, -8), 0);
     IS(vn_lamp(3, 8, 13, 3, 16), 0);
-    IS(vn_lamp(3, 8, 13, 3, 9), 255);
-    IS(vn_lamp(3, 8, 13, 3, -7), 255);
+    IS(vn_lamp(3, 8, 13, 3, 9), E);
+    IS(vn_lamp(3, 8, 13, 3, -7), E);
     IS(vn_lamp(3, 8, 13, 3, INT32_MIN), 0);
     IS(vn_lamp(3, 8, 13, 3, INT32_MAX), 1);
-    IS(vn_lamp(1, 2400, 3800, 3, 31), -VN_LAMP_LAYER);
+    IS(vn_lamp(1, 2400, 3800, 3, 31), 2 + 2 * 30);
+    IS(vn_lamp(1, 2400, 3800, 3, -1), 3);
+}
+
+/* A strip that was stored with one byte for each code, and back to the same bytes. */
+static void call_stored_strips(void)
+{
+    const uint8_t stored[] = {0, 1, 2, 101, 102, 201, 255};
+    const uint16_t no_partner[] = {1, 65535, 0, 202};
+    const uint16_t no_byte[] = {65534};
+    IS(vn_widen_strip(stored, 7, numbers, 7), 7);
+    NUMBERS(0, 1, 2, 200, 3, 201, 65535);
+    IS(vn_narrow_strip(numbers, 7, text, 7), 7);
+    holds(__LINE__, text, stored, sizeof stored);
+    IS(vn_widen_strip(stored, 7, numbers, 6), -VN_ROOM);
+    IS(vn_narrow_strip(numbers, 7, text, 6), -VN_ROOM);
+    IS(vn_widen_strip(stored, 0, numbers, 0), 0);
+    IS(vn_narrow_strip(numbers, 0, text, 0), 0);
+
+    /* 17 is asked before 10. */
+    IS(vn_widen_strip((const uint8_t *)"\1\312", 2, numbers, 2), -VN_CODE);
+    IS(vn_widen_strip((const uint8_t *)"\376\1", 2, numbers, 1), -VN_CODE);
+    IS(vn_narrow_strip(no_partner, 3, text, 3), 3);
+    IS(vn_narrow_strip(no_partner, 4, text, 4), -VN_CODE);
+    IS(vn_narrow_strip(no_byte, 1, text, 0), -VN_CODE);
+    holds(__LINE__, text, "\1\377\0", 3);
 }
 
 static void call_books(void)
@@ -213,8 +252,8 @@ static void call_books(void)
     IS(vn_book_find(text, (size_t)length - 1, -1, found, 2), -VN_BOOK_COVER);
     IS(vn_book_find(text, 3, -1, found, 2), -VN_BOOK_PAIRS);
     IS(vn_book_find(text, 3, -1, found, 1), -VN_ROOM);
-    IS(vn_key_table((const uint8_t *)"1 7 11\n", 7, text, sizeof text), 50);
-    TEXT("0 D 0\n1 E 1\n2 F 255\n3 G 255\n4 A 255\n5 B 255\n6 C 1\n");
+    IS(vn_key_table((const uint8_t *)"1 7 11\n", 7, text, sizeof text), 58);
+    TEXT("0 D 0\n1 E 1\n2 F 65535\n3 G 65535\n4 A 65535\n5 B 65535\n6 C 1\n");
     IS(vn_key_table((const uint8_t *)"1 0 19\n", 7, text, sizeof text), 10);
     TEXT("refused 2\n");
 }
@@ -239,9 +278,9 @@ static void call_starts(void)
     IS(vn_layout_layers(1, 12, 19, 1, numbers, 12), 12);
     NUMBERS(0, 1, 0, 1, 0, 0, 1, 0, 1, 0, 1, 0);
     IS(vn_layer(1, 31, 49, 1, 6), 3);
-    IS(vn_lamp_strip(1, 12, 19, 1, text, 12), 12);
-    holds(__LINE__, text, "\0\377\1\377\1\1\377\1\377\1\377\1", 12);
-    IS(vn_lamp(1, 31, 49, 1, 6), 103);
+    IS(vn_lamp_strip(1, 12, 19, 1, numbers, 12), 12);
+    NUMBERS(0, E, 1, E, 1, 1, E, 1, E, 1, E, 1);
+    IS(vn_lamp(1, 31, 49, 1, 6), 5);
     IS(vn_book_len(1, 12, 19, 1), 132);
     IS(vn_book(1, 12, 19, 1, text, sizeof text), 132);
     IS(vn_book_find(text, 132, 1, found, 2), 2);
@@ -267,15 +306,15 @@ static void call_no_starts(void)
     IS(vn_layout(2, 12, 19, 4, numbers, 8), 8);
     IS(vn_layout(2, 12, 19, 5, numbers, 8), -VN_START);
 
-    /* 1, 2, 3 and 4 are asked before it, 16, 21, 9 and 10 after it. */
+    /* 1, 2, 3 and 4 are asked before it, 16, 21 and 10 after it. */
     IS(vn_layout(6, 12, 19, 9, numbers, 8), -VN_CHAIN);
     IS(vn_layout(1, 0, 19, 9, numbers, 8), -VN_PERIOD);
     IS(vn_layout(1, 19, 12, 9, numbers, 8), -VN_GENERATOR);
     IS(vn_layout(1, 12, 12, 9, numbers, 8), -VN_PATTERN);
     IS(vn_sounded_key(1, 24, 38, 7, 7, 0, 1), -VN_START);
     IS(vn_sounded_key(1, 24, 38, 7, 6, 0, 2), -VN_START);
-    IS(vn_lamp_strip(1, 2400, 3800, 7, text, sizeof text), -VN_START);
-    IS(vn_lamp(1, 2400, 3800, 7, 31), -VN_START);
+    IS(vn_lamp_strip(1, 12, 19, 7, numbers, 11), -VN_START);
+    IS(vn_lamp(1, 12, 19, 7, 1), -VN_START);
     IS(vn_book(1, 12, 19, 7, text, 131), -VN_START);
     IS(vn_layout(1, 12, 19, 7, numbers, 7), -VN_START);
 }
@@ -288,6 +327,8 @@ int main(void)
     call_chains();
     call_layouts();
     call_layers();
+    call_lamps();
+    call_stored_strips();
     call_books();
     call_starts();
     call_no_starts();

@@ -8,9 +8,12 @@
 enum { CHAIN = 1, OCTAVE = 24, TRITAVE = 38, START = 3 }; /* Meantone[7] in quarter tones, with D on key 0 */
 enum { FROM_C = 1, FROM_NOTHING = 7 };                    /* the letters are F C G D A E B */
 
-static uint8_t lamps[2 * OCTAVE]; /* one octave of codes, or two where both steps of the scale are equal */
+static uint16_t lamps[2 * OCTAVE]; /* one octave of codes, or two where both steps of the scale are equal */
 static uint16_t lamp_count;
 static uint8_t book[512];
+
+/* Meantone[7] in twelve keys, as a firmware before version 7 stored it: a byte for each code. */
+static uint8_t stored_lamps[] = {0, 255, 1, 1, 255, 1, 255, 1, 255, 1, 1, 255};
 
 static int refused(const char *what, int64_t answer)
 {
@@ -19,15 +22,25 @@ static int refused(const char *what, int64_t answer)
     return answer < 0;
 }
 
-/* Keeps the strip of a layout, whose octave has at most OCTAVE keys, and how many codes it has. */
-static int keep_lamps(uint16_t chain, uint16_t octave, uint16_t tritave, uint16_t start)
+/* Keeps how many codes were written to the strip, unless it was refused. */
+static int keep_count(int64_t count)
 {
-    int64_t count = vn_lamp_strip(chain, octave, tritave, start, lamps, sizeof lamps);
-
     if (refused("lamps", count))
         return 0;
     lamp_count = (uint16_t)count;
     return 1;
+}
+
+/* Keeps the strip of a layout, whose octave has at most OCTAVE keys. */
+static int keep_lamps(uint16_t chain, uint16_t octave, uint16_t tritave, uint16_t start)
+{
+    return keep_count(vn_lamp_strip(chain, octave, tritave, start, lamps, 2 * OCTAVE));
+}
+
+/* Keeps the strip that was stored. */
+static int keep_stored_lamps(void)
+{
+    return keep_count(vn_widen_strip(stored_lamps, sizeof stored_lamps, lamps, 2 * OCTAVE));
 }
 
 /* The code that lights a key of any octave: the strip repeats after all of its codes, upwards and downwards. */
@@ -102,6 +115,12 @@ int main(void)
     if (!keep_lamps(3, 8, 13, 3))
         return 1;
     light(-8, 16);
+
+    if (!keep_stored_lamps())
+        return 1;
+    light(-1, 12);
+    stored_lamps[1] = 202; /* no code of one byte: the strip stays as it was */
+    keep_stored_lamps();
 
     book[4]++; /* a damaged book is seen at the next key */
     press((size_t)length, 4);

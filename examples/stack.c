@@ -8,11 +8,13 @@
 
 #include "vetchnoon.h"
 
-enum { STACK = 65536, PAINT = 0xA5, FOR_KEY_TABLE = 2560, FOR_OTHERS = 1024 };
+enum { STACK = 65536, PAINT = 0xA5, ALLOWED = 1024 };
 
 static uint8_t stack[STACK];
 static uint16_t numbers[2 * 65536];
 static uint8_t text[1 << 22];
+static const uint8_t stored[4096];
+static const uint16_t wide[4096];
 static int64_t key[1];
 static uint32_t found[2];
 
@@ -46,14 +48,19 @@ static uint32_t found[2];
     CALL(vn_layout_layers(2, 65534, 65535, 4, numbers, sizeof numbers / 2)) \
     CALL(vn_layer(2, 65534, 65535, 4, -1)) \
     CALL(vn_layer_kind(65535, 32768, numbers, 2)) \
-    CALL(vn_lamp_strip(1, 311, 493, 6, text, sizeof text)) \
-    CALL(vn_lamp_strip(1, 707, 1111, 6, text, sizeof text)) \
+    CALL(vn_lamp_strip(1, 311, 493, 6, numbers, sizeof numbers / 2)) \
+    CALL(vn_lamp_strip(1, 41699, 65527, 6, numbers, sizeof numbers / 2)) \
+    CALL(vn_lamp_strip(2, 65534, 65535, 4, numbers, sizeof numbers / 2)) \
     CALL(vn_lamp(1, 311, 493, 6, -1)) \
-    CALL(vn_lamp(1, 707, 1111, 6, -1)) \
+    CALL(vn_lamp(1, 41699, 65527, 6, -1)) \
+    CALL(vn_lamp(2, 65534, 65535, 4, -1)) \
+    CALL(vn_widen_strip(stored, sizeof stored, numbers, sizeof numbers / 2)) \
+    CALL(vn_narrow_strip(wide, sizeof wide / 2, text, sizeof text)) \
     CALL(vn_book_len(1, 2400, 3800, 6)) \
     CALL(vn_book(1, 2400, 3800, 6, text, sizeof text)) \
     CALL(vn_book_find(text, 266404, 2399, found, 2)) \
-    CALL(vn_key_table((const uint8_t *)"1 311 493\n", 10, text, sizeof text))
+    CALL(vn_key_table((const uint8_t *)"1 311 493\n", 10, text, sizeof text)) \
+    CALL(vn_key_table((const uint8_t *)"2 4095 4914\n", 12, text, sizeof text))
 
 #define AS_TEXT(...) #__VA_ARGS__,
 #define AS_CALL(...) \
@@ -94,7 +101,7 @@ static size_t used(size_t which)
 
 int main(void)
 {
-    size_t nothing, bytes, allowed, which;
+    size_t nothing, bytes, which;
     int wrong = 0;
 
     used(COUNT); /* once before, so that the linker's work at a first use is not counted */
@@ -104,9 +111,8 @@ int main(void)
     nothing = used(COUNT);
     for (which = 0; which < COUNT; which++) {
         bytes = used(which) - nothing;
-        allowed = strncmp(texts[which], "vn_key_table", 12) == 0 ? FOR_KEY_TABLE : FOR_OTHERS;
-        printf("%4zu bytes%s: %s\n", bytes, bytes > allowed ? ", too many" : "", texts[which]);
-        wrong |= bytes > allowed;
+        printf("%4zu bytes%s: %s\n", bytes, bytes > ALLOWED ? ", too many" : "", texts[which]);
+        wrong |= bytes > ALLOWED;
     }
     return wrong;
 }

@@ -5,8 +5,8 @@
  * What the library runs on
  *   x86-64 Linux, C calling convention, size_t of 64 bits. It needs memset and memcpy, which a C library has, and nothing
  *   else; it makes no system calls.
- *   Stack: at most 2.5 KiB for vn_key_table and 1 KiB for any other call, measured (2,276 bytes, and 512 for
- *   vn_scale_name, with the memset and memcpy of glibc); examples/check measures it again.
+ *   Stack: at most 1 KiB for any call, measured (744 bytes for vn_key_table, at most 512 for any other, with the memset and
+ *   memcpy of glibc); examples/check measures it again.
  *
  * What a call returns
  *   0 or more: the answer, or how many elements were written to the front of the slice that was lent.
@@ -21,13 +21,15 @@
  *   VN_ORIGIN        6  Is its origin below that count?
  *   VN_SIZE          7  Are both products and the size of a given step pattern at most 65,535?
  *   VN_COPRIME_SIZE  8  Is the size after coprime at most 65,535?
- *   VN_LAMP_LAYER    9  Is every sharp and flat layer number of the lamp strip below 100?
+ *   VN_LAMP_LAYER    9  Reserved: no call asks it since 7.0.0. It asked whether every sharp and flat layer number of the lamp
+ *                       strip is below 100, and codes of 16 bits have room for all.
  *   VN_ROOM         10  Does the output slice hold the whole output?
  *   VN_BOOK_PAIRS   11  Does a book hold its count, at least 1, and that many pairs?
  *   VN_BOOK_COVER   12  Do the pairs cover the text?
  *   VN_BOOK_KEY     13  Is the key at least 0 and below the book's count?
  *   VN_LINE         14  Is the key table's line well formed? (The table prints this number; no call returns it.)
  *   VN_LETTER       16  Is the letter's place below the chain's number of letters?
+ *   VN_CODE         17  Does every code of the strip have a partner among the other width's codes?
  *   VN_START        18  Is the layout's start below the chain's number of letters?
  *   VN_STARS        21  Are the stars below the number of cycles?
  * A refusal is compared as in vn_layout(chain, octave, tritave, start, out, len) == -VN_PATTERN.
@@ -72,6 +74,7 @@ extern "C" {
 #define VN_BOOK_KEY 13
 #define VN_LINE 14
 #define VN_LETTER 16
+#define VN_CODE 17
 #define VN_START 18
 #define VN_STARS 21
 
@@ -83,6 +86,9 @@ extern "C" {
 
 /* The version of this header. The first number changes where a call, a number above or an answer is changed or taken away,
  * the second where some are added, the third where neither is so.
+ *   7.0.0: a lamp code is a uint16_t; it was a uint8_t. Home, natural, sharp 0 and flat 99 keep 0, 1, 2 and 201, and all other
+ *          codes are new ones. vn_lamp_strip, vn_lamp and the key table ask 9 no more, and so answer for layouts that they
+ *          refused with it. vn_widen_strip and vn_narrow_strip, which ask 17, convert strips that were stored before.
  *   6.0.0: a key whole octaves from key 0 is home, whatever its layer: in a strip of two octaves the code at the octave is 0,
  *          and so is vn_lamp of its keys. All other codes are what they were.
  *   5.0.0: at sharpness 0, where both steps are equal, vn_lamp_strip writes two octaves, and vn_lamp repeats after both. All
@@ -93,7 +99,7 @@ extern "C" {
  *          that they had.
  *   2.0.0: vn_sounded_key takes signs as one number, and asks 16 and 21.
  *   1.0.0, before these numbers stood here: it took sharps and flats as two numbers, and asked 15, VN_SPELLING. */
-#define VN_VERSION_MAJOR 6
+#define VN_VERSION_MAJOR 7
 #define VN_VERSION_MINOR 0
 #define VN_VERSION_PATCH 0
 
@@ -222,13 +228,22 @@ int64_t vn_layer_kind(uint16_t total, uint16_t number, uint16_t *out, size_t len
 
 /* Writes the lamp code of each key of the octave, of two octaves at sharpness 0, where both steps are equal: there the colours
  * may alternate from octave to octave. Key 0 is home and has 0, and so has the key an octave up where there are two octaves,
- * whatever its layer; else natural 1, sharp k 2 + k, flat k 102 + k, enharmonic 255. Room for 2 x octave codes is always
- * enough. Asks 1, 2, 3, 4, 18, 9, 10. */
-int64_t vn_lamp_strip(uint16_t chain, uint16_t octave, uint16_t tritave, uint16_t start, uint8_t *out, size_t len);
+ * whatever its layer; else natural 1, sharp k 2 + 2 x k, flat k 3 + 2 x k, enharmonic 65,535. Room for 2 x octave codes is
+ * always enough. Asks 1, 2, 3, 4, 18, 10. */
+int64_t vn_lamp_strip(uint16_t chain, uint16_t octave, uint16_t tritave, uint16_t start, uint16_t *out, size_t len);
 
 /* The lamp code of one key, of any octave: what vn_lamp_strip writes repeats, upwards and downwards, after all of its codes.
- * Every key whole octaves from key 0 is home and has 0, and no other key has it. Asks 1, 2, 3, 4, 18, 9. */
+ * Every key whole octaves from key 0 is home and has 0, and no other key has it. Asks 1, 2, 3, 4, 18. */
 int64_t vn_lamp(uint16_t chain, uint16_t octave, uint16_t tritave, uint16_t start, int32_t key);
+
+/* Writes the codes of a strip that was stored with one byte for each, as many of them, as vn_lamp_strip has them: home 0 and
+ * natural 1 stay, sharp k, which was 2 + k, is 2 + 2 x k, flat k, which was 102 + k, is 3 + 2 x k, enharmonic goes from 255 to
+ * 65,535. Any bytes are answered: 17 has the answer no where a code is from 202 to 254. Asks 17, 10. */
+int64_t vn_widen_strip(const uint8_t *strip, size_t strip_len, uint16_t *out, size_t len);
+
+/* Writes the strip that vn_widen_strip makes these codes of, a byte for each code. 17 has the answer no where there is none:
+ * where a code is from 202 to 65,534. Asks 17, 10. */
+int64_t vn_narrow_strip(const uint16_t *strip, size_t strip_len, uint8_t *out, size_t len);
 
 /* ---- books of key names, and key tables */
 
@@ -245,8 +260,8 @@ int64_t vn_book(uint16_t chain, uint16_t octave, uint16_t tritave, uint16_t star
 int64_t vn_book_find(const uint8_t *book, size_t book_len, int32_t key, uint32_t *out, size_t len);
 
 /* Writes what the key table program prints for a line of input, such as "1 12 19\n": a line for each key of one octave of
- * that layout with the chain's own start, or "refused", a space, the number and a line feed. 403,596 bytes are always
- * enough. Asks 10 alone. */
+ * that layout with the chain's own start, or "refused", a space, the number and a line feed. The octave is at most 4,096. A
+ * table has at most octave x (octave / 5 + 21) bytes, the quotient whole; 3,440,640 bytes are always enough. Asks 10 alone. */
 int64_t vn_key_table(const uint8_t *line, size_t line_len, uint8_t *out, size_t len);
 
 #ifdef __cplusplus

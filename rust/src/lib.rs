@@ -9,6 +9,9 @@
 //! period, with the remainder that is never negative; a layer's list and a lamp strip
 //! repeat, upwards and downwards. A book alone has the keys from 0 to its count − 1.
 //!
+//! A lamp's code is a `u16`; up to 6.0.0 it was a `u8`. [`widen_strip`] and [`narrow_strip`]
+//! convert strips that were stored then. Since 7.0.0 no call asks question 9.
+//!
 //! ```
 //! use vetchnoon::{Layout, Refused, note_name};
 //!
@@ -199,7 +202,7 @@ filling! {
     /// let mut kind = [0; 2];
     /// vetchnoon::layer_kind(total, number, &mut kind).unwrap();
     /// assert_eq!(kind, [vetchnoon::FLAT, 1]);
-    /// assert_eq!(vetchnoon::lamp(layout, 1), Ok(102 + 1));
+    /// assert_eq!(vetchnoon::lamp(layout, 1), Ok(3 + 2 * 1));
     /// ```
     layer_kind = vn_layer_kind(total: u16, number: u16; u16);
 }
@@ -216,20 +219,24 @@ filling_from_layout! {
     /// The layer number of each key of the octave, or of two at sharpness 0 (1, 2, 3, 4, 18, 10).
     layout_layers = vn_layout_layers(; u16);
     /// The lamp code of each key of the octave, or of two at sharpness 0, where the colours may
-    /// alternate from octave to octave (1, 2, 3, 4, 18, 9, 10). Key 0 is home, and so is the key
-    /// an octave up where there are two octaves, whatever its layer.
+    /// alternate from octave to octave (1, 2, 3, 4, 18, 10). Key 0 is home and has 0, and so has
+    /// the key an octave up where there are two octaves, whatever its layer; else natural 1,
+    /// sharp k 2 + 2 × k, flat k 3 + 2 × k, enharmonic 65,535.
     ///
     /// ```
+    /// const E: u16 = 65_535; // enharmonic
+    ///
     /// let equalized = vetchnoon::Layout::new(1, 7, 11);
     /// let mut codes = [0; 2 * 7];
     /// assert_eq!(vetchnoon::lamp_strip(equalized, &mut codes), Ok(14));
-    /// assert_eq!(codes, [0, 1, 255, 255, 255, 255, 1, 0, 1, 255, 255, 255, 255, 1]);
+    /// assert_eq!(codes, [0, 1, E, E, E, E, 1, 0, 1, E, E, E, E, 1]);
     ///
-    /// let twelve = vetchnoon::Layout::new(1, 12, 19);
-    /// let mut codes = [0; 2 * 12];
-    /// assert_eq!(vetchnoon::lamp_strip(twelve, &mut codes), Ok(12));
+    /// let many_cycles = vetchnoon::Layout::new(1, 2400, 3800);
+    /// let mut codes = [0; 2 * 2400];
+    /// assert_eq!(vetchnoon::lamp_strip(many_cycles, &mut codes), Ok(2400));
+    /// assert_eq!(codes[199..203], [2 + 2 * 198, E, 3 + 2 * 198, 3 + 2 * 197]);
     /// ```
-    lamp_strip = vn_lamp_strip(; u8);
+    lamp_strip = vn_lamp_strip(; u16);
     /// The book of all names of the octave (1, 2, 3, 4, 18, 10).
     book = vn_book(; u8);
 }
@@ -253,21 +260,21 @@ number_from_layout! {
     /// assert_eq!(vetchnoon::layer(equalized, -16), Ok(0));
     /// ```
     layer = vn_layer(key: i32) -> u16;
-    /// The lamp code of one key, of any octave (1, 2, 3, 4, 18, 9): what [`lamp_strip`] writes
+    /// The lamp code of one key, of any octave (1, 2, 3, 4, 18): what [`lamp_strip`] writes
     /// repeats after all of its codes, two octaves of them at sharpness 0. Every key whole
     /// octaves from key 0 is home, and no other key is.
     ///
     /// ```
     /// let twelve = vetchnoon::Layout::new(1, 12, 19);
     /// assert_eq!(vetchnoon::lamp(twelve, -12), Ok(0)); // home
-    /// assert_eq!(vetchnoon::lamp(twelve, -1), Ok(255));
+    /// assert_eq!(vetchnoon::lamp(twelve, -1), Ok(65_535)); // enharmonic
     ///
     /// let equalized = vetchnoon::Layout::new(3, 8, 13);
     /// assert_eq!(vetchnoon::lamp(equalized, -8), Ok(0)); // home, whatever its layer
-    /// assert_eq!(vetchnoon::lamp(equalized, 5), Ok(255));
+    /// assert_eq!(vetchnoon::lamp(equalized, 5), Ok(65_535));
     /// assert_eq!(vetchnoon::lamp(equalized, 5 - 8), Ok(1)); // an octave away, by its layer
     /// ```
-    lamp = vn_lamp(key: i32) -> u8;
+    lamp = vn_lamp(key: i32) -> u16;
     /// How many bytes the book of a layout has (1, 2, 3, 4, 18).
     book_len = vn_book_len() -> usize;
 }
@@ -296,6 +303,35 @@ pub fn start(chain: u16) -> Result<u16, Refused> {
     value(unsafe { c::vn_start(chain) })
 }
 
+/// The codes of 16 bits for a stored strip of one-byte codes, as many of them (17, 10): 0, 1 and
+/// sharp, flat and enharmonic codes become what [`lamp_strip`] writes for the same lamps. Refused
+/// with 17 where a code is from 202 to 254.
+///
+/// ```
+/// use vetchnoon::{Refused, narrow_strip, widen_strip};
+///
+/// let stored = [0, 2, 101, 255, 201, 102, 1]; // home, sharp 0 and 99, enharmonic, flat 99 and 0
+/// let mut codes = [0; 7];
+/// assert_eq!(widen_strip(&stored, &mut codes), Ok(7));
+/// assert_eq!(codes, [0, 2, 200, 65_535, 201, 3, 1]);
+///
+/// let mut back = [0; 7];
+/// assert_eq!(narrow_strip(&codes, &mut back), Ok(7));
+/// assert_eq!(back, stored);
+///
+/// assert_eq!(widen_strip(&[0, 202], &mut codes), Err(Refused(17)));
+/// assert_eq!(narrow_strip(&[0, 202], &mut back), Err(Refused(17)));
+/// ```
+pub fn widen_strip(strip: &[u8], out: &mut [u16]) -> Result<usize, Refused> {
+    value(unsafe { c::vn_widen_strip(strip.as_ptr(), strip.len(), out.as_mut_ptr(), out.len()) })
+}
+
+/// The stored strip that [`widen_strip`] makes these codes of (17, 10). Refused with 17 where
+/// there is none: where a code is from 202 to 65,534.
+pub fn narrow_strip(strip: &[u16], out: &mut [u8]) -> Result<usize, Refused> {
+    value(unsafe { c::vn_narrow_strip(strip.as_ptr(), strip.len(), out.as_mut_ptr(), out.len()) })
+}
+
 /// The part of a book, which may be any bytes, that holds a key's name (11, 12, 13). A book's
 /// keys begin at 0.
 ///
@@ -322,7 +358,8 @@ pub fn book_find(book: &[u8], key: i32) -> Result<&[u8], Refused> {
 }
 
 /// What the key table program prints for a line (10): of a chain, an octave and a tritave, with
-/// the chain's own start. It has one octave of keys.
+/// the chain's own start. It has one octave of keys, in at most octave × (octave / 5 + 21) bytes,
+/// the quotient whole; 3,440,640 bytes are always enough.
 pub fn key_table(line: &[u8], out: &mut [u8]) -> Result<usize, Refused> {
     value(unsafe { c::vn_key_table(line.as_ptr(), line.len(), out.as_mut_ptr(), out.len()) })
 }

@@ -13,23 +13,24 @@ use Rattle.answer.specs.declared.Refusal.the-variants.{
   Origin,
   Size,
   CoprimeSize,
-  LampLayer,
   Room,
   BookPairs,
   BookCover,
   BookKey,
   Line,
   Letter,
+  Code,
+  Start,
   Stars,
 }
 use Rattle.answer.specs.Outcome.{Outcome, given, refused, ask, andThen}
 use Rattle.answer.specs.Refusals.{numberOf}
 use Rattle.answer.specs.Lent.{heldIn, counted, written}
 
--- The questions in document 01's order.
+-- The questions in document 01's order, but for 9.
 abbrev pub inOrder : List Refusal
 inOrder =
-    Chain ∷ Period ∷ Generator ∷ Pattern ∷ Symbols ∷ Origin ∷ Size ∷ CoprimeSize ∷ LampLayer ∷ Room ∷ BookPairs ∷ BookCover ∷ BookKey ∷ Line ∷ []
+    Chain ∷ Period ∷ Generator ∷ Pattern ∷ Symbols ∷ Origin ∷ Size ∷ CoprimeSize ∷ Room ∷ BookPairs ∷ BookCover ∷ BookKey ∷ Line ∷ []
 
 -- Three questions in rising order: all with the answer yes, and the second and the third with the answer no.
 abbrev pub accepted : Outcome ℕ
@@ -44,10 +45,11 @@ further n = ask 4 true (given (n + 1))
 
 -- Theorem.
 pub record ExamplesHold : Type 0 where
-  -- "numbered": from 1 to 14, without a gap
-  pub numbers : map numberOf inOrder ≡ 1 ∷ 2 ∷ 3 ∷ 4 ∷ 5 ∷ 6 ∷ 7 ∷ 8 ∷ 9 ∷ 10 ∷ 11 ∷ 12 ∷ 13 ∷ 14 ∷ []
-  -- document 02: "16 when the letter's place is not below the number of letters", "21 when the stars are not below" the cycles
-  pub later-numbers : map numberOf (Letter ∷ Stars ∷ []) ≡ 16 ∷ 21 ∷ []
+  -- "numbered": from 1 to 14; 9 is reserved (document 02, W-207)
+  pub numbers : map numberOf inOrder ≡ 1 ∷ 2 ∷ 3 ∷ 4 ∷ 5 ∷ 6 ∷ 7 ∷ 8 ∷ 10 ∷ 11 ∷ 12 ∷ 13 ∷ 14 ∷ []
+  -- document 02: "16 when the letter's place is not below the number of letters", "17 when an old strip holds a code from 202 to 254, or ..",
+  -- "18 when the start is not below the number of letters", "21 when the stars are not below" the cycles
+  pub later-numbers : map numberOf (Letter ∷ Code ∷ Start ∷ Stars ∷ []) ≡ 16 ∷ 17 ∷ 18 ∷ 21 ∷ []
   -- "the first no gives its number and nothing else", "a yes to all gives the answer"
   pub first-no : stopped ≡ refused 2
   pub all-yes : accepted ≡ given 7

@@ -1,4 +1,4 @@
--- The number of each refusal, and what the shared answers mean (document 01, "Questions before an answer"; 16, 18 and 21 of document 02).
+-- The number of each refusal, and what the shared answers mean (document 01, "Questions before an answer"; 16, 17, 18 and 21 of document 02).
 use Prim.Native.Nat.{ℕ}
 use Rattle.answer.specs.Outcome.{Outcome, given, refused}
 use Rattle.answer.specs.declared.Refusal.{Refusal}
@@ -11,13 +11,13 @@ use Rattle.answer.specs.declared.Refusal.the-variants.{
   Origin,
   Size,
   CoprimeSize,
-  LampLayer,
   Room,
   BookPairs,
   BookCover,
   BookKey,
   Line,
   Letter,
+  Code,
   Start,
   Stars,
 }
@@ -26,7 +26,8 @@ use Rattle.answer.specs.declared.NumberAnswer.the-variants as Number
 use Rattle.answer.specs.declared.CountAnswer.{CountAnswer}
 use Rattle.answer.specs.declared.CountAnswer.the-variants as Count
 
--- The questions, by their numbers: document 01's, then those of document 02 that are asked.
+-- The questions, by their numbers: document 01's, then those of document 02 that are asked. 9 is no question's any more: it always has the
+-- answer yes (document 02, W-207).
 abbrev pub numberOf : Refusal → ℕ
 numberOf Chain = 1
 numberOf Period = 2
@@ -36,13 +37,13 @@ numberOf Symbols = 5
 numberOf Origin = 6
 numberOf Size = 7
 numberOf CoprimeSize = 8
-numberOf LampLayer = 9
 numberOf Room = 10
 numberOf BookPairs = 11
 numberOf BookCover = 12
 numberOf BookKey = 13
 numberOf Line = 14
 numberOf Letter = 16
+numberOf Code = 17
 numberOf Start = 18
 numberOf Stars = 21
 

@@ -1,7 +1,8 @@
 // What every entry point answers: a value, or the number of the first question that it says no to.
 //
-// Holds the fourteen questions of document 01 ("Questions before an answer") and three of document 02 as one enum with their numbers,
-// and the answers that several crates share.
+// Holds thirteen questions of document 01 ("Questions before an answer") and four of document 02 as one enum with their numbers,
+// and the answers that several crates share. Number 9 stays reserved: its answer is always yes since lamp codes have two bytes
+// (document 02, W-207), so no call asks it.
 // specs/: an outcome and how questions are asked (Outcome), the numbers (Refusals), what a lent slice holds
 // after an answer (Lent). Nothing is assumed.
 ghost use mathlib.Core.Path.{_≡_};
@@ -25,8 +26,6 @@ pub enum Refusal {
     Size,
     // 8: is the size after `coprime` at most 65,535?
     CoprimeSize,
-    // 9: is every sharp and flat layer number of the lamp strip below 100?
-    LampLayer,
     // 10: does the output slice hold the whole output?
     Room,
     // 11: does a book hold its count, at least 1, and that many pairs?
@@ -39,6 +38,8 @@ pub enum Refusal {
     Line,
     // 16: is the letter's place below the number of letters? (document 02)
     Letter,
+    // 17: has each lamp code of a strip a code of the other width that it is converted to? (document 02)
+    Code,
     // 18: is the start below the number of letters? (document 02)
     Start,
     // 21: are the stars below the cycles? (document 02)
@@ -59,13 +60,13 @@ impl Refusal {
             Refusal::Origin => 6,
             Refusal::Size => 7,
             Refusal::CoprimeSize => 8,
-            Refusal::LampLayer => 9,
             Refusal::Room => 10,
             Refusal::BookPairs => 11,
             Refusal::BookCover => 12,
             Refusal::BookKey => 13,
             Refusal::Line => 14,
             Refusal::Letter => 16,
+            Refusal::Code => 17,
             Refusal::Start => 18,
             Refusal::Stars => 21,
         }

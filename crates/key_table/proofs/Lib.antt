@@ -1,4 +1,3 @@
-pub mod Fits
 pub mod OneLine
 pub mod Keeping
 pub mod Going

@@ -1,9 +1,9 @@
--- "The key table program reads one line, ignores bytes after it" (document 01): which bytes are taken from standard input, what the
--- program's buffer then holds, and what is printed. Which bytes a read hands over no contract of the kit's library can say. So they are
+-- "The key table program reads one line, ignores bytes after it" (document 01): which bytes are taken from standard input, and what the
+-- program's buffer then holds. Which bytes a read hands over no contract of the kit's library can say. So they are
 -- named here as a list, which the counts and tests of `Input` hold to what each read told.
 use Prim.Native.Nat.{ℕ, _+_, _-_, _<_, min}
 use mathlib.Core.Bool.{Bool, true, false}
-use mathlib.Core.List.{List, [], _∷_, _++_}
+use mathlib.Core.List.{List, [], _∷_}
 use mathlib.Core.Path.{_≡_}
 use lib.ListN.{length, getD, take, set}
 use lib.Dec.{eqb, ltb}
@@ -50,13 +50,6 @@ pub record LineRead (buffer : List ℕ) (input : Input) : Type 0 where
   -- and all up to it, unless the input ended before, or as many bytes came as are counted
   pub to-its-end : input .«at_end» ≡ false → input .taken < 18446744073709551615 → input .last ≡ lineFeed
   pub begins : Begins buffer line
-
--- ---- printing
-
--- What `write_output` asks for: a text that is the output for the whole line, however long.
-pub record Printed (text buffer : List ℕ) (input : Input) : Type 0 where
-  pub read : LineRead buffer input
-  pub is-output : text ≡ output (read .line)
 
 -- Theorem: 18 bytes of a line say what is printed for it, and the first line of any bytes what is printed for them.
 pub record LineIsEnough : Type 0 where

@@ -1,9 +1,9 @@
 -- By computing both sides.
 use mathlib.Core.Path.{refl}
-use Rattle.layout_lamps.specs.Lamps.{lampCode, kindAt}
+use Rattle.layout_lamps.specs.Lamps.{lampCode, kindAt, byteCode, byteStripIn, hadLampsIn}
 use Rattle.layout_lamps.specs.Answers.{getStrip, getLamp}
 use Rattle.layout_lamps.specs.Examples.{ExamplesHold}
 
 pub examples-hold : ExamplesHold
-unfolding getStrip getLamp lampCode kindAt
-examples-hold = record { codes = refl; strips = refl; lamps = refl; earlier = refl }
+unfolding getStrip getLamp lampCode kindAt byteCode byteStripIn hadLampsIn
+examples-hold = record { codes = refl; bytes = refl; last = refl; strips = refl; lamps = refl; long = refl; old = refl; had = refl; earlier = refl }

@@ -1,13 +1,15 @@
--- Codes and strips: T at most 202 leaves sharp and flat layers below 100, T above 202 has a key in sharp layer 100, and a plan's codes with home are the strip.
+-- Codes and strips: a plan's layers, turned into codes, with home, are the strip; and where there was a strip of one-byte codes: T at most
+-- 202 leaves sharp and flat layers below 100, T above 202 has a key in sharp layer 100.
 use Prim.Native.Nat.{ℕ, zero, suc, _+_, _*_, _-_, _/_, _%_, _≤_, _<_}
 use mathlib.Core.Path.{_≡_, refl, sym, ap, ap₂, subst, _∙_}
 use mathlib.Core.Bool.{Bool, true, false, _&&_, and-false}
+use mathlib.Core.Logic.{_⊎_, inl, inr}
 use mathlib.Core.List.{List, [], _∷_, _++_}
-use native.Mathlib.Nat.{mod-lt, mod-eq-of-lt, mod-eq-sub-mod, mod-self, zero-mod, div-eq-of-lt, mul-pos, suc-mul, mul-le-mul-right}
+use native.Mathlib.Nat.{mod-lt, mod-eq-of-lt, mod-eq-sub-mod, mod-self, zero-mod, div-eq-of-lt, div-one, mul-pos, mul-one}
 use native.Mathlib.Decide.{decLt}
 use native.Mathlib.Omega.{arith}
-use lib.ListN.{length, getD, set, drop, length-set}
-use lib.Seq.{set-append-left, set-out, getD-set-same, getD-set-other, ext-getD}
+use lib.ListN.{length, getD, set, drop, length-set, length-append, length-drop, List·getD-append}
+use lib.Seq.{set-append-left, set-out, getD-set-same, getD-set-other, ext-getD, drop-append-seam}
 use lib.Dec.{eqb, ltb, leb}
 use borrow.Author.Tests.{eq-eqb, ne-eqb, eqb-true, eqb-false, lt-ltb, ltb-true, ltb-false, leb-true, leb-false}
 use Rattle.answer.specs.Choice.{pick}
@@ -21,13 +23,28 @@ use Rattle.layout_layers.specs.declared.Layer.{Layer}
 use Rattle.layout_layers.specs.declared.Layer.the-variants.{Natural, Sharp, Enharmonic, Flat}
 use Rattle.layout_layers.specs.declared.parts.Plan.{Plan}
 use Rattle.layout_layers.specs.KeyLayers.{equalized, layerCount, kindOf, numberIn, countIn}
-use Rattle.layout_layers.specs.Parts.{keysOf, Spread, InTurns, listedNumber, totalOf, Sound, PlanOf, turnLayer, planNumber, turnsOf, listed, Fronted}
-use Rattle.layout_layers.proofs.SpreadLaws.{length-listed, listed-at, spread-as, spread-front}
+use Rattle.layout_layers.specs.Parts.{keysOf, Spread, InTurns, totalOf, Sound, PlanOf, planNumber, turnsOf, listed, Fronted, planLayers}
+use Rattle.layout_layers.proofs.SpreadLaws.{length-listed, listed-at, spread-none, spread-one, spread-then, spread-of, spread-as, spread-front}
 use Rattle.layout_layers.proofs.ChainLaws.{some-places}
-use Rattle.layout_layers.proofs.PlanLaws.{number-is, number-listed, keys-are, turns-fill, kind-natural, kind-sharp, kind-enharmonic, kind-flat, turn-below}
+use Rattle.layout_layers.proofs.PlanLaws.{number-is, keys-are, turns-fill, kind-natural, kind-sharp, kind-enharmonic, kind-flat, turn-below}
 use Rattle.layout_layers.proofs.Theorems.{counts-fit, each-number-is-met, first-keys}
-use Rattle.layout_lamps.specs.Lamps.{lampCode, kindAt, lampOf, codesOf, stripOf, lampable, every, hasLamps, lampIn, stripLengthIn, stripIn, hasLampsIn, octaveStripIn, kindIn}
-use Rattle.layout_lamps.specs.Parts.{codeOf, Degrees, planCodes, homed, planStrip}
+use Rattle.layout_lamps.specs.Lamps.{lampCode, kindAt, lampOf, codesOf, stripOf, lampable, every, lampIn, stripLengthIn, stripIn, hadLampsIn, kindIn}
+use Rattle.layout_lamps.specs.Parts.{codeOf, InFront, Numbers, codeAt, planCodes, homed, planStrip, planLamp}
+
+pub equal-or-not : (i j : ℕ) → Dec (i ≡ j)
+equal-or-not i j = by (eqb i j) refl
+  where
+    by : (b : Bool) → eqb i j ≡ b → Dec (i ≡ j)
+    by true e = yes (eqb-true i j e)
+    by false e = no (eqb-false i j e)
+
+-- the scale degrees of an octave, or of two
+pub some-turns : (p : Plan) → Sound p → 0 < turnsOf p
+some-turns p sound = by (p .equalized)
+  where
+    by : (b : Bool) → 0 < pick b (2 * p .chain .«reduced_period») (p .chain .«reduced_period»)
+    by true = omega (arith, some-places (p .chain) (sound .unbroken))
+    by false = some-places (p .chain) (sound .unbroken)
 
 -- ---- codes
 
@@ -46,55 +63,23 @@ few-layers T j h = by (eqb j 0) (ltb (2 * j) T) (eqb (2 * j) T) refl refl
 
 -- the codes, by what the code tests
 module _ (T j : ℕ) (in-range : j < T) where
-  pub code-low : 2 * j < T → j + 1 ≡ codeOf T j
+  pub code-first : j ≡ 0 → 1 ≡ codeOf T j
   unfolding codeOf lampCode
-  code-low h = by (eqb j 0) refl
-    where
-      by : (b : Bool) → eqb j 0 ≡ b → j + 1 ≡ lampCode (kindOf T j)
-      by true t =
-          let none : j ≡ 0 = eqb-true j 0 t in
-          (let q : j + 1 ≡ 1 = omega (arith, none) in q) ∙ ap lampCode (kind-natural T j none)
-      by false t =
-          let some = eqb-false j 0 t in
-          (let q : j + 1 ≡ 2 + (j - 1) = omega (arith, some) in q) ∙ ap lampCode (kind-sharp T j some h)
+  code-first e = ap lampCode (kind-natural T j e)
 
-  pub code-half : 2 * j ≡ T → 255 ≡ codeOf T j
-  unfolding codeOf lampCode
-  code-half e = ap lampCode (kind-enharmonic T j (λ none. omega (arith, none)) e)
+  module _ (some : j ≡ 0 → ⊥) where
+    pub code-low : j < T - j → 2 * j ≡ codeOf T j
+    unfolding codeOf lampCode
+    code-low h = (let q : 2 * j ≡ 2 + 2 * (j - 1) = omega (arith, some) in q) ∙ ap lampCode (kind-sharp T j some (omega arith))
 
-  pub code-high : T < 2 * j → 101 + (T - j) ≡ codeOf T j
-  unfolding codeOf lampCode
-  code-high h =
-      (let q : 101 + (T - j) ≡ 102 + (T - j - 1) = omega arith in q) ∙ ap lampCode (kind-flat T j (λ none. omega (arith, none)) h refl)
+    pub code-half : j ≡ T - j → 65535 ≡ codeOf T j
+    unfolding codeOf lampCode
+    code-half e = ap lampCode (kind-enharmonic T j some (omega (arith, e)))
 
-pub length-plan-codes : (p : Plan) (T turns : ℕ) → length (planCodes p T turns) ≡ turns * p .chain .«num_cycles»
-length-plan-codes p T turns = length-listed (λ i. codeOf T (planNumber p i)) (turns * p .chain .«num_cycles»)
-
-pub length-strip : (p : Plan) (T turns : ℕ) → turns * p .chain .«num_cycles» ≡ length (planStrip p T turns)
-length-strip p T turns =
-    sym (length-set (set (planCodes p T turns) 0 0) (keysOf (p .chain)) 0 ∙ length-set (planCodes p T turns) 0 0 ∙ length-plan-codes p T turns)
-
--- a strip in front, its degrees said otherwise
-pub as-degrees : (p : Plan) (T : ℕ) (xs : List ℕ) {turns k : ℕ} {ys : List ℕ} → turns ≡ k → Fronted (planStrip p T turns) xs ys
-    → Fronted (planStrip p T k) xs ys
-as-degrees p T xs {ys = ys} e f = subst (λ (t : ℕ). Fronted (planStrip p T t) xs ys) e f
-
--- both octaves of an equalized scale, or the one of any other
-pub whole-degrees : (p : Plan) (turns : ℕ) → Sound p → turns ≡ turnsOf p → turns ≤ 131070 → Degrees p turns
-whole-degrees p turns sound is few = by (p .equalized) refl is
-  where
-    by : (b : Bool) → p .equalized ≡ b → turns ≡ pick b (2 * p .chain .«reduced_period») (p .chain .«reduced_period») → Degrees p turns
-    by true t e =
-        record {
-          some = omega (arith, some-places (p .chain) (sound .unbroken));
-          few = few;
-          octave = λ f. absurd (let z : ⊥ = omega (arith, ap {B = ℕ} (λ (b : Bool). pick b 1 0) (sym f ∙ t)) in z);
-        }
-    by false t e = record { some = omega (arith, some-places (p .chain) (sound .unbroken)); few = few; octave = λ f. e }
-
--- the octave alone
-pub octave-degrees : (p : Plan) (turns : ℕ) → Sound p → turns ≡ p .chain .«reduced_period» → turns ≤ 131070 → Degrees p turns
-octave-degrees p turns sound is few = record { some = omega (arith, some-places (p .chain) (sound .unbroken)); few = few; octave = λ f. is }
+    pub code-high : T - j < j → 2 * (T - j) + 1 ≡ codeOf T j
+    unfolding codeOf lampCode
+    code-high h =
+        (let q : 2 * (T - j) + 1 ≡ 3 + 2 * (T - j - 1) = omega arith in q) ∙ ap lampCode (kind-flat T j some (omega arith) refl)
 
 -- a key's number is below T
 pub number-below : (p : Plan) → Sound p → (i j T : ℕ) → j ≡ planNumber p i → T ≡ totalOf p → j < T
@@ -102,61 +87,139 @@ number-below p sound i j T e is =
     let n = p .chain .«num_cycles» in
     omega (arith, turn-below p sound (i / n), mod-lt i (sound .unbroken .some-cycles))
 
-pub turn-most : (p : Plan) → Sound p → (T turn layer : ℕ) → T ≡ totalOf p → layer ≡ turnLayer p turn
-    → layer * p .chain .«num_cycles» + p .chain .«num_cycles» ≤ T
-turn-most p sound T turn layer is e = omega (arith, ap (λ (k : ℕ). k * p .chain .«num_cycles») e, turn-below p sound turn)
+-- one key of the octave
+module _ (p : Plan) (T key : ℕ) where
+  pub plan-home : key ≡ 0 → 0 ≡ planLamp p T key
+  unfolding planLamp
+  plan-home e = simp (eq-eqb key 0 e)
 
--- ---- home, stored over the code of key 0
+  pub plan-other : (key ≡ 0 → ⊥) → (j c : ℕ) → j ≡ planNumber p key → c ≡ codeOf T j → c ≡ planLamp p T key
+  unfolding planLamp
+  plan-other h j c e q = simp (ne-eqb key 0 h) (q ∙ ap (codeOf T) e)
 
-module _ (p : Plan) (T turns : ℕ) (sound : Sound p) (d : Degrees p turns) (xs : List ℕ) (room : turns * p .chain .«num_cycles» ≤ length xs) where
-  pub some-codes : 0 < turns * p .chain .«num_cycles»
-  some-codes = mul-pos (d .some) (sound .unbroken .some-cycles)
+-- ---- layers turned into codes, where they stand
 
-  -- key 0's home, and the text behind the codes
-  fronted : {ys : List ℕ} → Spread (InTurns (p .chain .«num_cycles») turns) (λ i. codeOf T (planNumber p i)) xs ys
-      → set ys 0 0 ≡ set (planCodes p T turns) 0 0 ++ drop (length (planCodes p T turns)) xs
-  fronted s =
-      let text = planCodes p T turns in
-      ap (λ (l : List ℕ). set l 0 0)
-      (spread-front (p .chain .«num_cycles») turns (λ i. codeOf T (planNumber p i)) (sound .unbroken .some-cycles) room s)
-      ∙ set-append-left text (drop (length text) xs) 0 0 (omega (arith, length-plan-codes p T turns, some-codes))
+abbrev pub entriesOf : Plan → ℕ
+entriesOf p = turnsOf p * p .chain .«num_cycles»
 
-  codes-length : length (set (planCodes p T turns) 0 0) ≡ turns * p .chain .«num_cycles»
-  codes-length = length-set (planCodes p T turns) 0 0 ∙ length-plan-codes p T turns
+pub length-codes : (p : Plan) (T : ℕ) → length (planCodes p T) ≡ entriesOf p
+length-codes p T = length-listed (λ i. codeOf T (planNumber p i)) (entriesOf p)
+
+pub length-strip : (p : Plan) (T : ℕ) → length (planLayers p) ≡ length (planStrip p T)
+length-strip p T =
+    length-listed (planNumber p) (entriesOf p)
+    ∙ sym (length-set (set (planCodes p T) 0 0) (keysOf (p .chain)) 0 ∙ length-set (planCodes p T) 0 0 ∙ length-codes p T)
+
+-- one more
+pub colour-none : (T : ℕ) (xs : List ℕ) → Spread (InFront 0) (codeAt T xs) xs xs
+colour-none T xs = spread-none xs (λ i h. let z : ⊥ = omega (arith, h) in z)
+
+-- a place that was not reached holds what it held
+pub not-reached : (T k : ℕ) {xs ys : List ℕ} → Spread (InFront k) (codeAt T xs) xs ys → getD ys k 0 ≡ getD xs k 0
+not-reached T k s = s .same k (λ h. let z : ⊥ = omega (arith, h) in z)
+
+pub colour-more : (T k c : ℕ) {xs ys : List ℕ} → k < length xs → Spread (InFront k) (codeAt T xs) xs ys → c ≡ codeOf T (getD ys k 0)
+    → Spread (InFront (k + 1)) (codeAt T xs) xs (set ys k c)
+colour-more T k c {xs} {ys} h s e =
+    spread-then
+    (λ i t. by i t (equal-or-not i k))
+    (λ i t. omega (arith, t))
+    (λ i t. omega (arith, t))
+    s
+    (spread-one (codeAt T xs) ys k c (omega (arith, h, s .kept)) (e ∙ ap (codeOf T) (not-reached T k s)))
+  where
+    by : (i : ℕ) → i < k + 1 → Dec (i ≡ k) → (i ≡ k) ⊎ ((i ≡ k → ⊥) × (i < k))
+    by i t (yes q) = inl q
+    by i t (no q) = inr (q, omega (arith, t, q))
+
+-- a text in front leaves a slice as long as it was
+pub front-kept : (text xs ys : List ℕ) → length text ≤ length xs → Fronted text xs ys → length ys ≡ length xs
+front-kept text xs ys room f =
+    ap length f
+    ∙ length-append text (drop (length text) xs)
+    ∙ ap (λ (k : ℕ). length text + k) (length-drop (length text) xs)
+    ∙ omega (arith, room)
+
+module _ (p : Plan) (T : ℕ) (xs ys : List ℕ) (layers : Fronted (planLayers p) xs ys) where
+  abbrev count : ℕ
+  count = entriesOf p
+
+  long : length (planLayers p) ≡ count
+  long = length-listed (planNumber p) count
+
+  pub layer-there : (i : ℕ) → i < count → getD ys i 0 ≡ planNumber p i
+  layer-there i h =
+      ap (λ (zs : List ℕ). getD zs i 0) layers
+      ∙ List·getD-append (planLayers p) (drop (length (planLayers p)) xs) 0 i (omega (arith, h, long))
+      ∙ listed-at (planNumber p) count i h
+
+  pub numbers-there : Sound p → T ≡ totalOf p → (n : ℕ) → n ≡ length (planLayers p) → length (planLayers p) ≤ length xs → Numbers n T ys
+  numbers-there sound is n e room = record {
+    held = omega (arith, e, front-kept (planLayers p) xs ys room layers, room);
+    below = λ i h. number-below p sound i (getD ys i 0) T (layer-there i (omega (arith, h, e, long))) is;
+  }
+
+  -- all of them
+  pub codes-there : {zs : List ℕ} (n : ℕ) → n ≡ length (planLayers p) → length (planLayers p) ≤ length xs
+      → Spread (InFront n) (codeAt T ys) ys zs → Fronted (planCodes p T) xs zs
+  codes-there {zs} n e room s =
+      let f : ℕ → ℕ = λ i. codeOf T (planNumber p i) in
+      let as-turns : Spread (InTurns 1 count) f ys zs
+      = spread-of (λ i t. subst (λ (k : ℕ). k < count) (sym (div-one i)) t) (λ i t. subst (λ (k : ℕ). k < count) (div-one i) t)
+      (spread-as (λ i t. ap (codeOf T) (layer-there i t)) (subst (λ (k : ℕ). Spread (InFront k) (codeAt T ys) ys zs) (e ∙ long) s)) in
+      let front : Fronted (listed f (count * 1)) ys zs
+      = spread-front 1 count f (omega arith) (omega (arith, front-kept (planLayers p) xs ys room layers, room, long, mul-one count)) as-turns in
+      subst (λ (k : ℕ). Fronted (listed f k) ys zs) (mul-one count) front
+      ∙ ap (λ (l : List ℕ). planCodes p T ++ l) behind
+    where
+      behind : drop (length (planCodes p T)) ys ≡ drop (length (planCodes p T)) xs
+      behind =
+          ap (λ (k : ℕ). drop k ys) (length-codes p T ∙ sym long)
+          ∙ ap (drop (length (planLayers p))) layers
+          ∙ drop-append-seam (planLayers p) (drop (length (planLayers p)) xs)
+          ∙ ap (λ (k : ℕ). drop k xs) (long ∙ sym (length-codes p T))
+
+-- ---- home, stored over the codes of key 0 and of the octave
+
+pub some-entries : (p : Plan) → Sound p → 0 < entriesOf p
+some-entries p sound = mul-pos (some-turns p sound) (sound .unbroken .some-cycles)
+
+module _ (p : Plan) (T : ℕ) (sound : Sound p) (xs ys : List ℕ) (codes : Fronted (planCodes p T) xs ys) where
+  -- by the number of entries that the code has
+  module _ (room : length (planLayers p) ≤ length xs) where
+    codes-kept : length ys ≡ length xs
+    codes-kept = front-kept (planCodes p T) xs ys (omega (arith, room, length-codes p T, length-listed (planNumber p) (entriesOf p))) codes
+
+    pub first-inside : 0 < length ys
+    first-inside = omega (arith, codes-kept, room, some-entries p sound, length-listed (planNumber p) (entriesOf p))
+
+    pub octave-inside : (n : ℕ) → n ≡ length (planLayers p) → keysOf (p .chain) < n → keysOf (p .chain) < length (set ys 0 0)
+    octave-inside n e h = omega (arith, codes-kept, room, e, h, length-set ys 0 0)
+
+  fronted : set ys 0 0 ≡ set (planCodes p T) 0 0 ++ drop (length (planCodes p T)) xs
+  fronted =
+      let text = planCodes p T in
+      ap (λ (l : List ℕ). set l 0 0) codes ∙ set-append-left text (drop (length text) xs) 0 0 (omega (arith, length-codes p T, some-entries p sound))
+
+  homed-length : length (set (planCodes p T) 0 0) ≡ entriesOf p
+  homed-length = length-set (planCodes p T) 0 0 ∙ length-codes p T
 
   -- one octave: there is no entry at the octave
-  pub home-over : turns ≤ p .chain .«reduced_period» → {ys : List ℕ}
-      → Spread (InTurns (p .chain .«num_cycles») turns) (λ i. codeOf T (planNumber p i)) xs ys → Fronted (planStrip p T turns) xs (set ys 0 0)
-  home-over h s =
-      let codes = set (planCodes p T turns) 0 0 in
-      let out : set codes (keysOf (p .chain)) 0 ≡ codes
-      = set-out codes (keysOf (p .chain)) 0 (omega (arith, codes-length, mul-le-mul-right (p .chain .«num_cycles») h)) in
-      fronted s
-      ∙ ap₂ (λ (l : List ℕ) (k : ℕ). l ++ drop k xs) (sym out) (sym (ap length out ∙ length-set (planCodes p T turns) 0 0))
+  pub home-over : (n : ℕ) → n ≡ length (planLayers p) → n ≤ keysOf (p .chain) → Fronted (planStrip p T) xs (set ys 0 0)
+  home-over n e h =
+      let text = set (planCodes p T) 0 0 in
+      let out : set text (keysOf (p .chain)) 0 ≡ text = set-out text (keysOf (p .chain)) 0 (omega (arith, homed-length, h, e, length-listed (planNumber p) (entriesOf p))) in
+      fronted ∙ ap₂ (λ (l : List ℕ) (k : ℕ). l ++ drop k xs) (sym out) (sym (ap length out ∙ length-set (planCodes p T) 0 0))
 
   -- two octaves: home at the octave too
-  pub octave-inside : p .chain .«reduced_period» < turns → keysOf (p .chain) < turns * p .chain .«num_cycles»
-  octave-inside h =
-      omega (arith, mul-le-mul-right (p .chain .«num_cycles») h, suc-mul (p .chain .«reduced_period») (p .chain .«num_cycles»), sound .unbroken .some-cycles)
-
-  pub homes-over : p .chain .«reduced_period» < turns → {ys : List ℕ}
-      → Spread (InTurns (p .chain .«num_cycles») turns) (λ i. codeOf T (planNumber p i)) xs ys
-      → Fronted (planStrip p T turns) xs (set (set ys 0 0) (keysOf (p .chain)) 0)
-  homes-over h s =
-      let codes = set (planCodes p T turns) 0 0 in
-      let behind = drop (length (planCodes p T turns)) xs in
-      ap (λ (l : List ℕ). set l (keysOf (p .chain)) 0) (fronted s)
-      ∙ set-append-left codes behind (keysOf (p .chain)) 0 (omega (arith, codes-length, octave-inside h))
-      ∙ ap (λ (k : ℕ). set codes (keysOf (p .chain)) 0 ++ drop k xs)
-      (sym (length-set codes (keysOf (p .chain)) 0 ∙ length-set (planCodes p T turns) 0 0))
-
--- the codes of the layers, of a scale that is not equalized
-pub codes-listed : (p : Plan) (T turns : ℕ) {xs ys : List ℕ} → Degrees p turns → p .equalized ≡ false
-    → Spread (InTurns (p .chain .«num_cycles») (p .chain .«reduced_period»)) (λ i. codeOf T (listedNumber (p .runs) (p .chain) i)) xs ys
-    → Spread (InTurns (p .chain .«num_cycles») turns) (λ i. codeOf T (planNumber p i)) xs ys
-codes-listed p T turns {xs} {ys} d other s =
-    subst (λ (k : ℕ). Spread (InTurns (p .chain .«num_cycles») k) (λ i. codeOf T (planNumber p i)) xs ys) (sym (d .octave other))
-    (spread-as (λ i t. ap (codeOf T) (number-listed p other i)) s)
+  pub homes-over : (n : ℕ) → n ≡ length (planLayers p) → keysOf (p .chain) < n → Fronted (planStrip p T) xs (set (set ys 0 0) (keysOf (p .chain)) 0)
+  homes-over n e h =
+      let text = set (planCodes p T) 0 0 in
+      let behind = drop (length (planCodes p T)) xs in
+      ap (λ (l : List ℕ). set l (keysOf (p .chain)) 0) fronted
+      ∙ set-append-left text behind (keysOf (p .chain)) 0 (omega (arith, homed-length, h, e, length-listed (planNumber p) (entriesOf p)))
+      ∙ ap (λ (k : ℕ). set text (keysOf (p .chain)) 0 ++ drop k xs)
+      (sym (length-set text (keysOf (p .chain)) 0 ∙ length-set (planCodes p T) 0 0))
 
 -- ---- question 9
 
@@ -183,15 +246,15 @@ module _ (r : IsomorphicLayout) (l : Layout) (ok : Accepted r l) where
   unfolding kindAt
   kind-in i = refl
 
-  all-lamps : T ≤ 202 → hasLampsIn l ≡ true
-  unfolding hasLamps
+  all-lamps : T ≤ 202 → hadLampsIn l ≡ true
+  unfolding hadLampsIn
   all-lamps h =
       every-true (λ i. lampable (kindIn l i)) (stripLengthIn l) (λ i. ap lampable (kind-in i) ∙ few-layers T (numberIn l i) h)
 
   -- a key of layer 101, which is sharp layer 100
-  met : 202 < T → (key : ℕ) × (key < P) × (numberIn l key ≡ 101)
+  pub met-at : 202 < T → (key : ℕ) × (key < P) × (numberIn l key ≡ 101)
   unfolding layerCount cycle
-  met h = by (equalized (l .pattern)) refl
+  met-at h = by (equalized (l .pattern)) refl
     where
       by : (b : Bool) → equalized (l .pattern) ≡ b → (key : ℕ) × (key < P) × (numberIn l key ≡ 101)
       by false t = each-number-is-met r l ok t 101 (omega arith)
@@ -204,38 +267,31 @@ module _ (r : IsomorphicLayout) (l : Layout) (ok : Accepted r l) where
           )
 
   -- the strip has at least the octave's keys
-  in-the-strip : (i : ℕ) → i < P → i < stripLengthIn l
-  in-the-strip i h = by (equalized (l .pattern))
+  pub in-the-strip-at : (i : ℕ) → i < P → i < stripLengthIn l
+  in-the-strip-at i h = by (equalized (l .pattern))
     where
       by : (b : Bool) → i < pick b (2 * P) P
       by true = omega arith
       by false = h
 
-  some-lamp-missing : 202 < T → hasLampsIn l ≡ false
-  unfolding hasLamps
+  some-lamp-missing : 202 < T → hadLampsIn l ≡ false
+  unfolding hadLampsIn
   some-lamp-missing h =
-      let key = met h in
-      every-false (λ i. lampable (kindIn l i)) (stripLengthIn l) (key .0) (in-the-strip (key .0) (key .1))
+      let key = met-at h in
+      every-false (λ i. lampable (kindIn l i)) (stripLengthIn l) (key .0) (in-the-strip-at (key .0) (key .1))
       (ap lampable
       (kind-in (key .0)
       ∙ ap (kindOf T) (key .2)
       ∙ sym (kind-sharp T 101 (λ e. omega arith) (omega arith))))
 
-  pub lamps-by-count-at : hasLampsIn l ≡ leb (countIn l) 202
+  pub lamps-by-count-at : hadLampsIn l ≡ leb (countIn l) 202
   lamps-by-count-at = by (leb (countIn l) 202) refl
     where
-      by : (b : Bool) → leb (countIn l) 202 ≡ b → hasLampsIn l ≡ b
+      by : (b : Bool) → leb (countIn l) 202 ≡ b → hadLampsIn l ≡ b
       by true t = all-lamps (leb-true (countIn l) 202 t)
       by false t = some-lamp-missing (leb-false (countIn l) 202 t)
 
 -- ---- the strip
-
-pub equal-or-not : (i j : ℕ) → Dec (i ≡ j)
-equal-or-not i j = by (eqb i j) refl
-  where
-    by : (b : Bool) → eqb i j ≡ b → Dec (i ≡ j)
-    by true e = yes (eqb-true i j e)
-    by false e = no (eqb-false i j e)
 
 -- a number below 2 × P that is neither 0 nor P is no multiple of P
 pub between : (P i : ℕ) → i < 2 * P → (i ≡ P → ⊥) → (i ≡ 0 → ⊥) → i % P ≡ 0 → ⊥
@@ -292,16 +348,6 @@ module _ (l : Layout) (p : Plan) (k : PlanOf l p) (some : 0 < l .octave) (T : �
   unfolding codeOf kindAt
   code-at i = ap₂ (λ (t j : ℕ). lampCode (kindOf t j)) is (number-is l p k i)
 
-  codes-are : (turns count : ℕ) → turns * p .chain .«num_cycles» ≡ count → count ≤ 2 * l .octave
-      → planStrip p T turns ≡ codesOf (l .octave) (l .generator) (l .letters) (l .start) (l .pattern) count
-  unfolding codesOf lampOf
-  codes-are turns count many few =
-      let f : ℕ → ℕ = λ i. lampCode (kindIn l i) in
-      ap₂ (λ (keys : ℕ) (xs : List ℕ). homed keys xs) (keys-are l p k some)
-      (joined-same (λ i. codeOf T (planNumber p i) ∷ []) (λ i. f i ∷ []) (turns * p .chain .«num_cycles») (λ i h. ap (λ (x : ℕ). x ∷ []) (code-at i))
-      ∙ ap (joined (λ i. f i ∷ [])) many)
-      ∙ homes f (l .octave) count some few
-
   strip-few : stripLengthIn l ≤ 2 * l .octave
   strip-few = by (equalized (l .pattern))
     where
@@ -309,13 +355,20 @@ module _ (l : Layout) (p : Plan) (k : PlanOf l p) (some : 0 < l .octave) (T : �
       by true = omega arith
       by false = omega arith
 
-  pub strip-is : planStrip p T (turnsOf p) ≡ stripIn l
-  unfolding stripOf
-  strip-is = codes-are (turnsOf p) (stripLengthIn l) (turns-fill l p k some) strip-few
+  pub strip-is : planStrip p T ≡ stripIn l
+  unfolding stripOf codesOf lampOf
+  strip-is =
+      let f : ℕ → ℕ = λ i. lampCode (kindIn l i) in
+      ap₂ (λ (keys : ℕ) (xs : List ℕ). homed keys xs) (keys-are l p k some)
+      (joined-same (λ i. codeOf T (planNumber p i) ∷ []) (λ i. f i ∷ []) (entriesOf p) (λ i h. ap (λ (x : ℕ). x ∷ []) (code-at i))
+      ∙ ap (joined (λ i. f i ∷ [])) (turns-fill l p k some))
+      ∙ homes f (l .octave) (stripLengthIn l) some strip-few
 
-  pub octave-strip-is : (turns : ℕ) → turns ≡ p .chain .«reduced_period» → planStrip p T turns ≡ octaveStripIn l
-  octave-strip-is turns is =
-      codes-are turns (l .octave) (ap (λ (x : ℕ). x * p .chain .«num_cycles») is ∙ keys-are l p k some) (omega arith)
+  -- below the octave, only key 0 is home
+  pub octave-lamp-is : (key : ℕ) → key < l .octave → planLamp p T key ≡ lampIn l key
+  unfolding planLamp lampOf
+  octave-lamp-is key h =
+      ap₂ (λ (i c : ℕ). pick (eqb i 0) 0 c) (sym (mod-eq-of-lt h)) (code-at key)
 
   pub lamp-is : (i : ℕ) → (i % l .octave ≡ 0 → ⊥) → codeOf T (planNumber p i) ≡ lampIn l i
   unfolding lampOf

@@ -1,20 +1,20 @@
 -- The laws of StripLaws, as the statements of specs/Theorems.
-use Prim.Native.Nat.{ℕ, zero, suc, _+_, _*_, _-_, _%_, _≤_, _<_}
+use Prim.Native.Nat.{ℕ, _+_, _*_, _-_, _%_, _≤_, _<_}
 use mathlib.Core.Path.{_≡_, refl, sym, ap, subst, _∙_}
 use mathlib.Core.Bool.{Bool, true, false}
 use mathlib.Core.List.{List, [], _∷_, _++_}
-use native.Mathlib.Nat.{one-mul, mul-le-mul, mul-add, mul-assoc, mod-self, mod-eq-of-lt, zero-mod}
+use native.Mathlib.Nat.{one-mul, mul-add, mul-assoc, mod-self, mod-eq-of-lt, zero-mod}
 use lib.IntN.{ℤ, pos, _+ℤ_, _*ℤ_}
 use mathlib.Core.Logic.{_↔_}
 use native.Mathlib.Omega.{arith}
 use lib.Dec.{eqb, ltb}
 use lib.ListN.{take}
 use lib.Seq.{take-append-seam}
-use borrow.Author.Tests.{eq-eqb, ne-eqb, eqb-true, eqb-false, leb-true, ltb-true}
+use borrow.Author.Tests.{eq-eqb, ne-eqb, eqb-true, eqb-false, ltb-true, ltb-false}
 use Rattle.answer.specs.Choice.{pick}
 use Rattle.text.specs.Writing.{joined}
 use Rattle.text.proofs.Joined.{joined-add, length-joined-each}
-use Rattle.answer.specs.Outcome.{given, ask}
+use Rattle.answer.specs.Outcome.{given}
 use Rattle.answer.proofs.Asked.{given-same}
 use Rattle.math.specs.Division.{quotient, remainder}
 use Rattle.math.proofs.Integers.{up, down, rep-self, rep-pos, rep-add, rep-mul, rep-agree}
@@ -23,28 +23,17 @@ use Rattle.layout.specs.declared.IsomorphicLayout.{IsomorphicLayout}
 use Rattle.layout.specs.Layouts.{Layout, Accepted}
 use Rattle.layout.proofs.Finding.{accepted}
 use Rattle.layout.proofs.Calls.{of-given}
-use Rattle.layout.proofs.PatternShape.{pattern-shape}
 use Rattle.layout_layers.specs.declared.Layer.{Layer}
 use Rattle.layout_layers.specs.declared.Layer.the-variants.{Natural, Sharp, Enharmonic, Flat}
 use Rattle.layout_layers.specs.KeyLayers.{equalized, kindOf, numberIn, countIn}
-use Rattle.layout_layers.proofs.Counts.{keys-by-count}
-use Rattle.layout_lamps.specs.Lamps.{lampCode, kindAt, lampOf, codesOf, stripOf, lampable, lampIn, stripLengthIn, stripIn, hasLampsIn, kindIn}
+use Rattle.layout_layers.proofs.Theorems.{counts-fit, numbers-are-below}
+use Rattle.layout_lamps.specs.Lamps.{lampCode, kindAt, lampOf, codesOf, stripOf, lampIn, stripLengthIn, kindIn}
 use Rattle.layout_lamps.specs.Answers.{getLamp}
-use Rattle.layout_lamps.specs.Theorems.{LampsByCount, LampsBoundTheOctave, CodesFitBytes, OneHome, HomeKeys, StripsAreWhole, FirstOctaveStays, HomeGoesFirst, HomeChangesOneEntry}
-use Rattle.layout_lamps.proofs.StripLaws.{few-layers, lamps-by-count-at, equal-or-not, between}
+use Rattle.layout_lamps.specs.Theorems.{CodesFit, CodesTellKindsApart, NoCodeIsShared, LampsByCount, OneHome, HomeKeys, StripsAreWhole, FirstOctaveStays, HomeChangesOneEntry}
+use Rattle.layout_lamps.proofs.StripLaws.{lamps-by-count-at, equal-or-not, between}
 
 pub lamps-by-count : LampsByCount
 lamps-by-count r l ok = lamps-by-count-at r l ok
-
--- with lamps, T is at most 202
-pub few-numbers : (r : IsomorphicLayout) (l : Layout) → Accepted r l → hasLampsIn l ≡ true → countIn l ≤ 202
-few-numbers r l ok has = leb-true (countIn l) 202 (sym (lamps-by-count-at r l ok) ∙ has)
-
-pub lamps-bound-the-octave : LampsBoundTheOctave
-lamps-bound-the-octave r l ok has =
-    let nine : l .letters ≤ 9 = pattern-shape l (accepted r l ok) .at-most-nine in
-    let most : l .letters * countIn l ≤ 9 * 202 = mul-le-mul {n₂ = 9} {m₂ = 202} nine (few-numbers r l ok has) in
-    omega (arith, most, keys-by-count r l ok)
 
 pub strips-are-whole : StripsAreWhole
 unfolding stripOf codesOf
@@ -69,13 +58,6 @@ first-octave-stays =
           ∙ take-append-seam (joined f P) more;
     }
 
-code-below : (k : Layer) → lampable k ≡ true → lampCode k < 256
-unfolding lampCode
-code-below Natural e = omega arith
-code-below (Sharp i) e = omega (arith, ltb-true i 100 e)
-code-below (Enharmonic i) e = omega arith
-code-below (Flat i) e = omega (arith, ltb-true i 100 e)
-
 code-above : (k : Layer) → 0 < lampCode k
 unfolding lampCode
 code-above Natural = omega arith
@@ -83,16 +65,80 @@ code-above (Sharp i) = omega arith
 code-above (Enharmonic i) = omega arith
 code-above (Flat i) = omega arith
 
-pick-code : (b : Bool) (c : ℕ) → c < 256 → pick b 0 c < 256
-pick-code true c h = omega arith
-pick-code false c h = h
+-- ---- codes
 
-pub codes-fit-bytes : CodesFitBytes
-unfolding lampOf kindAt
-codes-fit-bytes r l ok has key =
-    pick-code (eqb (key % l .octave) 0) _
-    (code-below (kindOf (countIn l) (numberIn l key))
-    (few-layers (countIn l) (numberIn l key) (few-numbers r l ok has)))
+-- what holds of a kind, of T
+abbrev Of : ℕ → Layer → Type 0
+Of T Natural = Unit
+Of T (Sharp k) = 2 + 2 * k ≤ T
+Of T (Enharmonic k) = 2 + 2 * k ≡ T
+Of T (Flat k) = 3 + 2 * k ≤ T
+
+kinds-of : (T j : ℕ) → j < T → Of T (kindOf T j)
+unfolding kindOf
+kinds-of T j h = by (eqb j 0) (ltb (2 * j) T) (eqb (2 * j) T) refl refl refl
+  where
+    by : (a b c : Bool) → eqb j 0 ≡ a → ltb (2 * j) T ≡ b → eqb (2 * j) T ≡ c
+        → Of T (pick a Natural (pick b (Sharp (j - 1)) (pick c (Enharmonic (j - 1)) (Flat (T - j - 1)))))
+    by true b c z e f = tt
+    by false true c z e f = omega (arith, eqb-false j 0 z, ltb-true (2 * j) T e)
+    by false false true z e f = omega (arith, eqb-false j 0 z, eqb-true (2 * j) T f)
+    by false false false z e f = omega (arith, ltb-false (2 * j) T e, eqb-false (2 * j) T f)
+
+code-most : (T : ℕ) → T ≤ 65535 → (k : Layer) → Of T k → lampCode k ≤ 65535
+unfolding lampCode
+code-most T h Natural o = omega arith
+code-most T h (Sharp k) o = omega (arith, o)
+code-most T h (Enharmonic k) o = omega arith
+code-most T h (Flat k) o = omega (arith, o)
+
+same-code : (T : ℕ) → T ≤ 65532 → (x y : Layer) → Of T x → Of T y → lampCode x ≡ lampCode y → x ≡ y
+unfolding lampCode
+same-code T h Natural Natural o q e = refl
+same-code T h Natural (Sharp b) o q e = absurd (let z : ⊥ = omega (arith, e) in z)
+same-code T h Natural (Enharmonic b) o q e = absurd (let z : ⊥ = omega (arith, e) in z)
+same-code T h Natural (Flat b) o q e = absurd (let z : ⊥ = omega (arith, e) in z)
+same-code T h (Sharp a) Natural o q e = absurd (let z : ⊥ = omega (arith, e) in z)
+same-code T h (Sharp a) (Sharp b) o q e = ap Sharp (omega (arith, e))
+same-code T h (Sharp a) (Enharmonic b) o q e = absurd (let z : ⊥ = omega (arith, e) in z)
+same-code T h (Sharp a) (Flat b) o q e = absurd (let z : ⊥ = omega (arith, e) in z)
+same-code T h (Enharmonic a) Natural o q e = absurd (let z : ⊥ = omega (arith, e) in z)
+same-code T h (Enharmonic a) (Sharp b) o q e = absurd (let z : ⊥ = omega (arith, e) in z)
+same-code T h (Enharmonic a) (Enharmonic b) o q e = ap Enharmonic (omega (arith, o, q))
+same-code T h (Enharmonic a) (Flat b) o q e = absurd (let z : ⊥ = omega (arith, h, q, e) in z)
+same-code T h (Flat a) Natural o q e = absurd (let z : ⊥ = omega (arith, e) in z)
+same-code T h (Flat a) (Sharp b) o q e = absurd (let z : ⊥ = omega (arith, e) in z)
+same-code T h (Flat a) (Enharmonic b) o q e = absurd (let z : ⊥ = omega (arith, h, o, e) in z)
+same-code T h (Flat a) (Flat b) o q e = ap Flat (omega (arith, e))
+
+module _ (r : IsomorphicLayout) (l : Layout) (ok : Accepted r l) (wide : l .octave ≤ 65535) where
+  few : countIn l ≤ 65532
+  few = omega (arith, counts-fit r l ok, wide)
+
+  kind-of : (i : ℕ) → Of (countIn l) (kindIn l i)
+  unfolding kindAt
+  kind-of i = kinds-of (countIn l) (numberIn l i) (numbers-are-below r l ok i)
+
+  code-fits : (i : ℕ) → lampIn l i ≤ 65535
+  unfolding lampOf
+  code-fits i = by (eqb (i % l .octave) 0)
+    where
+      by : (b : Bool) → pick b 0 (lampCode (kindIn l i)) ≤ 65535
+      by true = omega arith
+      by false = code-most (countIn l) (omega (arith, few)) (kindIn l i) (kind-of i)
+
+  told-apart : CodesTellKindsApart l
+  told-apart = record {
+    kinds = λ i j e. same-code (countIn l) few (kindIn l i) (kindIn l j) (kind-of i) (kind-of j) e;
+    home-alone = λ i. code-above (kindIn l i);
+    no-such-flat = λ i k e. let flat : Of (countIn l) (Flat k) = subst (Of (countIn l)) e (kind-of i) in omega (arith, flat, few);
+  }
+
+pub codes-fit : CodesFit
+codes-fit r l ok wide key = code-fits r l ok wide key
+
+pub no-code-is-shared : NoCodeIsShared
+no-code-is-shared r l ok wide = told-apart r l ok wide
 
 -- ---- home
 
@@ -131,7 +177,7 @@ strip-rounds P h true key = sym (apart→remainder P h key (pos r) (q +ℤ q, su
 
 pub home-keys : HomeKeys
 unfolding getLamp
-home-keys r l ok has key = (
+home-keys r l ok key = (
   λ e. apart-iff P some key (pos 0) .0
       (sym (strip-rounds P some (equalized (l .pattern)) key) ∙ one-home l entry .0 (given-same (sym lamp ∙ e)) ∙ sym (zero-mod P)),
   λ a. lamp
@@ -150,7 +196,7 @@ home-keys r l ok has key = (
     entry = remainder key (stripLengthIn l)
 
     lamp : getLamp r key ≡ given (lampIn l entry)
-    lamp = sym (ap (λ (b : Bool). ask 9 b (given (lampIn l entry))) (sym has) ∙ of-given r _ l (sym ok))
+    lamp = sym (of-given r _ l (sym ok))
 
 -- the two rules agree on a number that is 0 exactly where its remainder is
 same-rule : (i P c : ℕ) → ((i ≡ 0) ↔ (i % P ≡ 0)) → pick (eqb (i % P) 0) 0 c ≡ pick (eqb i 0) 0 c

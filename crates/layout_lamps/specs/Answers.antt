@@ -1,19 +1,20 @@
--- What the calls answer: questions 1 to 4 and 18 of the layout, question 9, then the value; a strip goes through question 10 too.
+-- What the calls answer: questions 1 to 4 and 18 of the layout, then the value; a strip goes through question 10 too. "Question 9 then
+-- always has the answer yes" (document 02, W-207): it is not asked.
 use Prim.Native.Nat.{ℕ}
 use mathlib.Core.List.{List}
 use lib.IntN.{ℤ}
-use Rattle.answer.specs.Outcome.{Outcome, given, ask}
+use Rattle.answer.specs.Outcome.{Outcome, given}
 use Rattle.math.specs.Division.{remainder}
 use Rattle.layout.specs.declared.IsomorphicLayout.{IsomorphicLayout}
 use Rattle.layout.specs.Layouts.{Layout, layoutOutcome}
 use Rattle.layout.specs.Answers.{ofLayout}
-use Rattle.layout_lamps.specs.Lamps.{lampOf, stripOf, hasLamps, lampIn, stripLengthIn, stripIn, hasLampsIn}
+use Rattle.layout_lamps.specs.Lamps.{lampOf, stripOf, lampIn, stripLengthIn, stripIn}
 
 unfoldable pub getStrip : IsomorphicLayout → Outcome (List ℕ)
-unfolding layoutOutcome hasLamps stripOf
-getStrip r = ofLayout r (λ (l : Layout). ask 9 (hasLampsIn l) (given (stripIn l)))
+unfolding layoutOutcome stripOf
+getStrip r = ofLayout r (λ (l : Layout). given (stripIn l))
 
 -- "The board repeats the strip": a key's code, below 0 too, is the strip's at the remainder, never negative, by the strip's length.
 unfoldable pub getLamp : IsomorphicLayout → ℤ → Outcome ℕ
-unfolding layoutOutcome hasLamps lampOf
-getLamp r key = ofLayout r (λ (l : Layout). ask 9 (hasLampsIn l) (given (lampIn l (remainder key (stripLengthIn l)))))
+unfolding layoutOutcome lampOf
+getLamp r key = ofLayout r (λ (l : Layout). given (lampIn l (remainder key (stripLengthIn l))))

@@ -52,9 +52,10 @@ examples =
     -- "period 5, generator 3, 7 symbols, origin 3: key 1 has indices 5 and 0; key 2 has 2 and 2."
     ∷ indices 5 3 7 3 1 (5, 0)
     ∷ indices 5 3 7 3 2 (2, 2)
-    -- "code 1, 7, 11: equalized", and the 7-step example of document 02, W-204, whose entry at the octave is home since W-206
+    -- "code 1, 7, 11: equalized", and the 7-step example of document 02, W-204, whose entry at the octave is home since W-206 and whose
+    -- enharmonic code is 65,535 since W-207
     ∷ scale 1 7 11 (101 ∷ 113 ∷ 117 ∷ 97 ∷ 108 ∷ 105 ∷ 122 ∷ 101 ∷ 100 ∷ [])
-    ∷ strip 1 7 11 (0 ∷ 1 ∷ 255 ∷ 255 ∷ 255 ∷ 255 ∷ 1 ∷ 0 ∷ 1 ∷ 255 ∷ 255 ∷ 255 ∷ 255 ∷ 1 ∷ [])
+    ∷ strip 1 7 11 (0 ∷ 1 ∷ 65535 ∷ 65535 ∷ 65535 ∷ 65535 ∷ 1 ∷ 0 ∷ 1 ∷ 65535 ∷ 65535 ∷ 65535 ∷ 65535 ∷ 1 ∷ [])
     ∷ []
 
 -- What an example says.

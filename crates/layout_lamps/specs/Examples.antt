@@ -1,13 +1,15 @@
 -- Worked examples of strips beside document 01's marked one (BenchExamples), and one theorem that the definitions give them.
 use lib.IntN.{ℤ, pos, negsuc}
+use mathlib.Core.Bool.{true, false}
 use mathlib.Core.Path.{_≡_}
 use mathlib.Core.List.{List, [], _∷_, map}
 use Prim.Native.Nat.{ℕ}
 use Rattle.answer.specs.Outcome.{Outcome, given, refused}
+use Rattle.answer.specs.Lent.{counted}
 use Rattle.layout.specs.declared.IsomorphicLayout.{IsomorphicLayout}
 use Rattle.layout.specs.Examples.{layout}
 use Rattle.layout_layers.specs.declared.Layer.the-variants.{Natural, Sharp, Enharmonic, Flat}
-use Rattle.layout_lamps.specs.Lamps.{lampCode, earlierLampIn}
+use Rattle.layout_lamps.specs.Lamps.{lampCode, earlierLampIn, byteCode, byteStripIn, hadLampsIn}
 use Rattle.layout.specs.Answers.{ofLayout}
 use Rattle.layout.specs.Layouts.{Layout}
 use Rattle.layout_lamps.specs.Answers.{getStrip, getLamp}
@@ -16,34 +18,33 @@ pub record StripExample : Type 0 where
   pub layout : IsomorphicLayout
   pub strip : Outcome (List ℕ)
 
--- The lamps of 1 12 19 stand in document 01's key table, and 1 2400 3800 among its bench examples; in 2 7 8 key 3, whose name has a flat spelling too, is in sharp layer 0.
+-- The lamps of 1 12 19 stand in document 01's key table; in 2 7 8 key 3, whose name has a flat spelling too, is in sharp layer 0.
 abbrev pub stripExamples : List StripExample
 stripExamples =
     record {
       layout = layout 1 12 19;
-      strip = given (0 ∷ 255 ∷ 1 ∷ 1 ∷ 255 ∷ 1 ∷ 255 ∷ 1 ∷ 255 ∷ 1 ∷ 1 ∷ 255 ∷ []);
+      strip = given (0 ∷ 65535 ∷ 1 ∷ 1 ∷ 65535 ∷ 1 ∷ 65535 ∷ 1 ∷ 65535 ∷ 1 ∷ 1 ∷ 65535 ∷ []);
     }
     ∷ record {
       layout = layout 2 7 8;
-      strip = given (0 ∷ 1 ∷ 1 ∷ 2 ∷ 102 ∷ 1 ∷ 1 ∷ []);
+      strip = given (0 ∷ 1 ∷ 1 ∷ 2 ∷ 3 ∷ 1 ∷ 1 ∷ []);
     }
     ∷ record {
       layout = layout 1 24 38;
-      strip = given (0 ∷ 2 ∷ 255 ∷ 102 ∷ 1 ∷ 2 ∷ 1 ∷ 2 ∷ 255 ∷ 102 ∷ 1 ∷ 2 ∷ 255 ∷ 102 ∷ 1 ∷ 2 ∷ 255 ∷ 102 ∷ 1 ∷ 2 ∷ 1 ∷ 2 ∷ 255 ∷ 102 ∷ []);
+      strip = given (0 ∷ 2 ∷ 65535 ∷ 3 ∷ 1 ∷ 2 ∷ 1 ∷ 2 ∷ 65535 ∷ 3 ∷ 1 ∷ 2 ∷ 65535 ∷ 3 ∷ 1 ∷ 2 ∷ 65535 ∷ 3 ∷ 1 ∷ 2 ∷ 1 ∷ 2 ∷ 65535 ∷ 3 ∷ []);
     }
     ∷ record {
       layout = layout 1 17 27;
-      strip = given (0 ∷ 102 ∷ 2 ∷ 1 ∷ 1 ∷ 102 ∷ 2 ∷ 1 ∷ 102 ∷ 2 ∷ 1 ∷ 102 ∷ 2 ∷ 1 ∷ 1 ∷ 102 ∷ 2 ∷ []);
+      strip = given (0 ∷ 3 ∷ 2 ∷ 1 ∷ 1 ∷ 3 ∷ 2 ∷ 1 ∷ 3 ∷ 2 ∷ 1 ∷ 3 ∷ 2 ∷ 1 ∷ 1 ∷ 3 ∷ 2 ∷ []);
     }
     ∷ record {
       layout = layout 1 31 49;
-      strip = given (0 ∷ 103 ∷ 2 ∷ 102 ∷ 3 ∷ 1 ∷ 102 ∷ 2 ∷ 1 ∷ 103 ∷ 2 ∷ 102 ∷ 3 ∷ 1 ∷ 103 ∷ 2 ∷ 102 ∷ 3 ∷ 1 ∷ 103 ∷ 2 ∷ 102 ∷ 3 ∷ 1 ∷ 102 ∷ 2 ∷ 1 ∷ 103 ∷ 2 ∷ 102 ∷ 3 ∷ []);
+      strip = given (0 ∷ 5 ∷ 2 ∷ 3 ∷ 4 ∷ 1 ∷ 3 ∷ 2 ∷ 1 ∷ 5 ∷ 2 ∷ 3 ∷ 4 ∷ 1 ∷ 5 ∷ 2 ∷ 3 ∷ 4 ∷ 1 ∷ 5 ∷ 2 ∷ 3 ∷ 4 ∷ 1 ∷ 3 ∷ 2 ∷ 1 ∷ 5 ∷ 2 ∷ 3 ∷ 4 ∷ []);
     }
     ∷ record { layout = layout 6 12 19; strip = refused 1 }
     ∷ record { layout = layout 1 0 19; strip = refused 2 }
     ∷ record { layout = layout 3 12 19; strip = refused 3 }
     ∷ record { layout = layout 0 12 19; strip = refused 4 }
-    ∷ record { layout = layout 1 2400 3800; strip = refused 9 }
     ∷ []
 
 pub record LampExample : Type 0 where
@@ -51,7 +52,8 @@ pub record LampExample : Type 0 where
   pub key : ℤ
   pub code : Outcome ℕ
 
--- 101 cycles of an equalized scale have sharp layers up to 99 and a strip; with 102 there is none. The board repeats the strip each octave.
+-- 101 cycles of an equalized scale have sharp layers up to 99, the last that had a code of one byte; with 102 there is one more. The board
+-- repeats the strip.
 abbrev pub lampExamples : List LampExample
 lampExamples =
     record { layout = layout 2 7 8; key = pos 3; code = given 2 }
@@ -65,13 +67,20 @@ lampExamples =
     ∷ record { layout = layout 1 7 11; key = negsuc 13; code = given 0 }
     -- "In Porcupine[8] with 8 and 13 that entry goes from 255 to 0."
     ∷ record { layout = layout 3 8 13; key = pos 8; code = given 0 }
-    ∷ record { layout = layout 1 7 11; key = pos 9; code = given 255 }
-    ∷ record { layout = layout 1 707 1111; key = pos 100; code = given 101 }
-    ∷ record { layout = layout 1 714 1122; key = pos 0; code = refused 9 }
+    ∷ record { layout = layout 1 7 11; key = pos 9; code = given 65535 }
+    ∷ record { layout = layout 1 707 1111; key = pos 100; code = given 200 }
+    ∷ record { layout = layout 1 714 1122; key = pos 101; code = given 202 }
+    -- "document 01's 2400-step example gets its strip": home, sharp 0 and 198, enharmonic, flat 198 and 0
+    ∷ record { layout = layout 1 2400 3800; key = pos 0; code = given 0 }
+    ∷ record { layout = layout 1 2400 3800; key = pos 1; code = given 2 }
+    ∷ record { layout = layout 1 2400 3800; key = pos 199; code = given 398 }
+    ∷ record { layout = layout 1 2400 3800; key = pos 200; code = given 65535 }
+    ∷ record { layout = layout 1 2400 3800; key = pos 201; code = given 399 }
+    ∷ record { layout = layout 1 2400 3800; key = pos 399; code = given 3 }
     -- below 0 (`negsuc k` is −1 − k): the last key of the octave, home an octave below, both ends of 32 signed bits
-    ∷ record { layout = layout 1 12 19; key = negsuc 0; code = given 255 }
+    ∷ record { layout = layout 1 12 19; key = negsuc 0; code = given 65535 }
     ∷ record { layout = layout 1 12 19; key = negsuc 11; code = given 0 }
-    ∷ record { layout = layout 1 12 19; key = negsuc 2147483647; code = given 255 }
+    ∷ record { layout = layout 1 12 19; key = negsuc 2147483647; code = given 65535 }
     ∷ record { layout = layout 1 12 19; key = pos 2147483647; code = given 1 }
     ∷ record { layout = layout 0 12 19; key = negsuc 0; code = refused 4 }
     ∷ record { layout = layout 0 12 19; key = pos 0; code = refused 4 }
@@ -79,8 +88,16 @@ lampExamples =
 
 -- Theorem: the definitions give what the examples say.
 pub record ExamplesHold : Type 0 where
-  pub codes : map lampCode (Natural ∷ Sharp 0 ∷ Sharp 99 ∷ Flat 0 ∷ Flat 99 ∷ Enharmonic 7 ∷ []) ≡ 1 ∷ 2 ∷ 101 ∷ 102 ∷ 201 ∷ 255 ∷ []
+  pub codes : map lampCode (Natural ∷ Sharp 0 ∷ Sharp 99 ∷ Flat 0 ∷ Flat 99 ∷ Enharmonic 7 ∷ []) ≡ 1 ∷ 2 ∷ 200 ∷ 3 ∷ 201 ∷ 65535 ∷ []
+  -- document 01's, before W-207
+  pub bytes : map byteCode (Natural ∷ Sharp 0 ∷ Sharp 99 ∷ Flat 0 ∷ Flat 99 ∷ Enharmonic 7 ∷ []) ≡ 1 ∷ 2 ∷ 101 ∷ 102 ∷ 201 ∷ 255 ∷ []
+  pub last : map lampCode (Sharp 32766 ∷ Flat 32765 ∷ []) ≡ 65534 ∷ 65533 ∷ []
   pub strips : map (λ (e : StripExample). getStrip (e .layout)) stripExamples ≡ map (λ (e : StripExample). e .strip) stripExamples
   pub lamps : map (λ (e : LampExample). getLamp (e .layout) (e .key)) lampExamples ≡ map (λ (e : LampExample). e .code) lampExamples
+  pub long : counted (getStrip (layout 1 2400 3800)) ≡ given 2400
+  -- the strip of 2 7 8, and what question 9 said, as they were
+  pub old : ofLayout (layout 2 7 8) (λ (l : Layout). given (byteStripIn l)) ≡ given (0 ∷ 1 ∷ 1 ∷ 2 ∷ 102 ∷ 1 ∷ 1 ∷ [])
+  pub had : map (λ (r : IsomorphicLayout). ofLayout r (λ (l : Layout). given (hadLampsIn l))) (layout 1 707 1111 ∷ layout 1 714 1122 ∷ layout 1 2400 3800 ∷ [])
+      ≡ given true ∷ given false ∷ given false ∷ []
   -- before W-206 the entry at the octave of code 3, 8, 13 was enharmonic
-  pub earlier : ofLayout (layout 3 8 13) (λ (l : Layout). given (earlierLampIn l 8)) ≡ given 255
+  pub earlier : ofLayout (layout 3 8 13) (λ (l : Layout). given (earlierLampIn l 8)) ≡ given 65535

@@ -1,6 +1,6 @@
--- The lamp strip of a layout (document 01, "Lamps and book", as document 02 amends it: W-204, W-206).
-use Prim.Native.Nat.{ℕ, zero, suc, _+_, _%_}
-use mathlib.Core.Bool.{Bool, true, false, _&&_}
+-- The lamp strip of a layout (document 01, "Lamps and book", as document 02 amends it: W-204, W-206, W-207).
+use Prim.Native.Nat.{ℕ, zero, suc, _+_, _*_, _%_}
+use mathlib.Core.Bool.{Bool, true, _&&_}
 use mathlib.Core.List.{List, [], _∷_}
 use lib.Dec.{eqb, ltb}
 use Rattle.answer.specs.Choice.{pick}
@@ -11,14 +11,14 @@ use Rattle.layout_layers.specs.declared.Layer.{Layer}
 use Rattle.layout_layers.specs.declared.Layer.the-variants.{Natural, Sharp, Enharmonic, Flat}
 use Rattle.layout_layers.specs.KeyLayers.{entryCount, layerNumber, layerCount, kindOf}
 
--- "natural 1, sharp k 2 + k, flat k 102 + k, enharmonic 255"
+-- "natural 1, sharp k 2 + 2 × k, flat k 3 + 2 × k, enharmonic 65,535" (document 02, W-207)
 unfoldable pub lampCode : Layer → ℕ
 lampCode Natural = 1
-lampCode (Sharp k) = 2 + k
-lampCode (Enharmonic k) = 255
-lampCode (Flat k) = 102 + k
+lampCode (Sharp k) = 2 + 2 * k
+lampCode (Enharmonic k) = 65535
+lampCode (Flat k) = 3 + 2 * k
 
--- "key 0 is 0, home"
+-- "home 0"
 abbrev pub home : ℕ
 home = 0
 
@@ -33,18 +33,58 @@ unfoldable pub lampOf : (P G N start : ℕ) → Mos → ℕ → ℕ
 unfolding lampCode kindAt
 lampOf P G N start m i = pick (eqb (i % P) 0) home (lampCode (kindAt P G N start m i))
 
--- The one-byte codes of the first entries.
+-- The codes of the first entries, "one element of the strip" each.
 unfoldable pub codesOf : (P G N start : ℕ) → Mos → (count : ℕ) → List ℕ
 unfolding joined lampOf
 codesOf P G N start m count = joined (λ i. lampOf P G N start m i ∷ []) count
 
--- "A lamp strip holds P one-byte codes"; "2 × octave codes when sharpness is 0, from all layer entries" (document 02, W-204).
+-- "A lamp strip holds P .. codes"; "2 × octave codes when sharpness is 0, from all layer entries" (document 02, W-204).
 abbrev pub stripLength : ℕ → Mos → ℕ
 stripLength P m = entryCount P m
 
 unfoldable pub stripOf : (P G N start : ℕ) → Mos → List ℕ
 unfolding codesOf
 stripOf P G N start m = codesOf P G N start m (stripLength P m)
+
+-- ---- in a layout
+
+abbrev pub lampIn : Layout → ℕ → ℕ
+lampIn l i = lampOf (l .octave) (l .generator) (l .letters) (l .start) (l .pattern) i
+
+abbrev pub stripLengthIn : Layout → ℕ
+stripLengthIn l = stripLength (l .octave) (l .pattern)
+
+abbrev pub stripIn : Layout → List ℕ
+stripIn l = stripOf (l .octave) (l .generator) (l .letters) (l .start) (l .pattern)
+
+-- Document 01's strip, before W-204: the codes of one octave, whatever the sharpness. The key table still has these.
+abbrev pub octaveStripIn : Layout → List ℕ
+octaveStripIn l = codesOf (l .octave) (l .generator) (l .letters) (l .start) (l .pattern) (l .octave)
+
+-- The code of an entry before W-206: key 0 alone was home. For the statement `HomeGoesFirst`.
+abbrev pub earlierLampIn : Layout → ℕ → ℕ
+earlierLampIn l i = pick (eqb i 0) home (lampCode (kindAt (l .octave) (l .generator) (l .letters) (l .start) (l .pattern) i))
+
+-- The kind of an entry's layer.
+abbrev pub kindIn : Layout → ℕ → Layer
+kindIn l i = kindAt (l .octave) (l .generator) (l .letters) (l .start) (l .pattern) i
+
+-- ---- codes of one byte, before W-207
+
+-- Document 01: "natural 1, sharp k 2 + k, flat k 102 + k, enharmonic 255".
+unfoldable pub byteCode : Layer → ℕ
+byteCode Natural = 1
+byteCode (Sharp k) = 2 + k
+byteCode (Enharmonic k) = 255
+byteCode (Flat k) = 102 + k
+
+-- The strip as it was: for the statements `StripsConvert` and `LampsByCount` alone.
+abbrev pub byteLampIn : Layout → ℕ → ℕ
+byteLampIn l i = pick (eqb (i % l .octave) 0) home (byteCode (kindIn l i))
+
+unfoldable pub byteStripIn : Layout → List ℕ
+unfolding joined byteCode kindAt
+byteStripIn l = joined (λ i. byteLampIn l i ∷ []) (stripLengthIn l)
 
 -- Question 9, of one layer: a sharp or flat layer's number is below 100.
 abbrev pub lampable : Layer → Bool
@@ -58,33 +98,7 @@ abbrev pub every : (ℕ → Bool) → ℕ → Bool
 every test zero = true
 every test (suc count) = test count && every test count
 
--- 9. "Is every sharp and flat layer number of the lamp strip below 100?"
-unfoldable pub hasLamps : (P G N start : ℕ) → Mos → Bool
+-- 9. "Is every sharp and flat layer number of the lamp strip below 100?" Where not, there was no strip.
+unfoldable pub hadLampsIn : Layout → Bool
 unfolding kindAt
-hasLamps P G N start m = every (λ i. lampable (kindAt P G N start m i)) (stripLength P m)
-
--- ---- in a layout
-
-abbrev pub lampIn : Layout → ℕ → ℕ
-lampIn l i = lampOf (l .octave) (l .generator) (l .letters) (l .start) (l .pattern) i
-
-abbrev pub stripLengthIn : Layout → ℕ
-stripLengthIn l = stripLength (l .octave) (l .pattern)
-
-abbrev pub stripIn : Layout → List ℕ
-stripIn l = stripOf (l .octave) (l .generator) (l .letters) (l .start) (l .pattern)
-
-abbrev pub hasLampsIn : Layout → Bool
-hasLampsIn l = hasLamps (l .octave) (l .generator) (l .letters) (l .start) (l .pattern)
-
--- Document 01's strip, before W-204: the codes of one octave, whatever the sharpness. The key table still has these.
-abbrev pub octaveStripIn : Layout → List ℕ
-octaveStripIn l = codesOf (l .octave) (l .generator) (l .letters) (l .start) (l .pattern) (l .octave)
-
--- The code of an entry before W-206: key 0 alone was home. For the statement `HomeGoesFirst`.
-abbrev pub earlierLampIn : Layout → ℕ → ℕ
-earlierLampIn l i = pick (eqb i 0) home (lampCode (kindAt (l .octave) (l .generator) (l .letters) (l .start) (l .pattern) i))
-
--- The kind of an entry's layer.
-abbrev pub kindIn : Layout → ℕ → Layer
-kindIn l i = kindAt (l .octave) (l .generator) (l .letters) (l .start) (l .pattern) i
+hadLampsIn l = every (λ i. lampable (kindIn l i)) (stripLengthIn l)

@@ -6,26 +6,42 @@ use mathlib.Core.Bool.{true, false}
 use lib.Dec.{leb}
 use lib.IntN.{ℤ, pos}
 use lib.ListN.{length, take}
-use Rattle.answer.specs.Outcome.{given}
+use Rattle.answer.specs.Outcome.{given, ask}
 use Rattle.math.specs.Division.{Apart}
 use Rattle.layout.specs.declared.IsomorphicLayout.{IsomorphicLayout}
 use Rattle.layout.specs.Layouts.{Layout, Accepted}
+use Rattle.layout_layers.specs.declared.Layer.the-variants.{Flat}
 use Rattle.layout_layers.specs.KeyLayers.{equalized, countIn}
+use Rattle.lamp_codes.specs.Answers.{getWidened, getNarrowed}
 use Rattle.layout_lamps.specs.Answers.{getLamp}
-use Rattle.layout_lamps.specs.Lamps.{lampIn, stripLengthIn, stripIn, hasLampsIn, octaveStripIn, earlierLampIn}
+use Rattle.layout_lamps.specs.Lamps.{lampCode, lampIn, stripLengthIn, stripIn, octaveStripIn, earlierLampIn, kindIn, byteStripIn, hadLampsIn}
 
--- Theorem: question 9 has the answer yes exactly where T is at most 202.
+-- Theorem: "Question 9 then always has the answer yes": every code is a number of 16 bits, whatever the layer. (An octave is one too.)
+abbrev pub CodesFit : Type 0
+CodesFit = (r : IsomorphicLayout) (l : Layout) → Accepted r l → l .octave ≤ 65535 → (key : ℕ) → lampIn l key ≤ 65535
+
+-- Theorem: no two kinds share a code: entries with the same code have layers of the same kind and number, or both are home. Flat layer
+-- 32,766 would have the enharmonic code; there is none, since T is below the octave by the keys of the natural layer.
+pub record CodesTellKindsApart (l : Layout) : Type 0 where
+  pub kinds : (i j : ℕ) → lampCode (kindIn l i) ≡ lampCode (kindIn l j) → kindIn l i ≡ kindIn l j
+  pub home-alone : (i : ℕ) → 0 < lampCode (kindIn l i)
+  pub no-such-flat : (i k : ℕ) → kindIn l i ≡ Flat k → k < 32766
+
+abbrev pub NoCodeIsShared : Type 0
+NoCodeIsShared = (r : IsomorphicLayout) (l : Layout) → Accepted r l → l .octave ≤ 65535 → CodesTellKindsApart l
+
+-- Theorem: "Stored one-byte strips are converted without loss": a layout's old strip, where it had one, is widened to the strip of today;
+-- and that goes back to the old one, or is refused with 17 where there was none.
+pub record StripsConvert (l : Layout) : Type 0 where
+  pub there : hadLampsIn l ≡ true → getWidened (byteStripIn l) ≡ given (stripIn l)
+  pub back : getNarrowed (stripIn l) ≡ ask 17 (hadLampsIn l) (given (byteStripIn l))
+
+abbrev pub OldStripsConvert : Type 0
+OldStripsConvert = (r : IsomorphicLayout) (l : Layout) → Accepted r l → StripsConvert l
+
+-- Theorem: a layout had a strip of one-byte codes exactly where T is at most 202.
 abbrev pub LampsByCount : Type 0
-LampsByCount = (r : IsomorphicLayout) (l : Layout) → Accepted r l → hasLampsIn l ≡ leb (countIn l) 202
-
--- Theorem: where question 9 has the answer yes, the octave has at most 9 × 202 = 1,818 keys.
-abbrev pub LampsBoundTheOctave : Type 0
-LampsBoundTheOctave = (r : IsomorphicLayout) (l : Layout) → Accepted r l → hasLampsIn l ≡ true → l .octave ≤ 1818
-
--- Theorem: where question 9 has the answer yes, every code fits a byte.
-abbrev pub CodesFitBytes : Type 0
-CodesFitBytes =
-    (r : IsomorphicLayout) (l : Layout) → Accepted r l → hasLampsIn l ≡ true → (key : ℕ) → lampIn l key < 256
+LampsByCount = (r : IsomorphicLayout) (l : Layout) → Accepted r l → hadLampsIn l ≡ leb (countIn l) 202
 
 -- Theorem: home's code is that of the keys whole octaves from key 0, and of no others.
 abbrev pub OneHome : Type 0
@@ -34,8 +50,7 @@ OneHome = (l : Layout) (key : ℕ) → (lampIn l key ≡ 0) ↔ (key % l .octave
 -- Theorem: so one key's lamp is home's exactly where the key is whole octaves from key 0, above or below it.
 abbrev pub HomeKeys : Type 0
 HomeKeys =
-    (r : IsomorphicLayout) (l : Layout) → Accepted r l → hasLampsIn l ≡ true
-    → (key : ℤ) → (getLamp r key ≡ given 0) ↔ Apart (l .octave) key (pos 0)
+    (r : IsomorphicLayout) (l : Layout) → Accepted r l → (key : ℤ) → (getLamp r key ≡ given 0) ↔ Apart (l .octave) key (pos 0)
 
 -- Theorem: a strip has a code for each entry: for each key of the octave, or of two where the scale is equalized.
 abbrev pub StripsAreWhole : Type 0

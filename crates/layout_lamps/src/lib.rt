@@ -1,16 +1,14 @@
-// The lamp strip of a layout (document 01, "Lamps and book"): a one-byte code for each key of the octave, of two octaves where the scale is
-// equalized, since its colours may alternate from octave to octave (document 02, W-204).
+// The lamp strip of a layout (document 01, "Lamps and book"): a code for each key of the octave, of two octaves where the scale is
+// equalized, since its colours may alternate from octave to octave (document 02, W-204). A code has two bytes (W-207).
 //
-// Home, which is key 0 and every key whole octaves from it, is 0, natural keys have 1, sharp layers 2 to 101, flat layers 102 to 201 and enharmonic ones 255.
+// Home, which is key 0 and every key whole octaves from it, is 0; natural keys have 1, sharp layers even codes from 2 on, flat layers odd
+// codes from 3 on, and enharmonic ones 65,535. Lamps follow the layers and not the names.
 // specs/: Lamps defines, Answers says what each call answers, Theorems and Examples state what holds.
-// A layout with a sharp or flat layer of number 100 or more has no strip (9). Lamps follow the layers and not the names.
-// Every entry point answers every input; the modules of parts ask for more, as their heads say. Nothing is assumed.
-mod key_codes;
+// Every entry point answers every input; the module of parts asks for more, as its head says. Nothing is assumed.
 pub mod parts;
 
 use answer::CountAnswer;
 use answer::NumberAnswer;
-use answer::Refusal;
 use layout::IsomorphicLayout;
 use layout::parts::FoundAnswer;
 use pergen::euclid;
@@ -21,40 +19,31 @@ ghost use Rattle.answer.specs.Refusals.{numberOutcome, countOutcome};
 ghost use Rattle.layout.specs.Answers.{inRoom};
 ghost use Rattle.layout_lamps.specs.Answers.{getStrip, getLamp};
 
-// The lamp code of each key of an octave, of two octaves where the scale is equalized (1, 2, 3, 4, 18, 9, 10).
-pub fn lamp_strip(layout: IsomorphicLayout, out: &mut [u8]) -> CountAnswer
+// The lamp code of each key of an octave, of two octaves where the scale is equalized (1, 2, 3, 4, 18, 10).
+pub fn lamp_strip(layout: IsomorphicLayout, out: &mut [u16]) -> CountAnswer
     ensures { λ r. ⌜ Filled (inRoom (length (now (out .entry))) (getStrip layout)) (countOutcome r) (now (out .entry)) (now (out .exit)) ⌝ }
 {
     match layout::parts::ask(layout) {
         FoundAnswer::Refused(q) => CountAnswer::Refused(q),
         FoundAnswer::Given(found) => {
-            let plan = layout_layers::parts::plan_of(found);
-            let total = layout_layers::parts::total_of(plan);
-            if 202 < total {
-                return CountAnswer::Refused(Refusal::LampLayer);
-            }
-            parts::write_strip(plan, total, out)
+            parts::write_strip(layout_layers::parts::plan_of(found), out)
         }
     }
 }
 
-// How many codes `lamp_strip` writes (1, 2, 3, 4, 18, 9).
+// How many codes `lamp_strip` writes (1, 2, 3, 4, 18).
 pub fn strip_len(layout: IsomorphicLayout) -> CountAnswer
     ensures { λ r. ⌜ countOutcome r ≡ counted (getStrip layout) ⌝ }
 {
     match layout::parts::ask(layout) {
         FoundAnswer::Refused(q) => CountAnswer::Refused(q),
         FoundAnswer::Given(found) => {
-            let plan = layout_layers::parts::plan_of(found);
-            if 202 < layout_layers::parts::total_of(plan) {
-                return CountAnswer::Refused(Refusal::LampLayer);
-            }
-            CountAnswer::Given(layout_layers::parts::entries(plan))
+            CountAnswer::Given(layout_layers::parts::entries(layout_layers::parts::plan_of(found)))
         }
     }
 }
 
-// The lamp code of one key, whatever its octave, below 0 too: what `lamp_strip` writes repeats (1, 2, 3, 4, 18, 9).
+// The lamp code of one key, whatever its octave, below 0 too: what `lamp_strip` writes repeats (1, 2, 3, 4, 18).
 pub fn lamp(layout: IsomorphicLayout, key: i32) -> NumberAnswer
     ensures { λ r. ⌜ numberOutcome r ≡ getLamp layout key ⌝ }
 {
@@ -62,10 +51,6 @@ pub fn lamp(layout: IsomorphicLayout, key: i32) -> NumberAnswer
         FoundAnswer::Refused(q) => NumberAnswer::Refused(q),
         FoundAnswer::Given(found) => {
             let plan = layout_layers::parts::plan_of(found);
-            let total = layout_layers::parts::total_of(plan);
-            if 202 < total {
-                return NumberAnswer::Refused(Refusal::LampLayer);
-            }
             let entries = layout_layers::parts::entry_count(plan, found.octave);
             let place = math::parts::rem_u32(key, entries);
             if place % (found.octave as u32) == 0 {
@@ -73,7 +58,7 @@ pub fn lamp(layout: IsomorphicLayout, key: i32) -> NumberAnswer
             }
             let solved = euclid::solve(found.octave, found.generator);
             let number = layout_layers::parts::number_of(plan, solved.generator_inverse, place);
-            NumberAnswer::Given(parts::code(total, number) as u16)
+            NumberAnswer::Given(parts::code(layout_layers::parts::total_of(plan), number))
         }
     }
 }

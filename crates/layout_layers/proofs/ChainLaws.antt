@@ -235,9 +235,10 @@ module _ (c : Chain) (u : Unbroken c) where
 
 -- ---- what the code computes with
 
-pub place-by : (c : Chain) (inv turn place : ℕ) → inv ≡ inverseOf c → place ≡ (c .start + inv * turn % c .«reduced_period») % c .«reduced_period» → place ≡ placeOf c turn
+pub place-by : (c : Chain) (turn degree place : ℕ) → degree ≡ inverseOf c * turn % c .«reduced_period»
+    → place ≡ (c .start + degree) % c .«reduced_period» → place ≡ placeOf c turn
 unfolding placeOf
-place-by c inv turn place e q = q ∙ ap (λ (k : ℕ). (c .start + k * turn % c .«reduced_period») % c .«reduced_period») e
+place-by c turn degree place e q = q ∙ ap (λ (k : ℕ). (c .start + k) % c .«reduced_period») e
 
 -- the numbers of layer k of a run
 pub run-fits : (first times size k n most : ℕ) → (size ≡ 0 → ⊥) → k < times → (first + length (dropEmpty (replicate times size))) * n ≤ most

@@ -26,7 +26,7 @@ use Rattle.layout_layers.specs.Theorems.{KeysByCount, SignsByCount}
 use Rattle.layout_layers.proofs.Theorems.{equal-steps}
 
 -- numbers above 0 have a sum of at most their product and 1
-sum-by-product : (a b : ℕ) → 0 < a → 0 < b → a + b ≤ a * b + 1
+pub sum-by-product : (a b : ℕ) → 0 < a → 0 < b → a + b ≤ a * b + 1
 sum-by-product zero b h k = absurd (let z : ⊥ = omega arith in z)
 sum-by-product (suc a) b h k = omega (arith, suc-mul a b, mul-le-mul-left a k, mul-one a)
 

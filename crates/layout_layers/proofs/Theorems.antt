@@ -1,4 +1,4 @@
--- Every key's number is below T, and T at most P: the layers of one cycle are no more than its keys. Each number is met, by the key whose
+-- Every key's number is below T, and T below P: the layers of one cycle are fewer than its keys. Each number is met, by the key whose
 -- degree leads to the layer's first place on the chain.
 use Prim.Native.Nat.{ℕ, zero, suc, _+_, _*_, _-_, _/_, _%_, _≤_, _<_, _∣_}
 use mathlib.Core.Path.{_≡_, refl, sym, ap, ap₂, subst, _∙_}
@@ -28,21 +28,24 @@ use Rattle.layout.specs.declared.IsomorphicLayout.{IsomorphicLayout}
 use Rattle.layout.specs.Layouts.{Layout, Accepted}
 use Rattle.layout.proofs.Finding.{Parts, accepted}
 use Rattle.layout.proofs.PatternShape.{PatternShape, pattern-shape}
-use Rattle.layout_layers.specs.KeyLayers.{equalized, entryCount, listedLayer, alternating, alternateLayer, layerOf, layerNumber, keyLayers, layerCount, numberIn, layersIn, countIn}
+use Rattle.layout_layers.specs.KeyLayers.{equalized, entryCount, listedLayer, alternating, alternateLayer, layerOf, layerNumber, keyLayers, layerCount, numberIn, countIn}
 use Rattle.layout_layers.specs.Theorems.{CountsFit, NumbersAreBelow, KeyZeroIsNatural, EachNumberIsMet, EntriesAreCounted, NumbersRepeat, LayersFromZeroOn}
 use Rattle.layout_layers.proofs.RunPlaces.{numbered-below, numbered-met}
-use Rattle.layout_layers.proofs.PlanLaws.{alternating-below, alternating-same, pick-below, pick-most, block-fits}
+use Rattle.layout_layers.proofs.PlanLaws.{alternating-below, alternating-same, pick-below, block-fits}
 
 pub entries-are-counted : EntriesAreCounted
 unfolding keyLayers
 entries-are-counted l =
     length-joined-each (λ i. numberIn l i ∷ []) 1 (λ i. refl) (entryCount (l .octave) (l .pattern)) ∙ one-mul _
 
-sizes-few : (m : Mos) → length (layerSizes m) ≤ reducedSizeOf m
-unfolding layerSizes
-sizes-few m =
-    let zs = allSizes (primaries m) (secondaries m) (primary m / cyclesOf m) (secondary m / cyclesOf m) in
-    omega (arith, few zs, sum-drop zs, layer-sizes-sum m)
+-- behind the first layer, each takes a key at least
+few-behind : (size : ℕ) (rest : List ℕ) → 0 < size → length (dropEmpty (size ∷ rest)) + size ≤ sum (dropEmpty (size ∷ rest)) + 1
+few-behind zero rest h = absurd (let z : ⊥ = omega arith in z)
+few-behind (suc size) rest h = omega (arith, few rest, sum-drop rest)
+
+pick-fewer : (b : Bool) (u v m : ℕ) → u + 3 ≤ m → v + 3 ≤ m → pick b u v + 3 ≤ m
+pick-fewer true u v m h k = h
+pick-fewer false u v m h k = k
 
 -- two octaves on, the parity is the same
 alternating-again : (N s h q : ℕ) → 0 < N → alternating N s h (q + 2 * N) ≡ alternating N s h q
@@ -71,13 +74,6 @@ module _ (r : IsomorphicLayout) (l : Layout) (ok : Accepted r l) where
 
   shape : PatternShape l
   shape = pattern-shape l parts
-
-  fits : countIn l ≤ P
-  unfolding layerCount
-  fits =
-      let most : pick (equalized m) 2 (length (layerSizes m)) ≤ reduced P G
-      = pick-most (equalized m) 2 (length (layerSizes m)) (reduced P G) (omega (arith, shape .at-least-five, shape .enough-keys)) (omega (arith, sizes-few m, shape .reduced-is)) in
-      omega (arith, mul-le-mul-right (cycles P G) most, period-is P G (parts .positive))
 
   -- a place of the list
   place-in : (i : ℕ) → (l .start + degree P G i) % reduced P G < sum (layerSizes m)
@@ -113,6 +109,32 @@ module _ (r : IsomorphicLayout) (l : Layout) (ok : Accepted r l) where
       let p = divided (primary m) (shape .primary-above) g pos (le-of-dvd (shape .primary-above) (gcd-or-one-left (primary m) (secondary m))) in
       let s = divided (secondary m) (shape .secondary-above) g pos (le-of-dvd (shape .secondary-above) (gcd-or-one-right (primary m) (secondary m))) in
       sym (holding-both (primaries m) (secondaries m) (primary m / g) (secondary m / g) (λ e. omega arith) (λ e. omega arith)) ∙ shape .letters
+
+  layers-few : length (layerSizes m) + l .letters ≤ reduced P G + 1
+  unfolding layerSizes allSizes
+  layers-few =
+      let a = primaries m in
+      let b = secondaries m in
+      let x = primary m / cyclesOf m in
+      let y = secondary m / cyclesOf m in
+      omega (
+        arith,
+        few-behind (holding a b x y)
+            (sharps a b ((x - 1) / 2) ((y - 1) / 2) ++ (holding a b ((x - 1) % 2) ((y - 1) % 2) ∷ reverse (sharps a b ((x - 1) / 2) ((y - 1) / 2))))
+            (omega (arith, natural-size, shape .at-least-five)),
+        natural-size,
+        layer-sizes-sum m,
+        shape .reduced-is,
+      )
+
+  fits : countIn l + 3 ≤ P
+  unfolding layerCount
+  fits =
+      let n = cycles P G in
+      let layers = pick (equalized m) 2 (length (layerSizes m)) in
+      let most : layers + 3 ≤ reduced P G
+      = pick-fewer (equalized m) 2 (length (layerSizes m)) (reduced P G) (omega (arith, shape .at-least-five, shape .enough-keys)) (omega (arith, layers-few, shape .at-least-five)) in
+      omega (arith, mul-le-mul-right n most, add-mul layers 3 n, period-is P G (parts .positive), cycles-positive P G (parts .positive))
 
   front : (size : ℕ) (rest : List ℕ) (place : ℕ) → place < size → getD (numbered 0 (dropEmpty (size ∷ rest))) place 0 ≡ 0
   front zero rest place h = absurd (let z : ⊥ = omega arith in z)

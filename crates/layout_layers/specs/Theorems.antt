@@ -1,18 +1,17 @@
 -- What holds of the layers of every accepted layout. Proofs: proofs/Theorems.antt.
-use Prim.Native.Nat.{ℕ, _+_, _*_, _/_, _%_, _≤_, _<_}
+use Prim.Native.Nat.{ℕ, _+_, _*_, _≤_, _<_}
 use mathlib.Core.Path.{_≡_}
 use mathlib.Core.Bool.{false}
 use lib.IntN.{ℤ, pos}
 use lib.ListN.{length}
 use Rattle.pergen.specs.Spelling.{starsOf}
-use Rattle.pergen.specs.declared.Accidentals.{Accidentals}
 use Rattle.layout.specs.declared.IsomorphicLayout.{IsomorphicLayout}
 use Rattle.layout.specs.Layouts.{Layout, Accepted, accidentalsIn}
 use Rattle.layout_layers.specs.KeyLayers.{equalized, entryCount, numberIn, keyNumberIn, layersIn, countIn}
 
--- Theorem: T is at most the octave's number of keys.
+-- Theorem: T is below the octave's number of keys, by three at least: the natural layer alone has five keys or more.
 abbrev pub CountsFit : Type 0
-CountsFit = (r : IsomorphicLayout) (l : Layout) → Accepted r l → countIn l ≤ l .octave
+CountsFit = (r : IsomorphicLayout) (l : Layout) → Accepted r l → countIn l + 3 ≤ l .octave
 
 -- Theorem: .. and the octave has at most N × T keys.
 abbrev pub KeysByCount : Type 0

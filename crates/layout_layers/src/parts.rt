@@ -22,29 +22,7 @@ ghost use Rattle.mos_layers.specs.Theorems.{sum};
 ghost use Rattle.mos_layers.specs.Layers.{dropEmpty};
 ghost use Rattle.layout.specs.Parts.{layoutOf, Laid};
 ghost use Rattle.layout_layers.specs.KeyLayers.{alternating};
-ghost use Rattle.layout_layers.specs.Parts.{
-  inverseOf,
-  placeOf,
-  keysOf,
-  Unbroken,
-  Spread,
-  InTurn,
-  InTurns,
-  Walk,
-  Ahead,
-  runLayer,
-  runNumber,
-  listedNumber,
-  totalOf,
-  Sound,
-  PlanOf,
-  turnLayer,
-  planNumber,
-  turnsOf,
-  listed,
-  Fronted,
-  planLayers,
-};
+ghost use Rattle.layout_layers.specs.Parts.{inverseOf, keysOf, Spread, InTurn, InTurns, Walk, Ahead, runLayer, runNumber, listedNumber, totalOf, Sound, PlanOf, turnLayer, planNumber, turnsOf, Fronted, planLayers};
 
 // What all keys of a layout have in common.
 pub struct Plan {
@@ -156,9 +134,9 @@ fn chain_place(start: u16, degree: u16, reduced_period: u16) -> u16
     degree - left
 }
 
-// The layer of a scale degree.
-fn layer_of(plan: Plan, inverse: u16, turn: u32) -> u16
-    requires { ⌜ Sound plan × (inverse ≡ inverseOf (plan .chain)) × (turn ≤ 131070) ⌝ }
+// The layer of a scale degree whose keys have this degree on the chain.
+fn layer_by(plan: Plan, turn: u32, degree: u16) -> u16
+    requires { ⌜ Sound plan × (degree ≡ inverseOf (plan .chain) * turn % plan .chain .«reduced_period») × (turn ≤ 131070) ⌝ }
     ensures { λ r. ⌜ r ≡ turnLayer plan turn ⌝ }
 {
     if plan.equalized {
@@ -166,11 +144,7 @@ fn layer_of(plan: Plan, inverse: u16, turn: u32) -> u16
     }
     let chain = plan.chain;
     let runs = plan.runs;
-    let degree = (inverse as u64) * (turn as u64) % (chain.reduced_period as u64);
-    layer_at(
-        runs,
-        chain_place(chain.start, degree as u16, chain.reduced_period),
-    )
+    layer_at(runs, chain_place(chain.start, degree, chain.reduced_period))
 }
 
 // An entry's number, with the inverse that no whole-octave work needs.
@@ -180,8 +154,20 @@ pub fn number_of(plan: Plan, inverse: u16, entry: u32) -> u16
 {
     let chain = plan.chain;
     let cycles = chain.num_cycles as u32;
-    let layer = layer_of(plan, inverse, entry / cycles);
+    let turn = entry / cycles;
+    let degree = (inverse as u64) * (turn as u64) % (chain.reduced_period as u64);
+    let layer = layer_by(plan, turn, degree as u16);
     layer * chain.num_cycles + (entry % cycles) as u16
+}
+
+// The number of a key of the octave, for a walk from key to key that carries its degree and its cycle.
+pub fn number_at(plan: Plan, key: u16, degree: u16, cycle: u16) -> u16
+    requires { ⌜ Sound plan × (degree ≡ inverseOf (plan .chain) * (key / plan .chain .«num_cycles») % plan .chain .«reduced_period») × (cycle ≡ key % plan .chain .«num_cycles») ⌝ }
+    ensures { λ r. ⌜ r ≡ planNumber plan key ⌝ }
+{
+    let chain = plan.chain;
+    let layer = layer_by(plan, (key / chain.num_cycles) as u32, degree);
+    layer * chain.num_cycles + cycle
 }
 
 // How many numbers there are.
@@ -311,6 +297,18 @@ fn put_alternating(out: &mut [u16], plan: Plan, turns: u32)
     }
 }
 
+// All entries at the front of a slice that is known to hold them.
+pub fn put_layers(out: &mut [u16], plan: Plan)
+    requires { ⌜ Sound plan × (length (planLayers plan) ≤ length (now out)) ⌝ }
+    ensures { λ r. ⌜ Fronted (planLayers plan) (now (out .entry)) (now (out .exit)) ⌝ }
+{
+    if plan.equalized {
+        put_alternating(out, plan, turns_of(plan));
+        return;
+    }
+    put_chain(out, plan);
+}
+
 // All entries at the front of a slice that holds them (10).
 pub(crate) fn write_layers(plan: Plan, out: &mut [u16]) -> CountAnswer
     requires { ⌜ Sound plan ⌝ }
@@ -320,10 +318,6 @@ pub(crate) fn write_layers(plan: Plan, out: &mut [u16]) -> CountAnswer
     if out.len() < count {
         return CountAnswer::Refused(Refusal::Room);
     }
-    if plan.equalized {
-        put_alternating(out, plan, turns_of(plan));
-        return CountAnswer::Given(count);
-    }
-    put_chain(out, plan);
+    put_layers(out, plan);
     CountAnswer::Given(count)
 }

@@ -81,4 +81,4 @@ module _ (l : Layout) (a : Parts l) where
     whole-octave = rw by (numbers (l .octave) (l .generator) (a .positive) .period)
 
     pub speller-of : l .octave ≤ 65535 → SpellerOf l (made row solved)
-    speller-of small = record { sound = speller-sound small; octave-is = whole-octave; names = speller-names }
+    speller-of small = record { sound = speller-sound small; octave-is = whole-octave; solved-are = by; names = speller-names }

@@ -16,7 +16,7 @@ use Rattle.pergen.specs.declared.Cycle.{Cycle}
 use Rattle.pergen.specs.declared.stepping.Step.{Step}
 use Rattle.pergen.specs.Pergen.{shown}
 use Rattle.pergen.specs.Spelling.{byCoordinates, accidentalsOf}
-use Rattle.pergen.specs.Parts.{Walkable}
+use Rattle.pergen.specs.Parts.{solvedOf, Walkable}
 use Rattle.layout_speller.specs.declared.speller.Speller.{Speller}
 
 -- "cycle i mod n, absent when n is 1"
@@ -88,6 +88,7 @@ pub record OnWalk (s : Speller) (step : Step) : Type 0 where
 pub record SpellerOf (l : Layout) (s : Speller) : Type 0 where
   pub sound : Sound s
   pub octave-is : l .octave ≡ s .solved .«reduced_period» * s .solved .«num_cycles»
+  pub solved-are : s .solved ≡ solvedOf (l .octave) (l .generator)
   pub names : (k : ℕ) → nameOf s k ≡ listedName l k
 
 -- A stretch of the chain, from the first letter with so many sharps on: past the letters alone, and inside the chain.

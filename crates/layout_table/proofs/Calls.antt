@@ -1,127 +1,161 @@
--- From what was asked to what the calls answer: the lines of a layout's speller and strip are its table, and one law for each way in which a call ends.
-use Prim.Native.Nat.{ℕ, _+_, _≤_, _<_}
-use mathlib.Core.Path.{_≡_, refl, sym, ap, ap₂, _∙_}
-use mathlib.Core.Bool.{Bool}
-use mathlib.Core.List.{List, _++_}
+-- From what was asked to what the calls answer: the lines of a layout's speller and plan are its table, and one law for each way in which a call ends.
+use Prim.Native.Nat.{ℕ, _*_, _/_, _%_, _≤_}
+use mathlib.Core.Path.{_≡_, refl, sym, ap, subst, _∙_}
+use mathlib.Core.Bool.{_&&_}
+use mathlib.Core.List.{List}
+use native.Mathlib.Nat.{zero-add}
 use native.Mathlib.Omega.{arith}
-use lib.ListN.{length, getD, drop, List·getD-append}
-use lib.Dec.{leb}
-use borrow.Author.Tests.{le-leb, lt-leb}
-use Rattle.answer.specs.Outcome.{Outcome, given, refused, ask, andThen}
+use lib.ListN.{length}
+use borrow.Author.Tests.{leb-true}
+use Rattle.answer.specs.Outcome.{Outcome, given, refused, andThen}
 use Rattle.answer.specs.Lent.{heldIn, counted}
+use Rattle.answer.proofs.Asked.{given-same, asked-yes, asked-rest, and-right}
 use Rattle.text.specs.Writing.{joined}
 use Rattle.text.proofs.Joined.{joined-same}
+use Rattle.pergen.specs.Parts.{solvedOf, At}
+use Rattle.pergen.specs.declared.euclid.Solved.{Solved}
+use Rattle.pergen.specs.declared.stepping.Step.{Step}
 use Rattle.layout.specs.declared.IsomorphicLayout.{IsomorphicLayout}
 use Rattle.layout.specs.Layouts.{Layout, layoutOutcome}
 use Rattle.layout.specs.Answers.{inRoom}
+use Rattle.layout.specs.Names.{listedName}
 use Rattle.layout.specs.Parts.{Laid}
 use Rattle.layout.proofs.Calls.{of-refused, of-given}
-use Rattle.layout.proofs.Finding.{accepted}
+use Rattle.layout.proofs.Finding.{laid, octave-is}
 use Rattle.layout_layers.specs.declared.parts.Plan.{Plan}
-use Rattle.layout_layers.specs.KeyLayers.{countIn}
-use Rattle.layout_layers.specs.Parts.{keysOf, totalOf, PlanOf, Fronted}
-use Rattle.layout_layers.proofs.PlanLaws.{count-is, keys-are}
-use Rattle.layout_layers.proofs.SpreadLaws.{listed-at, length-listed}
+use Rattle.layout_layers.specs.Parts.{inverseOf, totalOf, PlanOf}
+use Rattle.layout_layers.proofs.PlanLaws.{count-is}
 use Rattle.layout_speller.specs.declared.speller.Speller.{Speller}
 use Rattle.layout_speller.specs.Parts.{SpellerOf}
-use Rattle.layout_lamps.specs.Lamps.{codesOf, lampIn, hasLampsIn, octaveStripIn}
-use Rattle.layout_lamps.specs.Parts.{planStrip}
-use Rattle.layout_lamps.proofs.StripLaws.{lamps-by-count-at, octave-strip-is}
-use Rattle.layout_lamps.proofs.Theorems.{few-numbers, lamps-bound-the-octave}
-use Rattle.line.specs.Lines.{lineOutcome}
+use Rattle.layout_lamps.specs.Lamps.{lampIn}
+use Rattle.layout_lamps.proofs.StripLaws.{octave-lamp-is}
+use Rattle.line.specs.Lines.{isField, octaveAt, tritaveAt, isLine, space, lineFeed, lineOutcome}
 use Rattle.line.specs.declared.Line.{Line}
-use Rattle.layout_table.specs.Tables.{keyLine, tableIn, getTable, layoutOn, lineTable, refusalLine, outputOf, output}
-use Rattle.layout_table.specs.Parts.{Tabled, Printable, LampsIn, lineOf}
+use Rattle.layout_table.specs.declared.parts.Table.{Table}
+use Rattle.layout_table.specs.Tables.{keyLine, lineIn, tableIn, getTable, layoutOn, lineLayout, lineTable, refusalLine, outputOf, output}
+use Rattle.layout_table.specs.Parts.{Sound, lineOf, lineFrom, TableOf}
+use Rattle.layout_table.proofs.Lines.{line-is}
 
--- ---- what is asked
+-- ---- a table of a layout
+
+pub line-parts : (l : Layout) (key : ℕ) → keyLine key (listedName l key) (lampIn l key) ≡ lineIn l key
+unfolding lineIn
+line-parts l key = refl
+
+module _ (l : Layout) (ok : Laid l) (s : Speller) (names : SpellerOf l s) (p : Plan) (w : PlanOf l p) (T : ℕ) (is : T ≡ totalOf p) where
+  abbrev made : Table
+  made = record { speller = s; plan = p; total = T; keys = l .octave }
+
+  sound : Sound made
+  unfolding solvedOf
+  sound =
+      let solved = names .solved-are in
+      record {
+        names = names .sound;
+        layers = w .sound;
+        total-is = is;
+        keys-are = names .octave-is;
+        cycles-agree = w .cycles-are ∙ sym (ap (λ (x : Solved). x .«num_cycles») solved);
+        periods-agree = w .period-is ∙ sym (ap (λ (x : Solved). x .«reduced_period») solved);
+        inverses-agree = w .inverse-is ∙ sym (ap (λ (x : Solved). x .«generator_inverse») solved);
+      }
+
+  pub table-made : TableOf l made
+  table-made =
+      record {
+        sound = sound;
+        octave-is = refl;
+        lines =
+            λ key h. sym (line-is made key (listedName l key) (lampIn l key) (sym (names .names key))
+            (sym (octave-lamp-is l p w (laid l ok .positive) T (is ∙ count-is l p w) key h))) ∙ line-parts l key;
+      }
+
+pub table-is : (l : Layout) (t : Table) → TableOf l t → joined (lineOf t) (t .keys) ≡ tableIn l
+unfolding tableIn
+table-is l t w =
+    ap (joined (lineOf t)) (w .octave-is) ∙ joined-same (lineOf t) (lineIn l) (l .octave) (λ k h. w .lines k h)
+
+-- ---- where the walk stands, for names and for lamps
+
+module _ (t : Table) (sound : Sound t) (key : ℕ) (step : Step) (at : At (t .speller .solved) key step) where
+  pub step-for-lamps : (step .degree ≡ inverseOf (t .plan .chain) * (key / t .plan .chain .«num_cycles») % t .plan .chain .«reduced_period»)
+      × (step .cycle ≡ key % t .plan .chain .«num_cycles»)
+  step-for-lamps = (
+    rw (sound .inverses-agree, sound .cycles-agree, sound .periods-agree) (at .degree-is),
+    rw (sound .cycles-agree) (at .cycle-is),
+  )
+
+-- ---- what is asked of a layout
 
 pub table-refused : (r : IsomorphicLayout) (n : ℕ) → refused n ≡ layoutOutcome r → refused n ≡ getTable r
 unfolding getTable
 table-refused r n e = of-refused r _ n e
 
 module _ (r : IsomorphicLayout) (l : Layout) (e : given l ≡ layoutOutcome r) where
-  -- by the plan's number of layer numbers
-  module _ (p : Plan) (w : PlanOf l p) (T : ℕ) (is : T ≡ totalOf p) where
-    decided : hasLampsIn l ≡ leb T 202
-    decided = lamps-by-count-at r l (sym e) ∙ ap (λ (t : ℕ). leb t 202) (sym (is ∙ count-is l p w))
-
-    pub table-too-deep : 202 < T → refused 9 ≡ getTable r
-    unfolding getTable
-    table-too-deep many = ap (λ (b : Bool). ask 9 b (given (tableIn l))) (sym (decided ∙ lt-leb T 202 many)) ∙ of-given r _ l e
-
-    pub has-table : T ≤ 202 → Tabled r l
-    has-table few = record { accepted = sym e; has-lamps = decided ∙ le-leb T 202 few }
-
--- ---- a table
-
-pub printable : (r : IsomorphicLayout) (l : Layout) → Tabled r l → Printable l
-printable r l ok = record { caller = r; tabled = ok }
-
-module _ (r : IsomorphicLayout) (l : Layout) (ok : Tabled r l) where
   pub table-given : given (tableIn l) ≡ getTable r
   unfolding getTable
-  table-given = ap (λ (b : Bool). ask 9 b (given (tableIn l))) (sym (ok .has-lamps)) ∙ of-given r _ l (sym (ok .accepted))
+  table-given = of-given r _ l e
 
-  pub table-counted : (n : ℕ) → n ≡ length (tableIn l) → given n ≡ counted (getTable r)
-  table-counted n q = ap given q ∙ ap counted table-given
+  module _ (t : Table) (w : TableOf l t) where
+    pub table-counted : (n : ℕ) → n ≡ length (joined (lineOf t) (t .keys)) → given n ≡ counted (getTable r)
+    table-counted n q = ap given (q ∙ ap length (table-is l t w)) ∙ ap counted table-given
 
-  pub table-in-room : (room : ℕ) → heldIn room (tableIn l) ≡ inRoom room (getTable r)
-  table-in-room room = ap (λ (o : Outcome (List ℕ)). andThen o (heldIn room)) table-given
+    pub table-in-room : (room : ℕ) → heldIn room (joined (lineOf t) (t .keys)) ≡ inRoom room (getTable r)
+    table-in-room room =
+        ap (heldIn room) (table-is l t w) ∙ ap (λ (o : Outcome (List ℕ)). andThen o (heldIn room)) table-given
 
-module _ (l : Layout) (ok : Printable l) where
-  pub laid-out : Laid l
-  laid-out = record { caller = ok .caller; accepted = ok .tabled .accepted }
+-- ---- what is asked of a line
 
-  pub few-keys : l .octave ≤ 1818
-  few-keys = lamps-bound-the-octave (ok .caller) l (ok .tabled .accepted) (ok .tabled .has-lamps)
+pub line-not-read : (line : List ℕ) (n : ℕ) → refused n ≡ lineOutcome line → refused n ≡ lineLayout line
+unfolding lineLayout
+line-not-read line n e = ap (λ (o : Outcome Line). andThen o (λ (a : Line). layoutOutcome (layoutOn a))) e
 
-  pub table-is : (s : Speller) → SpellerOf l s → (strip : List ℕ) → LampsIn l strip → joined (lineOf s strip) (l .octave) ≡ tableIn l
-  unfolding tableIn lineOf
-  table-is s names strip lamps =
-      joined-same (lineOf s strip) _ (l .octave) (λ k h. ap₂ (λ (x : List ℕ) (y : ℕ). keyLine k x y) (names .names k) (lamps .lamps k h))
+pub line-read : (line : List ℕ) (a : Line) (o : Outcome Layout) → given a ≡ lineOutcome line → o ≡ layoutOutcome (layoutOn a) → o ≡ lineLayout line
+unfolding lineLayout
+line-read line a o e q = q ∙ ap (λ (x : Outcome Line). andThen x (λ (b : Line). layoutOutcome (layoutOn b))) e
 
-  -- the lamps that a plan gives
-  module _ (p : Plan) (w : PlanOf l p) (T : ℕ) (is : T ≡ totalOf p) where
-    total : T ≡ countIn l
-    total = is ∙ count-is l p w
+-- the output, by the layout that the line asks for
+by-layout : (o : Outcome Line) → andThen o (λ (a : Line). getTable (layoutOn a)) ≡ andThen (andThen o (λ (a : Line). layoutOutcome (layoutOn a))) (λ (l : Layout). given (tableIn l))
+unfolding getTable
+by-layout (given a) = refl
+by-layout (refused n) = refl
 
-    pub lamps-few : T ≤ 202
-    lamps-few = omega (arith, total, few-numbers (ok .caller) l (ok .tabled .accepted) (ok .tabled .has-lamps))
+module _ (line : List ℕ) where
+  output-by : outputOf (andThen (lineLayout line) (λ (l : Layout). given (tableIn l))) ≡ output line
+  unfolding output lineTable lineLayout
+  output-by = ap outputOf (sym (by-layout (lineOutcome line)))
 
-    some : 0 < l .octave
-    some = accepted (ok .caller) l (ok .tabled .accepted) .positive
+  pub output-refused : (k n : ℕ) → k ≡ n → refused n ≡ lineLayout line → refusalLine k ≡ output line
+  output-refused k n i e =
+      ap refusalLine i ∙ ap (λ (o : Outcome Layout). outputOf (andThen o (λ (l : Layout). given (tableIn l)))) e ∙ output-by
 
-    pub lamps-room : (n : ℕ) → l .octave ≤ n → keysOf (p .chain) ≤ n
-    lamps-room n long = omega (arith, keys-are l p w some)
+  pub output-given : (l : Layout) → given l ≡ lineLayout line → tableIn l ≡ output line
+  output-given l e = ap (λ (o : Outcome Layout). outputOf (andThen o (λ (x : Layout). given (tableIn x)))) e ∙ output-by
 
-    pub lamps-put : (xs ys : List ℕ) → Fronted (planStrip p T (p .chain .«reduced_period»)) xs ys → LampsIn l ys
-    unfolding codesOf
-    lamps-put xs ys front =
-        let strip = octaveStripIn l in
-        let whole : length strip ≡ l .octave = length-listed (lampIn l) (l .octave) in
-        let is-strip : planStrip p T (p .chain .«reduced_period») ≡ strip = octave-strip-is l p w some T total _ refl in
+-- a line's layout is accepted, and has 4,096 keys at most
+octave-few : (line : List ℕ) (a : Line) → lineOutcome line ≡ given a → a .octave ≤ 4096
+unfolding lineOutcome isLine
+octave-few line a e =
+    let tests = isField line 0 space && isField line (octaveAt line) space && isField line (tritaveAt line) lineFeed in
+    let fits = leb-true _ 4096 (and-right tests _ (asked-yes 14 (isLine line) _ e)) in
+    subst (λ (x : Line). x .octave ≤ 4096) (given-same (asked-rest 14 (isLine line) _ e)) fits
+
+pub record LineLaid (l : Layout) : Type 0 where
+  pub is-laid : Laid l
+  pub few-keys : l .octave ≤ 4096
+
+pub line-laid : (line : List ℕ) (l : Layout) → given l ≡ lineLayout line → LineLaid l
+unfolding lineLayout
+line-laid line l e = by (lineOutcome line) refl e
+  where
+    by : (o : Outcome Line) → lineOutcome line ≡ o → given l ≡ andThen o (λ (a : Line). layoutOutcome (layoutOn a)) → LineLaid l
+    by (given a) is f =
         record {
-          lamps = λ key h. ap (λ (zs : List ℕ). getD zs key 0) (front ∙ ap (λ (t : List ℕ). t ++ drop (length t) xs) is-strip)
-              ∙ List·getD-append strip (drop (length strip) xs) 0 key (omega (arith, h, whole))
-              ∙ listed-at (lampIn l) (l .octave) key h;
+          is-laid = record { caller = layoutOn a; accepted = sym f };
+          few-keys = omega (arith, octave-is (layoutOn a) l (sym f), octave-few line a is);
         }
+    by (refused n) is f = absurd (let z : _≡_ {A = ℕ} 0 1 = cc in let y : ⊥ = omega (arith, z) in y)
 
--- ---- the output for a line
-
-module _ (line : List ℕ) (room : ℕ) where
-  pub output-no-line : (k n : ℕ) → k ≡ n → refused n ≡ lineOutcome line → heldIn room (refusalLine k) ≡ heldIn room (output line)
-  unfolding output lineTable
-  output-no-line k n q e =
-      ap (λ (i : ℕ). heldIn room (refusalLine i)) q
-      ∙ ap (λ (o : Outcome Line). heldIn room (outputOf (andThen o (λ (a : Line). getTable (layoutOn a))))) e
-
-  module _ (a : Line) (e : given a ≡ lineOutcome line) where
-    output-asked : outputOf (getTable (layoutOn a)) ≡ output line
-    unfolding output lineTable
-    output-asked = ap (λ (o : Outcome Line). outputOf (andThen o (λ (x : Line). getTable (layoutOn x)))) e
-
-    pub output-refused : (k n : ℕ) → k ≡ n → refused n ≡ getTable (layoutOn a) → heldIn room (refusalLine k) ≡ heldIn room (output line)
-    output-refused k n i q = ap (heldIn room) (ap refusalLine i ∙ ap outputOf q ∙ output-asked)
-
-    pub output-given : (t : List ℕ) → given t ≡ getTable (layoutOn a) → heldIn room t ≡ heldIn room (output line)
-    output-given t q = ap (heldIn room) (ap outputOf q ∙ output-asked)
+-- all lines, from the first on
+pub whole-table : (t : Table) (n : ℕ) → joined (lineFrom t 0) n ≡ joined (lineOf t) n
+whole-table t n = joined-same (lineFrom t 0) (lineOf t) n (λ k h. ap (lineOf t) (zero-add k))

@@ -1,70 +1,149 @@
--- How long an output can be: T, at most 202 where there are lamps, bounds the keys and each name; and the numbers of refusals are small.
-use Prim.Native.Nat.{ℕ, zero, suc, _+_, _*_, _%_, _≤_, _<_}
-use mathlib.Core.Path.{_≡_, refl, sym, subst}
+-- How long a line, a table and an output can be. A key has at most R / N + 1 signs and fewer stars than n, so at most P / 5 + 1 of both,
+-- since N is 5 at least and n × R is P; and the numbers of refusals are small.
+use Prim.Native.Nat.{ℕ, zero, suc, _+_, _*_, _/_, _%_, _≤_, _<_}
+use mathlib.Core.Path.{_≡_, refl, sym, ap, subst}
 use mathlib.Core.Bool.{Bool, true, false}
 use mathlib.Core.Option.{Option, none, some}
 use mathlib.Core.List.{List}
+use native.Mathlib.Nat.{le-refl, one-mul, mul-one, mul-suc, mul-add, mul-comm, mul-assoc, mul-le-mul, mul-le-mul-left, mod-lt, div-add-mod', le-div-iff-mul-le}
+use native.Mathlib.Decide.{decLt}
 use native.Mathlib.Omega.{arith}
+use lib.IntN.{ℤ, pos}
 use lib.ListN.{length}
 use lib.Dec.{leb, ltb, eqb}
 use Rattle.answer.specs.Outcome.{Outcome, given, refused, ask, andThen}
+use Rattle.answer.proofs.Asked.{given-same}
 use Rattle.genchain.specs.Chains.{chainOf, minus, dividedBy, twice}
 use Rattle.genchain.specs.Answers.{generatorOutcome}
 use Rattle.mos.specs.declared.Mos.{Mos}
 use Rattle.notes.proofs.ShortNames.{names-are-short}
+use Rattle.pergen.specs.Pergen.{cycles, reduced}
+use Rattle.pergen.specs.Spelling.{starsOf}
+use Rattle.pergen.proofs.Inverse.{period-is, cycles-positive}
+use Rattle.pergen.proofs.Keys.{key-cycle-below}
+use Rattle.pergen.proofs.DegreePlaces.{stars-are, few-signs}
 use Rattle.layout.specs.declared.IsomorphicLayout.{IsomorphicLayout}
 use Rattle.layout.specs.Layouts.{Layout, lettersOf, withPattern, layoutOutcome, Accepted, accidentalsIn, sharpFirst}
-use Rattle.layout.proofs.Finding.{generatorOf, walked}
-use lib.IntN.{pos}
 use Rattle.layout.specs.Names.{nameIn, listedName}
-use Rattle.layout_layers.proofs.Counts.{signs-by-count}
-use Rattle.layout_lamps.specs.Lamps.{lampIn, hasLampsIn}
-use Rattle.layout_lamps.proofs.Theorems.{few-numbers, lamps-bound-the-octave, codes-fit-bytes}
+use Rattle.layout.proofs.Finding.{Parts, generatorOf, walked, accepted, octave-is}
+use Rattle.layout.proofs.PatternShape.{PatternShape, pattern-shape}
+use Rattle.layout_layers.proofs.Counts.{sum-by-product}
+use Rattle.layout_lamps.specs.Lamps.{lampIn}
+use Rattle.layout_lamps.proofs.Theorems.{codes-fit}
 use Rattle.layout_speller.proofs.Rounds.{short-texts}
 use Rattle.text.proofs.Digits.{digits-length}
 use Rattle.line.specs.Lines.{isLine, lineOutcome}
 use Rattle.line.specs.declared.Line.{Line}
-use Rattle.layout_table.specs.Tables.{keyLine, tableIn, getTable, layoutOn, lineTable, refusalLine, outputOf, output}
-use Rattle.layout_table.specs.Theorems.{TablesFit}
+use Rattle.layout_table.specs.Tables.{lineIn, tableIn, getTable, layoutOn, lineLayout, refusalLine, output}
+use Rattle.layout_table.specs.Theorems.{lineRoom, TablesFit}
 use Rattle.layout_table.proofs.Lines.{length-line, length-refusal}
+use Rattle.layout_table.proofs.Calls.{line-parts, output-refused, output-given, line-laid}
 
--- ---- a table
+-- ---- signs and stars
 
-module _ (r : IsomorphicLayout) (l : Layout) (ok : Accepted r l) (has : hasLampsIn l ≡ true) where
-  abbrev name : ℕ → List ℕ
-  name = listedName l
+-- a quotient and one more is enough
+quotient-most : (N signs R : ℕ) → 0 < N → N * signs < R + N → signs ≤ R / N + 1
+quotient-most N signs R h l = by (decLt (R / N + 1) signs)
+  where
+    by : Dec (R / N + 1 < signs) → signs ≤ R / N + 1
+    by (no few) = omega arith
+    by (yes more) =
+        absurd (let z : ⊥ = omega (
+          arith,
+          mul-le-mul-left N more,
+          mul-suc N (R / N + 1),
+          mul-add N (R / N) 1,
+          mul-one N,
+          div-add-mod' R N,
+          mul-comm (R / N) N,
+          mod-lt R h,
+          l,
+        ) in z)
 
-  abbrev lamp : ℕ → ℕ
-  lamp = lampIn l
+module _ (r : IsomorphicLayout) (l : Layout) (ok : Accepted r l) where
+  abbrev P : ℕ
+  P = l .octave
 
-  -- at most 7 bytes, and signs and stars
-  name-most : (key : ℕ) → length (name key) ≤ 209
-  unfolding nameIn
-  name-most key =
+  abbrev G : ℕ
+  G = l .generator
+
+  abbrev N : ℕ
+  N = l .letters
+
+  abbrev R : ℕ
+  R = reduced P G
+
+  abbrev n : ℕ
+  n = cycles P G
+
+  parts : Parts l
+  parts = accepted r l ok
+
+  shape : PatternShape l
+  shape = pattern-shape l parts
+
+  -- N letters fill q rounds of a cycle, and n cycles the octave
+  rounds-fill : 5 * (n * (R / N)) ≤ P
+  rounds-fill =
+      let q = R / N in
       omega (
         arith,
-        names-are-short (chainOf (l .chain) .letters) (sharpFirst l) (accidentalsIn l (pos key)),
-        signs-by-count r l ok (pos key),
-        few-numbers r l ok has,
+        mul-le-mul {n₁ = 5} {m₁ = n * q} {n₂ = N} {m₂ = n * q} (shape .at-least-five) (le-refl (n * q)),
+        mul-comm N (n * q),
+        mul-assoc n q N,
+        mul-le-mul-left n (let e : q * N ≤ R = omega (arith, div-add-mod' R N, mul-comm q N) in e),
+        mul-comm n R,
+        period-is P G (parts .positive),
       )
 
-  few-keys : l .octave ≤ 1818
-  few-keys = lamps-bound-the-octave r l ok has
+  some-rounds : 0 < R / N
+  some-rounds =
+      le-div-iff-mul-le {k = N} {x = 1} {y = R} (omega (arith, shape .at-least-five)) .1 (let e : 1 * N ≤ R = omega (arith, one-mul N, shape .enough-keys) in e)
 
-  line-most : (key : ℕ) → key < l .octave → length (keyLine key (name key) (lamp key)) ≤ 222
-  line-most key h =
-      omega (
+  signs-most : (key : ℤ) → (accidentalsIn l key) .«sharp_count» + (accidentalsIn l key) .«flat_count» + starsOf ((accidentalsIn l key) .cycle) ≤ P / 5 + 1
+  unfolding accidentalsIn
+  signs-most key =
+      fifth _ P (omega (
         arith,
-        length-line key (name key) (lamp key),
-        digits-length key (omega (arith, few-keys)) .few,
-        name-most key,
-        digits-length (lamp key) (omega (arith, codes-fit-bytes r l ok has key)) .few,
-      )
+        quotient-most N _ R (omega (arith, shape .at-least-five)) (few-signs P G N (l .start) key (parts .positive) (shape .start-below) (shape .enough-keys)),
+        stars-are P G N (l .start) key (parts .positive) (shape .start-below),
+        key-cycle-below P G (parts .positive) key,
+        sum-by-product n (R / N) (cycles-positive P G (parts .positive)) some-rounds,
+        rounds-fill,
+      ))
+    where
+      fifth : (x P : ℕ) → 5 * x ≤ P + 5 → x ≤ P / 5 + 1
+      fifth x P h = omega (arith, h)
 
-  table-most : length (tableIn l) ≤ 403596
-  unfolding tableIn
-  table-most =
-      omega (arith, short-texts 222 (λ key. keyLine key (name key) (lamp key)) (l .octave) line-most, few-keys)
+  -- ---- a table
+
+  module _ (wide : l .octave ≤ 65535) where
+    abbrev name : ℕ → List ℕ
+    name = listedName l
+
+    abbrev lamp : ℕ → ℕ
+    lamp = lampIn l
+
+    name-most : (key : ℕ) → length (name key) ≤ P / 5 + 8
+    unfolding nameIn
+    name-most key =
+        omega (arith, names-are-short (chainOf (l .chain) .letters) (sharpFirst l) (accidentalsIn l (pos key)), signs-most (pos key))
+
+    line-most : (key : ℕ) → key < P → length (lineIn l key) ≤ lineRoom P
+    line-most key h =
+        omega (
+          arith,
+          ap length (line-parts l key),
+          length-line key (name key) (lamp key),
+          digits-length key (omega (arith, wide, h)) .few,
+          name-most key,
+          digits-length (lamp key) (omega (arith, codes-fit r l ok wide key)) .few,
+        )
+
+    table-most : length (tableIn l) ≤ P * lineRoom P
+    unfolding tableIn
+    table-most =
+        omega (arith, short-texts (lineRoom P) (lineIn l) P line-most, mul-comm (lineRoom P) P)
 
 -- ---- a refusal's number is at most 22
 
@@ -124,35 +203,53 @@ line-low : (line : List ℕ) → Low (lineOutcome line)
 unfolding lineOutcome
 line-low line = ask-low 14 (isLine line) _ (omega arith) tt
 
-refusal-most : (n : ℕ) → n ≤ 22 → length (refusalLine n) ≤ 403596
+asked-low : (line : List ℕ) → Low (lineLayout line)
+unfolding lineLayout
+asked-low line = then-low (lineOutcome line) (λ (a : Line). layoutOutcome (layoutOn a)) (line-low line) (λ a. layout-low (layoutOn a))
+
+refusal-most : (n : ℕ) → n ≤ 22 → length (refusalLine n) ≤ 3440640
 refusal-most n h = omega (arith, length-refusal n, digits-length n (omega arith) .few)
 
 -- ---- an output
 
-with-lamps : (r : IsomorphicLayout) (l : Layout) → Accepted r l → (has : Bool) → hasLampsIn l ≡ has
-    → length (outputOf (ask 9 has (given (tableIn l)))) ≤ 403596
-with-lamps r l ok true has = table-most r l ok has
-with-lamps r l ok false has = refusal-most 9 (omega arith)
+pub line-room-few : (octave : ℕ) → octave ≤ 4096 → lineRoom octave ≤ 840
+line-room-few octave h = omega (arith, h)
 
-table-fits : (r : IsomorphicLayout) → length (outputOf (getTable r)) ≤ 403596
+-- a line's table
+few-most : (P : ℕ) → P ≤ 4096 → P * lineRoom P ≤ 3440640
+few-most P h = mul-le-mul {n₁ = P} {m₁ = lineRoom P} {n₂ = 4096} {m₂ = 840} h (line-room-few P h)
+
+output-fits : (line : List ℕ) → length (output line) ≤ 3440640
+output-fits line = by (lineLayout line) refl (asked-low line)
+  where
+    by : (o : Outcome Layout) → lineLayout line ≡ o → Low (lineLayout line) → length (output line) ≤ 3440640
+    by (given l) is low =
+        let laid = line-laid line l (sym is) in
+        let few = laid .few-keys in
+        omega (
+          arith,
+          ap length (output-given line l (sym is)),
+          table-most (laid .is-laid .caller) l (laid .is-laid .accepted) (omega (arith, few)),
+          few-most (l .octave) few,
+        )
+    by (refused n) is low =
+        omega (arith, ap length (output-refused line n n refl (sym is)), refusal-most n (subst Low is low))
+
+table-fits : (r : IsomorphicLayout) → r .octave ≤ 65535 → (text : List ℕ) → getTable r ≡ given text → length text ≤ r .octave * lineRoom (r .octave)
 unfolding getTable
-table-fits r = by (layoutOutcome r) refl
+table-fits r wide text e = by (layoutOutcome r) refl e
   where
-    by : (o : Outcome Layout) → layoutOutcome r ≡ o → length (outputOf (andThen o (λ (l : Layout). ask 9 (hasLampsIn l) (given (tableIn l))))) ≤ 403596
-    by (given l) is = with-lamps r l is (hasLampsIn l) refl
-    by (refused n) is = refusal-most n (subst Low is (layout-low r))
-
-output-fits : (line : List ℕ) → length (output line) ≤ 403596
-unfolding output lineTable
-output-fits line = by (lineOutcome line) (line-low line)
-  where
-    by : (o : Outcome Line) → Low o → length (outputOf (andThen o (λ (a : Line). getTable (layoutOn a)))) ≤ 403596
-    by (given a) low = table-fits (layoutOn a)
-    by (refused n) low = refusal-most n low
+    by : (o : Outcome Layout) → layoutOutcome r ≡ o → andThen o (λ (l : Layout). given (tableIn l)) ≡ given text → length text ≤ r .octave * lineRoom (r .octave)
+    by (given l) is f =
+        let octave = octave-is r l is in
+        let most = table-most r l is (omega (arith, octave, wide)) in
+        omega (arith, most, ap length (given-same f), ap (λ (k : ℕ). k * lineRoom k) octave)
+    by (refused n) is f = absurd (let z : _≡_ {A = ℕ} 0 1 = cc in let y : ⊥ = omega (arith, z) in y)
 
 pub tables-fit : TablesFit
 tables-fit =
     record {
-      table = λ r text e. subst (λ (o : Outcome (List ℕ)). length (outputOf o) ≤ 403596) e (table-fits r);
+      line = λ r l ok wide key h. line-most r l ok wide key h;
+      table = table-fits;
       printed = output-fits;
     }

@@ -1,16 +1,17 @@
 -- A key's line: its length part by part, and the sum of the lines' lengths: all names, and all the rest.
 use Prim.Native.Nat.{ℕ, zero, suc, _+_}
-use mathlib.Core.Path.{_≡_, refl, ap}
+use mathlib.Core.Path.{_≡_, refl, ap, ap₂}
 use mathlib.Core.List.{List, [], _∷_, _++_}
 use native.Mathlib.Omega.{arith}
-use lib.ListN.{length, length-append, getD}
+use lib.ListN.{length, length-append}
 use Rattle.text.specs.Writing.{joined}
 use Rattle.text.specs.Decimal.{digits}
 use Rattle.line.specs.Lines.{space, lineFeed}
-use Rattle.layout_speller.specs.declared.speller.Speller.{Speller}
 use Rattle.layout_speller.specs.Parts.{nameOf}
 use Rattle.layout_table.specs.Tables.{keyLine, refusedWord, refusalLine}
-use Rattle.layout_table.specs.Parts.{lineOf, numbersLine}
+use Rattle.layout_lamps.specs.Parts.{planLamp}
+use Rattle.layout_table.specs.declared.parts.Table.{Table}
+use Rattle.layout_table.specs.Parts.{lineOf, numbersOf}
 
 -- ---- the length of a line
 
@@ -26,33 +27,37 @@ length-line key name lamp =
       length-append (digits key ++ (space ∷ []) ++ name ++ (space ∷ []) ++ digits lamp) (lineFeed ∷ []),
     )
 
--- a line by the name that the code planned
-pub line-is : (s : Speller) (strip : List ℕ) (k : ℕ) (name : List ℕ) → name ≡ nameOf s k → keyLine k name (getD strip k 0) ≡ lineOf s strip k
+-- a line by the name that the code planned, and the lamp that it found
+pub line-is : (t : Table) (k : ℕ) (name : List ℕ) (lamp : ℕ) → name ≡ nameOf (t .speller) k → lamp ≡ planLamp (t .plan) (t .total) k
+    → keyLine k name lamp ≡ lineOf t k
 unfolding lineOf
-line-is s strip k name e = ap (λ (x : List ℕ). keyLine k x (getD strip k 0)) e
+line-is t k name lamp e f = ap₂ (λ (x : List ℕ) (y : ℕ). keyLine k x y) e f
 
 -- ---- the sum of the lengths
 
 -- of a line without its name
-pub length-numbers : (strip : List ℕ) (k : ℕ) → length (numbersLine strip k) ≡ length (digits k) + length (digits (getD strip k 0)) + 3
-unfolding numbersLine
-length-numbers strip k = omega (arith, length-line k [] (getD strip k 0))
+pub length-numbers : (t : Table) (k lamp : ℕ) → lamp ≡ planLamp (t .plan) (t .total) k → length (numbersOf t k) ≡ length (digits k) + length (digits lamp) + 3
+unfolding numbersOf
+length-numbers t k lamp e =
+    omega (arith, length-line k [] (planLamp (t .plan) (t .total) k), ap (λ (x : ℕ). length (digits x)) e)
 
 -- all names, and all the rest
-pub length-lines : (s : Speller) (strip : List ℕ) (keys : ℕ)
-    → length (joined (nameOf s) keys) + length (joined (numbersLine strip) keys) ≡ length (joined (lineOf s strip) keys)
+pub length-lines : (t : Table) (keys : ℕ)
+    → length (joined (nameOf (t .speller)) keys) + length (joined (numbersOf t) keys) ≡ length (joined (lineOf t) keys)
 unfolding joined
-length-lines s strip zero = refl
-length-lines s strip (suc k) =
+length-lines t zero = refl
+length-lines t (suc k) =
+    let lamp = planLamp (t .plan) (t .total) k in
+    let name = nameOf (t .speller) k in
     omega (
       arith,
-      length-lines s strip k,
-      length-append (joined (nameOf s) k) (nameOf s k),
-      length-append (joined (numbersLine strip) k) (numbersLine strip k),
-      length-append (joined (lineOf s strip) k) (lineOf s strip k),
-      length-numbers strip k,
-      length-line k (nameOf s k) (getD strip k 0),
-      ap length (line-is s strip k (nameOf s k) refl),
+      length-lines t k,
+      length-append (joined (nameOf (t .speller)) k) name,
+      length-append (joined (numbersOf t) k) (numbersOf t k),
+      length-append (joined (lineOf t) k) (lineOf t k),
+      length-numbers t k lamp refl,
+      length-line k name lamp,
+      ap length (line-is t k name lamp refl refl),
     )
 
 -- ---- a refusal's line

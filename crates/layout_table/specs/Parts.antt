@@ -1,46 +1,40 @@
--- What the parts behind the calls promise: the table by the speller and the strip that the code follows.
-use Prim.Native.Nat.{ℕ, _<_}
+-- What the parts behind the calls promise: the table by the speller and the plan of layers that the code follows.
+use Prim.Native.Nat.{ℕ, _+_, _*_, _<_}
 use mathlib.Core.Path.{_≡_}
-use mathlib.Core.Bool.{true}
 use mathlib.Core.List.{List, []}
-use lib.ListN.{getD}
-use Rattle.answer.specs.Outcome.{refused}
-use Rattle.answer.specs.Refusals.{numberOf}
-use Rattle.layout_lamps.specs.Lamps.{lampIn, hasLampsIn}
-use Rattle.layout.specs.declared.IsomorphicLayout.{IsomorphicLayout}
-use Rattle.layout.specs.declared.parts.FoundAnswer.{FoundAnswer}
-use Rattle.layout.specs.declared.parts.FoundAnswer.the-variants as FoundAnswer
-use Rattle.layout.specs.Layouts.{Layout, Accepted}
-use Rattle.layout.specs.Parts.{layoutOf}
-use Rattle.layout_speller.specs.declared.speller.Speller.{Speller}
-use Rattle.layout_speller.specs.Parts.{nameOf}
-use Rattle.layout_table.specs.Tables.{keyLine, getTable}
+use Rattle.layout.specs.Layouts.{Layout}
+use Rattle.layout_layers.specs.Parts as Layers
+use Rattle.layout_lamps.specs.Parts.{planLamp}
+use Rattle.layout_speller.specs.Parts as Speller
+use Rattle.layout_table.specs.declared.parts.Table.{Table}
+use Rattle.layout_table.specs.Tables.{keyLine, lineIn}
 
--- What the questions gave has a table: it is accepted, and has lamps.
-pub record Tabled (r : IsomorphicLayout) (l : Layout) : Type 0 where
-  pub accepted : Accepted r l
-  pub has-lamps : hasLampsIn l ≡ true
+-- A table that can be written: names and lamps can be followed, and go by the same chain.
+pub record Sound (t : Table) : Type 0 where
+  pub names : Speller.Sound (t .speller)
+  pub layers : Layers.Sound (t .plan)
+  pub total-is : t .total ≡ Layers.totalOf (t .plan)
+  pub keys-are : t .keys ≡ t .speller .solved .«reduced_period» * t .speller .solved .«num_cycles»
+  pub cycles-agree : t .plan .chain .«num_cycles» ≡ t .speller .solved .«num_cycles»
+  pub periods-agree : t .plan .chain .«reduced_period» ≡ t .speller .solved .«reduced_period»
+  pub inverses-agree : Layers.inverseOf (t .plan .chain) ≡ t .speller .solved .«generator_inverse»
 
--- The answer to questions 1 to 4, 18 and 9: no table without it.
-abbrev pub Asked : IsomorphicLayout → FoundAnswer → Type 0
-Asked r (FoundAnswer.Given f) = Tabled r (layoutOf f)
-Asked r (FoundAnswer.Refused q) = refused (numberOf q) ≡ getTable r
-
--- The same of a layout alone, whoever asked.
-pub record Printable (l : Layout) : Type 0 where
-  pub caller : IsomorphicLayout
-  pub tabled : Tabled caller l
-
--- A slice whose front is the layout's strip.
-pub record LampsIn (l : Layout) (strip : List ℕ) : Type 0 where
-  pub lamps : (key : ℕ) → key < l .octave → getD strip key 0 ≡ lampIn l key
-
--- A key's line, with its lamp code on a strip.
-unfoldable pub lineOf : Speller → List ℕ → ℕ → List ℕ
-unfolding keyLine nameOf
-lineOf s strip key = keyLine key (nameOf s key) (getD strip key 0)
+-- A key's line.
+unfoldable pub lineOf : Table → ℕ → List ℕ
+unfolding keyLine Speller.nameOf planLamp
+lineOf t key = keyLine key (Speller.nameOf (t .speller) key) (planLamp (t .plan) (t .total) key)
 
 -- The same without its name.
-unfoldable pub numbersLine : List ℕ → ℕ → List ℕ
-unfolding keyLine
-numbersLine strip key = keyLine key [] (getD strip key 0)
+unfoldable pub numbersOf : Table → ℕ → List ℕ
+unfolding keyLine planLamp
+numbersOf t key = keyLine key [] (planLamp (t .plan) (t .total) key)
+
+-- The lines from a key on.
+abbrev pub lineFrom : Table → (from : ℕ) → ℕ → List ℕ
+lineFrom t from past = lineOf t (from + past)
+
+-- The table of a layout.
+pub record TableOf (l : Layout) (t : Table) : Type 0 where
+  pub sound : Sound t
+  pub octave-is : t .keys ≡ l .octave
+  pub lines : (key : ℕ) → key < l .octave → lineOf t key ≡ lineIn l key

@@ -1,9 +1,9 @@
 -- The key table (document 01, "Lamps and book", the last paragraph), as bytes.
 use Prim.Native.Nat.{ℕ}
 use mathlib.Core.List.{List, [], _∷_, _++_}
-use Rattle.answer.specs.Outcome.{Outcome, given, refused, ask, andThen}
+use Rattle.answer.specs.Outcome.{Outcome, given, refused, andThen}
 use Rattle.text.specs.Writing.{joined}
-use Rattle.layout_lamps.specs.Lamps.{lampOf, hasLamps, lampIn, hasLampsIn}
+use Rattle.layout_lamps.specs.Lamps.{lampOf, lampIn}
 use Rattle.layout.specs.declared.IsomorphicLayout.{IsomorphicLayout}
 use Rattle.layout.specs.Layouts.{Layout, layoutOutcome, defaultLayout}
 use Rattle.layout.specs.Names.{nameIn, listedName}
@@ -17,19 +17,29 @@ unfoldable pub keyLine : (key : ℕ) (name : List ℕ) (lamp : ℕ) → List ℕ
 unfolding digits
 keyLine key name lamp = digits key ++ (space ∷ []) ++ name ++ (space ∷ []) ++ digits lamp ++ (lineFeed ∷ [])
 
+-- The line of a key of the octave.
+unfoldable pub lineIn : Layout → (key : ℕ) → List ℕ
+unfolding keyLine nameIn lampOf
+lineIn l key = keyLine key (listedName l key) (lampIn l key)
+
 -- "a line per key from 0 to octave − 1 .. No header."
 unfoldable pub tableIn : Layout → List ℕ
-unfolding joined keyLine nameIn lampOf
-tableIn l = joined (λ key. keyLine key (listedName l key) (lampIn l key)) (l .octave)
+unfolding joined lineIn
+tableIn l = joined (lineIn l) (l .octave)
 
--- Questions 1 to 4 and 18, question 9, then the table.
+-- Questions 1 to 4 and 18, then the table; question 9 is not asked any more (document 02, W-207).
 unfoldable pub getTable : IsomorphicLayout → Outcome (List ℕ)
-unfolding layoutOutcome hasLamps tableIn
-getTable r = ofLayout r (λ (l : Layout). ask 9 (hasLampsIn l) (given (tableIn l)))
+unfolding layoutOutcome tableIn
+getTable r = ofLayout r (λ (l : Layout). given (tableIn l))
 
 -- The layout that a line asks for, with the chain's own start.
 abbrev pub layoutOn : Line → IsomorphicLayout
 layoutOn a = defaultLayout (a .genchain) (a .octave) (a .tritave)
+
+-- Question 14, then those of the layout.
+unfoldable pub lineLayout : List ℕ → Outcome Layout
+unfolding lineOutcome layoutOutcome
+lineLayout line = andThen (lineOutcome line) (λ (a : Line). layoutOutcome (layoutOn a))
 
 -- "The key table program reads one line, ignores bytes after it": question 14, then the table of the layout.
 unfoldable pub lineTable : List ℕ → Outcome (List ℕ)

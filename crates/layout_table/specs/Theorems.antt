@@ -1,15 +1,22 @@
 -- What holds of every table and of every output. Proofs: proofs/Fitting.antt.
-use Prim.Native.Nat.{ℕ, _≤_}
+use Prim.Native.Nat.{ℕ, _+_, _*_, _/_, _≤_, _<_}
 use mathlib.Core.Path.{_≡_}
 use mathlib.Core.List.{List}
 use lib.ListN.{length}
 use Rattle.answer.specs.Outcome.{given}
 use Rattle.layout.specs.declared.IsomorphicLayout.{IsomorphicLayout}
-use Rattle.layout_table.specs.Tables.{getTable, output}
+use Rattle.layout.specs.Layouts.{Layout, Accepted}
+use Rattle.layout_table.specs.Tables.{lineIn, getTable, output}
 
--- Theorem: a slice of 403,596 bytes holds every table and every output, so question 10 has the answer yes. That is 1,818 lines, as
--- many as there are keys in the largest octave with lamps, of 222 bytes: a name of at most 209, two numbers of at most five digits
--- (a key's and a lamp's have fewer), two spaces and a line feed.
+-- The most bytes that a line has in a table of so many keys: a name has at most 7 and, together, at most octave / 5 + 1 signs and stars;
+-- beside it stand two numbers of at most five digits, two spaces and a line feed.
+abbrev pub lineRoom : ℕ → ℕ
+lineRoom octave = octave / 5 + 21
+
+-- Theorem: how much room holds every line and every table (of octaves of 16 bits), and every output: 4,096 lines of 840 bytes.
 pub record TablesFit : Type 0 where
-  pub table : (r : IsomorphicLayout) (text : List ℕ) → getTable r ≡ given text → length text ≤ 403596
-  pub printed : (line : List ℕ) → length (output line) ≤ 403596
+  pub line : (r : IsomorphicLayout) (l : Layout) → Accepted r l → l .octave ≤ 65535 → (key : ℕ) → key < l .octave
+      → length (lineIn l key) ≤ lineRoom (l .octave)
+  pub table : (r : IsomorphicLayout) → r .octave ≤ 65535 → (text : List ℕ) → getTable r ≡ given text
+      → length text ≤ r .octave * lineRoom (r .octave)
+  pub printed : (line : List ℕ) → length (output line) ≤ 3440640

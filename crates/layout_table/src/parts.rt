@@ -1,81 +1,109 @@
-// How a table is written: parts, and no entry points. `ask_for_lamps` asks questions 1 to 4, 18 and 9; 10 is asked before a byte is written.
+// How a table is written: parts, and no entry points. `ask_line` asks questions 14, 1 to 4 and 18; 10 is asked before a byte is written.
 //
-// Row, pergen and lamps are read and solved once for all keys; degree and cycle are carried from key to key.
+// Row, pergen and plan of layers are read and solved once for all keys; degree and cycle are carried from key to key.
 use answer::CountAnswer;
 use answer::Refusal;
-use genchain::rows::ChainRow;
-use layout::IsomorphicLayout;
+use genchain::rows;
 use layout::parts::Found;
 use layout::parts::FoundAnswer;
+use layout_layers::parts::Plan;
+use layout_speller::speller;
 use layout_speller::speller::Speller;
+use line::LineAnswer;
 use notes::plans::NamePlan;
 use notes::texts;
+use pergen::euclid::Solved;
 use pergen::stepping;
+use pergen::stepping::Step;
 use text::decimal;
 use text::writer::put_byte;
 use text::writer::put_text;
 ghost use mathlib.Core.Path.{_≡_};
-ghost use Prim.Native.Nat.{_*_, _≤_};
+ghost use Prim.Native.Nat.{_+_, _*_, _≤_, _<_};
 ghost use lib.ListN.{length};
 ghost use Rattle.answer.specs.Lent.{heldIn, Filled};
 ghost use Rattle.answer.specs.Refusals.{countOutcome};
 ghost use Rattle.text.specs.Writing.{Room, Wrote, joined};
-ghost use Rattle.genchain.specs.Chains.{chainOf, rowOf};
-ghost use Rattle.layout.specs.Parts.{layoutOf};
+ghost use Rattle.pergen.specs.Parts.{Walkable, At};
+ghost use Rattle.layout.specs.Parts.{layoutOf, foundOutcome, Laid};
 ghost use Rattle.notes.specs.Parts.{planText, ShortLetters};
-ghost use Rattle.layout_table.specs.Tables.{keyLine, tableIn, refusalLine};
-ghost use Rattle.layout_speller.specs.Parts.{Sound};
-ghost use Rattle.layout_table.specs.Parts.{Asked, Printable, LampsIn, numbersLine, lineOf};
+ghost use Rattle.layout_table.specs.Tables.{keyLine, lineLayout, refusalLine};
+ghost use Rattle.layout_table.specs.Parts.{Sound, TableOf, numbersOf, lineOf, lineFrom};
 
-// Questions 1 to 4, 18 and 9, of a layout whose chain has this row.
-pub(crate) fn ask_for_lamps(layout: IsomorphicLayout, row: ChainRow) -> FoundAnswer
-    requires { ⌜ row ≡ rowOf (chainOf (layout .genchain)) ⌝ }
-    ensures { λ r. ⌜ Asked layout r ⌝ }
+// What all lines of a layout's table have in common.
+pub struct Table {
+    pub speller: Speller,
+    pub plan: Plan,
+    pub total: u16,
+    pub keys: u16,
+}
+
+// The layout that a line asks for (14, 1, 2, 3, 4).
+pub fn ask_line(line: &[u8]) -> FoundAnswer
+    ensures { λ r. ⌜ foundOutcome r ≡ lineLayout (now (line .entry)) ⌝ }
 {
-    match layout::parts::ask_with_row(layout, row) {
-        FoundAnswer::Refused(q) => FoundAnswer::Refused(q),
-        FoundAnswer::Given(found) => {
-            let plan = layout_layers::parts::plan_of(found);
-            if 202 < layout_layers::parts::total_of(plan) {
-                return FoundAnswer::Refused(Refusal::LampLayer);
-            }
-            FoundAnswer::Given(found)
-        }
+    match line::parse(line) {
+        LineAnswer::Refused(q) => FoundAnswer::Refused(q),
+        LineAnswer::Given(asked) => layout::parts::ask(layout::default_layout(
+            asked.genchain,
+            asked.octave,
+            asked.tritave,
+        )),
     }
 }
 
-// The lamp codes of the octave at the front of a slice that holds them.
-fn put_lamps(found: Found, strip: &mut [u8])
-    requires { ⌜ Printable (layoutOf found) × (found .octave ≤ length (now strip)) ⌝ }
-    ensures { λ r. ⌜ LampsIn (layoutOf found) (now (strip .exit)) ⌝ }
+// The table of an accepted layout.
+pub fn table_of(found: Found) -> Table
+    requires { ⌜ Laid (layoutOf found) ⌝ }
+    ensures { λ r. ⌜ TableOf (layoutOf found) r ⌝ }
 {
+    let row = rows::row(found.chain);
     let plan = layout_layers::parts::plan_of(found);
-    let total = layout_layers::parts::total_of(plan);
-    let chain = plan.chain;
-    layout_lamps::parts::put_strip(strip, plan, total, chain.reduced_period as u32);
+    Table {
+        speller: speller::speller_of(row, found),
+        plan,
+        total: layout_layers::parts::total_of(plan),
+        keys: found.octave,
+    }
 }
 
-// How many bytes the lines of the first keys have without their names.
-fn numbers_length(strip: &[u8], keys: u16) -> usize
-    requires { ⌜ keys ≤ length (now strip) ⌝ }
-    ensures { λ r. ⌜ (r ≡ length (joined (numbersLine (now (strip .entry))) keys)) × (r ≤ 13 * keys) ⌝ }
+// The step of a walk that begins at a key.
+fn step_at(solved: Solved, key: u16) -> Step
+    requires { ⌜ Walkable solved ⌝ }
+    ensures { λ r. ⌜ At solved key r ⌝ }
 {
+    let turn = (key / solved.num_cycles) as u32;
+    let degree = (solved.generator_inverse as u32) * turn % (solved.reduced_period as u32);
+    Step {
+        degree: degree as u16,
+        cycle: key % solved.num_cycles,
+    }
+}
+
+// How many bytes the lines of all keys have without their names.
+fn numbers_length(table: Table) -> usize
+    requires { ⌜ Sound table ⌝ }
+    ensures { λ r. ⌜ (r ≡ length (joined (numbersOf table) (table .keys))) × (r ≤ 13 * table .keys) ⌝ }
+{
+    let solved = table.speller.solved;
     let mut total: usize = 0;
+    let mut step = stepping::first(solved);
     let mut key: u16 = 0;
-    while key < keys {
-        let lamp = strip[key as usize] as u16;
+    while key < table.keys {
+        let lamp = layout_lamps::parts::code_at(table.plan, table.total, key, step);
         total += decimal::number_len(key) + decimal::number_len(lamp) + 3;
+        step = stepping::next(solved, step);
         key += 1;
     }
     total
 }
 
-// How many bytes the lines of an octave have together: those of all names, and the others.
-fn lines_length(speller: Speller, strip: &[u8], keys: u16) -> usize
-    requires { ⌜ Sound speller × (keys ≡ speller .solved .«reduced_period» * speller .solved .«num_cycles») × (keys ≤ length (now strip)) ⌝ }
-    ensures { λ r. ⌜ r ≡ length (joined (lineOf speller (now (strip .entry))) keys) ⌝ }
+// How many bytes the lines of all keys have together: those of all names, and the others.
+pub(crate) fn lines_length(table: Table) -> usize
+    requires { ⌜ Sound table ⌝ }
+    ensures { λ r. ⌜ r ≡ length (joined (lineOf table) (table .keys)) ⌝ }
 {
-    layout_speller::lengths::names_length(speller) + numbers_length(strip, keys)
+    layout_speller::lengths::names_length(table.speller) + numbers_length(table)
 }
 
 // A key's line; the place after it.
@@ -91,62 +119,41 @@ fn put_line(out: &mut [u8], at: usize, key: u16, name: NamePlan, lamp: u16) -> u
     put_byte(out, code, b'\n')
 }
 
-// The lines of the first keys; the place after the last.
-fn put_lines(out: &mut [u8], speller: Speller, strip: &[u8], keys: u16) -> usize
-    requires { ⌜ Sound speller × (keys ≤ length (now strip)) × Room (now out) 0 (joined (lineOf speller (now strip)) keys) ⌝ }
-    ensures { λ r. ⌜ Wrote (now (out .entry)) 0 (joined (lineOf speller (now (strip .entry))) keys) (now (out .exit)) r ⌝ }
+// The lines of so many keys, from a key on, at the front of a slice that is known to hold them; the place after the last.
+pub fn put_lines(out: &mut [u8], table: Table, from: u16, count: u16) -> usize
+    requires { ⌜ Sound table × (from + count ≤ table .keys) × Room (now out) 0 (joined (lineFrom table from) count) ⌝ }
+    ensures { λ r. ⌜ Wrote (now (out .entry)) 0 (joined (lineFrom table from) count) (now (out .exit)) r ⌝ }
 {
-    let solved = speller.solved;
+    let solved = table.speller.solved;
     let mut place: usize = 0;
-    let mut step = stepping::first(solved);
-    let mut key: u16 = 0;
-    while key < keys {
-        let name = layout_speller::speller::plan_at(speller, step);
-        let lamp = strip[key as usize] as u16;
+    let mut step = step_at(solved, from);
+    let mut past: u16 = 0;
+    while past < count {
+        let key = from + past;
+        let name = speller::plan_at(table.speller, step);
+        let lamp = layout_lamps::parts::code_at(table.plan, table.total, key, step);
         place = put_line(out, place, key, name, lamp);
         step = stepping::next(solved, step);
-        key += 1;
+        past += 1;
     }
     place
 }
 
-// The lines of an octave at the front of a slice that holds them (10).
-fn write_lines(speller: Speller, strip: &[u8], keys: u16, out: &mut [u8]) -> CountAnswer
-    requires { ⌜ Sound speller × (keys ≡ speller .solved .«reduced_period» * speller .solved .«num_cycles») × (keys ≤ length (now strip)) ⌝ }
-    ensures { λ r. ⌜ Filled (heldIn (length (now (out .entry))) (joined (lineOf speller (now (strip .entry))) keys)) (countOutcome r) (now (out .entry)) (now (out .exit)) ⌝ }
+// The lines of all keys at the front of a slice that holds them (10).
+pub(crate) fn write_lines(table: Table, out: &mut [u8]) -> CountAnswer
+    requires { ⌜ Sound table ⌝ }
+    ensures { λ r. ⌜ Filled (heldIn (length (now (out .entry))) (joined (lineOf table) (table .keys))) (countOutcome r) (now (out .entry)) (now (out .exit)) ⌝ }
 {
-    let bytes = lines_length(speller, strip, keys);
+    let bytes = lines_length(table);
     if out.len() < bytes {
         return CountAnswer::Refused(Refusal::Room);
     }
-    put_lines(out, speller, strip, keys);
+    put_lines(out, table, 0, table.keys);
     CountAnswer::Given(bytes)
 }
 
-// How many bytes a table has. No layout with lamps has more than 1,818 keys (`LampsBoundTheOctave` of `layout_lamps`).
-pub(crate) fn table_length(row: ChainRow, found: Found) -> usize
-    requires { ⌜ (row ≡ rowOf (chainOf (found .chain))) × Printable (layoutOf found) ⌝ }
-    ensures { λ r. ⌜ r ≡ length (tableIn (layoutOf found)) ⌝ }
-{
-    let mut strip: [u8; 1818] = [0; 1818];
-    put_lamps(found, &mut strip);
-    let speller = layout_speller::speller::speller_of(row, found);
-    lines_length(speller, &strip, found.octave)
-}
-
-// A table at the front of a slice that holds it (10). All lamp codes are found first, and then line by line the names.
-pub(crate) fn print_table(row: ChainRow, found: Found, out: &mut [u8]) -> CountAnswer
-    requires { ⌜ (row ≡ rowOf (chainOf (found .chain))) × Printable (layoutOf found) ⌝ }
-    ensures { λ r. ⌜ Filled (heldIn (length (now (out .entry))) (tableIn (layoutOf found))) (countOutcome r) (now (out .entry)) (now (out .exit)) ⌝ }
-{
-    let mut strip: [u8; 1818] = [0; 1818];
-    put_lamps(found, &mut strip);
-    let speller = layout_speller::speller::speller_of(row, found);
-    write_lines(speller, &strip, found.octave, out)
-}
-
-// A refusal's line; the place after it.
-fn put_refusal(out: &mut [u8], number: u16) -> usize
+// A refusal's line at the front of a slice that is known to hold it; the place after it.
+pub fn put_refusal(out: &mut [u8], number: u16) -> usize
     requires { ⌜ Room (now out) 0 (refusalLine number) ⌝ }
     ensures { λ r. ⌜ Wrote (now (out .entry)) 0 (refusalLine number) (now (out .exit)) r ⌝ }
 {

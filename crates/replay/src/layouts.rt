@@ -31,12 +31,12 @@ pub(crate) fn answer(kind: usize, layout: IsomorphicLayout, n: Values, out: &mut
         print::end_line();
         return;
     }
-    if kind == names::KEY_LAYERS {
-        answer_layers(layout, n.room);
-        return;
-    }
     if names::NAME < kind {
         answer_key(kind, layout, n.key);
+        return;
+    }
+    if names::KEY_LAYERS <= kind {
+        answer_list(kind, layout, n.room);
         return;
     }
     answer_layout(kind, layout, out);
@@ -70,10 +70,6 @@ pub(crate) fn layout_of(kind: usize, n: Values) -> IsomorphicLayout {
 }
 
 fn answer_layout(kind: usize, layout: IsomorphicLayout, out: &mut [u8]) {
-    if kind == names::LAMPS {
-        put_lamps(layout, out);
-        return;
-    }
     let made = layout::create_layout_beginning(
         layout.genchain,
         layout.octave,
@@ -125,15 +121,25 @@ fn put_names(layout: IsomorphicLayout, out: &mut [u8]) {
     print::end_line();
 }
 
-fn put_lamps(layout: IsomorphicLayout, out: &mut [u8]) {
-    let answer = layout_lamps::lamp_strip(layout, out);
-    print::bytes(out, answer);
-}
-
-fn answer_layers(layout: IsomorphicLayout, room: u16) {
+// A number for each key of the octave, or of two: the keys' layers, or the lamp strip.
+fn answer_list(kind: usize, layout: IsomorphicLayout, room: u16) {
     let mut out = print::list_room();
     let end = room as usize;
-    put_layers(layout, &mut out[..end]);
+    put_list(kind, layout, &mut out[..end]);
+}
+
+fn put_list(kind: usize, layout: IsomorphicLayout, out: &mut [u16]) {
+    if kind == names::LAMPS {
+        put_lamps(layout, out);
+        return;
+    }
+    put_layers(layout, out);
+}
+
+fn put_lamps(layout: IsomorphicLayout, out: &mut [u16]) {
+    let answer = layout_lamps::lamp_strip(layout, out);
+    print::list(out, answer);
+    print::end_line();
 }
 
 fn put_layers(layout: IsomorphicLayout, out: &mut [u16]) {

@@ -13,6 +13,7 @@ mod numbers;
 mod patterns;
 mod pergens;
 mod print;
+mod strips;
 mod tables;
 mod words;
 
@@ -128,6 +129,12 @@ fn answered_other(kind: usize, line: &[u8], end: usize, room: u16) -> bool {
     }
     if kind == names::FIND_IN {
         return books::find_in(line, end);
+    }
+    if kind == names::WIDEN {
+        return strips::widen(line, end, room);
+    }
+    if kind == names::NARROW {
+        return strips::narrow(line, end, room);
     }
     false
 }

@@ -125,7 +125,8 @@ fn front(numbers: &[u16], count: usize) {
     }
 }
 
-// As many bytes of a slice as were written to its front, as numbers, or the refusal to write them; alone on the line.
+// As many bytes of a slice as were written to its front, as numbers, `-` where that is none, or the refusal to write them; alone
+// on the line.
 pub(crate) fn bytes(written: &[u8], answer: CountAnswer) {
     match answer {
         CountAnswer::Given(count) => codes(written, count),
@@ -134,6 +135,10 @@ pub(crate) fn bytes(written: &[u8], answer: CountAnswer) {
 }
 
 fn codes(written: &[u8], count: usize) {
+    if count == 0 {
+        text(b"-\n");
+        return;
+    }
     let mut i: usize = 0;
     while i < count {
         if written.len() <= i {

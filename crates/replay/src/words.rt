@@ -41,8 +41,8 @@ pub(crate) struct Numbers {
     pub(crate) end: usize,
 }
 
-// How many bytes were read, and the place behind them.
-pub(crate) struct Bytes {
+// How many numbers of a list were read, and the place behind them.
+pub(crate) struct Listed {
     pub(crate) count: usize,
     pub(crate) end: usize,
 }
@@ -257,19 +257,34 @@ pub(crate) fn numbers_after(line: &[u8], from: usize, count: usize) -> Numbers {
 }
 
 // The bytes behind a place, each a number, into the front of `out` as far as it goes.
-pub(crate) fn bytes_after(line: &[u8], from: usize, out: &mut [u8]) -> Bytes {
+pub(crate) fn bytes_after(line: &[u8], from: usize, out: &mut [u8]) -> Listed {
     let mut at = from;
     let mut count: usize = 0;
     while count < out.len() {
         let Natural::Read(value, next) = natural_after(line, at) else {
-            return Bytes { count, end: at };
+            return Listed { count, end: at };
         };
         if 255 < value {
-            return Bytes { count, end: at };
+            return Listed { count, end: at };
         }
         out[count] = value as u8;
         at = next;
         count += 1;
     }
-    Bytes { count, end: at }
+    Listed { count, end: at }
+}
+
+// The numbers of 16 bits behind a place, into the front of `out` as far as it goes.
+pub(crate) fn codes_after(line: &[u8], from: usize, out: &mut [u16]) -> Listed {
+    let mut at = from;
+    let mut count: usize = 0;
+    while count < out.len() {
+        let Natural::Read(value, next) = natural_after(line, at) else {
+            return Listed { count, end: at };
+        };
+        out[count] = value;
+        at = next;
+        count += 1;
+    }
+    Listed { count, end: at }
 }

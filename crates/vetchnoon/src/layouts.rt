@@ -244,14 +244,14 @@ pub extern "C" fn vn_layer_kind(total: u16, number: u16, out: &mut [u16]) -> i64
     vetchnoon_codes::put(out, &numbers)
 }
 
-// The lamp code of each key (1, 2, 3, 4, 18, 9, 10).
+// The lamp code of each key (1, 2, 3, 4, 18, 10).
 #[no_mangle]
 pub extern "C" fn vn_lamp_strip(
     chain: u16,
     octave: u16,
     tritave: u16,
     start: u16,
-    out: &mut [u8],
+    out: &mut [u16],
 ) -> i64
     ensures { λ r. ⌜ Fills (getStrip (layout chain octave tritave start)) r (now (out .entry)) (now (out .exit)) ⌝ }
 {
@@ -264,7 +264,7 @@ pub extern "C" fn vn_lamp_strip(
     vetchnoon_codes::count(layout_lamps::lamp_strip(layout, out))
 }
 
-// The lamp code of one key (1, 2, 3, 4, 18, 9).
+// The lamp code of one key (1, 2, 3, 4, 18).
 #[no_mangle]
 pub extern "C" fn vn_lamp(chain: u16, octave: u16, tritave: u16, start: u16, key: i32) -> i64
     ensures { λ r. ⌜ r ≡ codeOf (getLamp (layout chain octave tritave start) key) ⌝ }

@@ -16,7 +16,8 @@ use judge::layouts;
 use judge::layouts::CHAINS;
 use judge::patterns;
 use reading::books;
-use reading::layouts::HOME;
+use reading::codes;
+use reading::codes::Lamp;
 use tune::layout;
 use tune::layout::IsomorphicLayout;
 use tune::layout::Layer;
@@ -46,14 +47,15 @@ const MIDDLE: Numbers = Numbers(1, 311, 493);
 const LARGE: Numbers = Numbers(1, 2400, 3800);
 /// The layout with the longest names and the longest book.
 const LARGEST: Numbers = Numbers(2, 65534, 65535);
-/// Larger layouts have too many layers for a strip.
-const LARGEST_STRIP: Numbers = Numbers(0, 1817, 3432);
+/// Larger layouts had too many layers for a strip of one-byte codes.
+const LARGEST_OLD_STRIP: Numbers = Numbers(0, 1817, 3432);
 
 const SIZES: [Numbers; 4] = [SMALL, MIDDLE, LARGE, LARGEST];
 
 /// Work that the original does too.
 pub fn of_the_original() -> Vec<Row> {
-    let with_strip = [SMALL, MIDDLE, LARGEST_STRIP];
+    let with_table = [SMALL, MIDDLE, LARGEST_OLD_STRIP, LARGE];
+    let with_strip = [SMALL, MIDDLE, LARGEST_OLD_STRIP, LARGE, LARGEST];
     let mut rows = making();
     rows.extend(SIZES.map(|n| names("one name", n, first_octave(), made_anew(n))));
     rows.extend(SIZES.map(|n| {
@@ -80,14 +82,18 @@ pub fn of_the_original() -> Vec<Row> {
     rows.extend(SIZES.map(layout_layers));
     rows.extend(SIZES.map(pattern_layers));
     rows.extend(with_strip.map(strip));
-    rows.extend(with_strip.map(key_table));
+    rows.extend(with_table.map(key_table));
     rows.extend(walks());
     rows
 }
 
-/// Books, beside a plain fill of the memory that they were written to.
+/// Books and converted strips, beside a plain fill of the memory that they were written to.
 pub fn of_a_fill() -> Vec<Row> {
-    SIZES.map(book_and_fill).into()
+    let with_old_strip = [SMALL, MIDDLE, LARGEST_OLD_STRIP];
+    let mut rows = Vec::from(SIZES.map(book_and_fill));
+    rows.extend(with_old_strip.map(widening));
+    rows.extend(with_old_strip.map(narrowing));
+    rows
 }
 
 impl Row {
@@ -303,21 +309,58 @@ fn book(n: Numbers) -> Row {
     )
 }
 
-/// The other side fills the very bytes of the book, which both sides have touched.
 fn book_and_fill(n: Numbers) -> Row {
     let given = n.layout();
     let length = vetchnoon::book_len(given).unwrap();
-    let memory = Rc::new(RefCell::new(vec![1_u8; length]));
+    let book = move |out: &mut [u8]| vetchnoon::book(given, out).unwrap();
+    beside_a_fill(
+        n,
+        "all names of an octave, as a book",
+        vec![1; length],
+        book,
+    )
+}
+
+fn widening(n: Numbers) -> Row {
+    let (old, new) = strips(n);
+    let widen = move |out: &mut [u16]| vetchnoon::widen_strip(&old, out).unwrap();
+    beside_a_fill(n, "a strip of one-byte codes, widened", new, widen)
+}
+
+fn narrowing(n: Numbers) -> Row {
+    let (old, new) = strips(n);
+    let narrow = move |out: &mut [u8]| vetchnoon::narrow_strip(&new, out).unwrap();
+    beside_a_fill(n, "a strip, narrowed to one-byte codes", old, narrow)
+}
+
+/// A layout's strip in both widths, of one octave.
+fn strips(n: Numbers) -> (Vec<u8>, Vec<u16>) {
+    let mut new = vec![0; n.1.into()];
+    vetchnoon::lamp_strip(n.layout(), &mut new).unwrap();
+    let mut old = vec![0; new.len()];
+    vetchnoon::narrow_strip(&new, &mut old).unwrap();
+    (old, new)
+}
+
+/// What ours writes to all of a memory. The other side fills that very memory, which both
+/// sides have touched.
+fn beside_a_fill<T: Copy + From<u8> + 'static>(
+    n: Numbers,
+    what: &'static str,
+    memory: Vec<T>,
+    ours: impl Fn(&mut [T]) -> usize + 'static,
+) -> Row {
+    let memory = Rc::new(RefCell::new(memory));
     let filled = Rc::clone(&memory);
     let mut value = 0;
     n.row_of_keys(
-        "all names of an octave, as a book",
-        move || vetchnoon::book(given, &mut memory.borrow_mut()).unwrap(),
+        what,
+        move || ours(&mut memory.borrow_mut()),
         move || {
             value ^= 1;
-            let mut bytes = filled.borrow_mut();
-            bytes.fill(value);
-            hint::black_box(&mut bytes).len()
+            let mut elements = filled.borrow_mut();
+            elements.fill(value.into());
+            hint::black_box(&mut elements).len()
         },
     )
 }
@@ -345,13 +388,13 @@ fn pattern_layers(n: Numbers) -> Row {
     )
 }
 
-/// Document 01's code for a layer of the original. A strip has at most two octaves, and the
-/// first key of each is home.
-fn lamp(octave: u16, key: u16, layer: Layer) -> u8 {
+/// The code for a layer of the original. A strip has at most two octaves, and the first key
+/// of each is home.
+fn code(octave: u16, key: u16, layer: Layer) -> u16 {
     if key == 0 || key == octave {
-        return HOME;
+        return codes::code(Lamp::Home);
     }
-    reading::layouts::lamp(layouts::kind_of(layer))
+    codes::code(layouts::kind_of(layer).into())
 }
 
 fn strip(n: Numbers) -> Row {
@@ -366,7 +409,7 @@ fn strip(n: Numbers) -> Row {
         },
         move || {
             let keys = (0..).zip(layout().get_layers());
-            let codes: Vec<u8> = keys.map(|(key, layer)| lamp(n.1, key, layer)).collect();
+            let codes: Vec<u16> = keys.map(|(key, layer)| code(n.1, key, layer)).collect();
             codes.len() + usize::from(codes[codes.len() - 1])
         },
     )
@@ -375,7 +418,7 @@ fn strip(n: Numbers) -> Row {
 fn key_table(n: Numbers) -> Row {
     let line = format!("{}\n", n.words());
     let same_line = line.clone();
-    let mut table = vec![0; 131_072];
+    let mut table = vec![0; 524_288];
     n.row_of_keys(
         "key table from its line",
         move || vetchnoon::key_table(line.as_bytes(), &mut table).unwrap(),
@@ -390,8 +433,8 @@ fn their_table(line: &str) -> String {
     let mut table = String::new();
     for (key, layer) in (0..n.1).zip(layout.get_layers()) {
         let name = layout.get_note_name(key);
-        let lamp = lamp(n.1, key, layer);
-        writeln!(table, "{key} {name} {lamp}").expect("a string takes all text");
+        let code = code(n.1, key, layer);
+        writeln!(table, "{key} {name} {code}").expect("a string takes all text");
     }
     table
 }

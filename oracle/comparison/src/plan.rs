@@ -6,6 +6,7 @@ mod known;
 mod layouts;
 mod patterns;
 mod pergens;
+mod strips;
 mod tables;
 
 use std::num::NonZero;
@@ -53,6 +54,7 @@ pub fn tasks(mode: Mode, seed: u64) -> Vec<Task> {
     pergens::plan(&mut tasks, mode, seed);
     books::plan(&mut tasks, mode, seed);
     tables::plan(&mut tasks, mode, seed);
+    strips::plan(&mut tasks, mode, seed);
     chains::plan(&mut tasks, mode, seed);
     tasks
 }

@@ -34,6 +34,8 @@ pub enum Call {
     LayerKind,
     LampStrip,
     Lamp,
+    WidenStrip,
+    NarrowStrip,
     BookLen,
     Book,
     BookFind,
@@ -72,6 +74,8 @@ impl Call {
             Self::LayerKind => "vn_layer_kind",
             Self::LampStrip => "vn_lamp_strip",
             Self::Lamp => "vn_lamp",
+            Self::WidenStrip => "vn_widen_strip",
+            Self::NarrowStrip => "vn_narrow_strip",
             Self::BookLen => "vn_book_len",
             Self::Book => "vn_book",
             Self::BookFind => "vn_book_find",
@@ -80,8 +84,8 @@ impl Call {
     }
 }
 
-/// A call with its arguments, in order. Bytes are arguments as well; those of a
-/// lookup are the key and then the book. Questions are put by the million, so one
+/// A call with its arguments, in order. Bytes are arguments as well, and so are the codes
+/// of a strip that is lent; those of a lookup are the key and then the book. Questions are put by the million, so one
 /// borrows its arguments; only those that are reported are kept.
 #[derive(Clone, Copy, Debug)]
 pub struct Question<'a> {

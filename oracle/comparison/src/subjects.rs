@@ -8,4 +8,5 @@ pub mod layouts;
 pub mod numbers;
 pub mod patterns;
 pub mod pergens;
+pub mod strips;
 pub mod tables;

@@ -164,13 +164,22 @@ impl Tally {
         call: impl Fn(&mut [T]) -> Result<usize, Refused>,
     ) {
         let room = reading.as_ref().map_or(0, Vec::len);
-        self.compare_lent(
-            question,
-            reading,
-            original,
-            class,
-            lending::lent(room, call),
-        );
+        let library = lending::lent(room, call);
+        self.compare_lent(question, reading, original, class, library);
+    }
+
+    /// The same for a call of no class that writes `room` elements or none, and asks for room
+    /// last. A refusal is seen in that room too, in which a call may have begun to write.
+    pub fn compare_filling_in_room<T: Element>(
+        &mut self,
+        question: Question,
+        room: usize,
+        reading: Outcome<Vec<T>>,
+        original: Original<Vec<T>>,
+        call: impl Fn(&mut [T]) -> Result<usize, Refused>,
+    ) {
+        let library = lending::lent(room, call);
+        self.compare_lent(question, reading, original, None, library);
     }
 
     /// Compares a call that writes `room` elements or none, and asks for room first.
@@ -311,8 +320,9 @@ fn merge<K: Ord, V>(map: &mut BTreeMap<K, V>, key: K, value: V, add: impl FnOnce
 }
 
 /// The questions to which the original has the answer `None`: a layout's generator
-/// and pattern, and the size of a given pattern; and where its layers make no strip.
-const DECLINED: [u8; 4] = [3, 4, 7, 9];
+/// and pattern, and the size of a given pattern; and where its layers make no strip of
+/// one-byte codes.
+const DECLINED: [u8; 4] = [3, 4, 7, 17];
 
 /// A `None` of the original agrees with a refusal where it stands for one.
 fn agrees<T: PartialEq>(answers: &Answers<T>) -> bool {

@@ -2,8 +2,11 @@
 
 use reading::Outcome;
 use reading::books;
+use reading::codes;
+use reading::codes::Lamp;
+use reading::former;
 use reading::layers::Kind;
-use reading::layouts::strip_of;
+use reading::layouts::lamps_of;
 use tune::layout;
 use tune::layout::Genchain;
 use tune::layout::IsomorphicLayout;
@@ -77,11 +80,21 @@ pub fn kind_of(layer: Layer) -> Kind {
     }
 }
 
-/// The strip that all of the original's layers make with document 01's lamp codes, home's
-/// going first (W-206), or the refusal where they have no codes.
-pub fn strip(layout: &IsomorphicLayout) -> Answer<Outcome<Vec<u8>>> {
+/// The strip that all of the original's layers make with the codes of 16 bits (W-207),
+/// home's going first (W-206).
+pub fn strip(layout: &IsomorphicLayout) -> Answer<Vec<u16>> {
+    Ok(lamps(layout)?.into_iter().map(codes::code).collect())
+}
+
+/// The strip that they make with document 01's codes of one byte, or the refusal where
+/// they have none.
+pub fn former_strip(layout: &IsomorphicLayout) -> Answer<Outcome<Vec<u8>>> {
+    Ok(former::strip(&lamps(layout)?))
+}
+
+fn lamps(layout: &IsomorphicLayout) -> Answer<Vec<Lamp>> {
     let kinds: Vec<Kind> = layers(layout)?.into_iter().map(kind_of).collect();
-    Ok(strip_of(layout.pergen().period().into(), &kinds))
+    Ok(lamps_of(layout.pergen().period().into(), &kinds))
 }
 
 /// The names of the octave's keys.
@@ -151,8 +164,11 @@ mod tests {
     #[test]
     fn a_strip_of_two_octaves() {
         let seven = create(Genchain::Meantone7, 7, 11).unwrap().unwrap();
+        let e = 65_535;
+        let codes = vec![0, 1, e, e, e, e, 1, 0, 1, e, e, e, e, 1];
+        assert_eq!(strip(&seven), Ok(codes));
         let codes = vec![0, 1, 255, 255, 255, 255, 1, 0, 1, 255, 255, 255, 255, 1];
-        assert_eq!(strip(&seven), Ok(Ok(codes)));
+        assert_eq!(former_strip(&seven), Ok(Ok(codes)));
     }
 
     #[test]

@@ -118,7 +118,7 @@ fn scale_names_of_other_chains() {
 }
 
 #[test]
-fn names_are_given_where_the_strip_has_too_many_colours() {
+fn names_are_given_where_one_byte_strips_had_too_few_codes() {
     let layout = layout(1, 2400, 3800);
     assert_eq!(note_names(&layout, [0, 1]), ["D", "D*"]);
 }

@@ -5,7 +5,10 @@ use super::Whole;
 use super::ask;
 use super::chains;
 use super::chains::Chain;
+use super::codes;
+use super::codes::Lamp;
 use super::fitted;
+use super::former;
 use super::layers;
 use super::layers::Kind;
 use super::patterns;
@@ -102,16 +105,26 @@ impl Layout {
         ((h * s) / n % 2 - ((i / cycles + h) * s) / n % 2).abs()
     }
 
-    /// The lamp strip: P codes, and "2 × octave codes when sharpness is 0, from all layer
-    /// entries" (W-204).
-    pub fn strip(&self) -> Outcome<Vec<u8>> {
+    /// The lamp strip, of 16-bit codes (W-207).
+    pub fn strip(&self) -> Vec<u16> {
+        self.lamps().into_iter().map(codes::code).collect()
+    }
+
+    /// The strip of one-byte codes, as it is stored where it was made before W-207.
+    pub fn former_strip(&self) -> Outcome<Vec<u8>> {
+        former::strip(&self.lamps())
+    }
+
+    /// What the strip shows: P lamps, and "2 × octave codes when sharpness is 0, from all
+    /// layer entries" (W-204).
+    fn lamps(&self) -> Vec<Lamp> {
         let total = self.layer_count();
         let kinds: Vec<Kind> = self
             .layers()
             .iter()
             .map(|number| layers::kind((*number).into(), total))
             .collect();
-        strip_of(self.pergen.period, &kinds)
+        lamps_of(self.pergen.period, &kinds)
     }
 }
 
@@ -123,38 +136,20 @@ pub fn repeated<T: Copy>(entries: &[T], key: i32) -> T {
     entries[place as usize]
 }
 
-/// The lamp codes of a strip's keys. Question 9: "is every sharp and flat layer number
-/// of the lamp strip below 100?"
-pub fn strip_of(octave: Whole, kinds: &[Kind]) -> Outcome<Vec<u8>> {
-    let below_100 = |kind: &Kind| match kind {
-        Kind::Sharp(level) | Kind::Flat(level) => *level < 100,
-        Kind::Natural | Kind::Enharmonic(_) => true,
-    };
-    ask(9, kinds.iter().all(below_100))?;
-
+/// The lamps of a strip's keys, given all layer entries.
+pub fn lamps_of(octave: Whole, kinds: &[Kind]) -> Vec<Lamp> {
     let keys = (0..).zip(kinds);
-    Ok(keys.map(|(key, kind)| code(octave, key, *kind)).collect())
+    keys.map(|(key, kind)| lamp_of(octave, key, *kind))
+        .collect()
 }
 
 /// "Key 0 is 0, home." A key whole octaves from it "is home by its note, and it has a layer
 /// colour. The home rule now goes first" (W-206).
-fn code(octave: Whole, key: Whole, kind: Kind) -> u8 {
+fn lamp_of(octave: Whole, key: Whole, kind: Kind) -> Lamp {
     if key % octave == 0 {
-        return HOME;
+        return Lamp::Home;
     }
-    lamp(kind)
-}
-
-pub const HOME: u8 = 0;
-
-/// "Natural 1, sharp k 2 + k, flat k 102 + k, enharmonic 255."
-pub fn lamp(kind: Kind) -> u8 {
-    fitted(match kind {
-        Kind::Natural => 1,
-        Kind::Sharp(level) => 2 + level,
-        Kind::Flat(level) => 102 + level,
-        Kind::Enharmonic(_) => 255,
-    })
+    kind.into()
 }
 
 #[cfg(test)]
@@ -208,8 +203,8 @@ mod tests {
     #[test]
     fn a_strip_from_c() {
         let strip = Layout::beginning(1, 12, 19, 1).unwrap().strip();
-        let expected = vec![0, 255, 1, 255, 1, 1, 255, 1, 255, 1, 255, 1];
-        assert_eq!(strip, Ok(expected));
+        let e = 65_535;
+        assert_eq!(strip, [0, e, 1, e, 1, 1, e, 1, e, 1, e, 1]);
         let refused = Layout::beginning(1, 2400, 3800, 7).map(|layout| layout.strip());
         assert_eq!(refused.err(), Some(18));
     }
@@ -217,6 +212,38 @@ mod tests {
     #[test]
     fn strips() {
         let strip = |octave, tritave| Layout::new(1, octave, tritave).unwrap().strip();
+        let e = 65_535;
+        assert_eq!(strip(7, 11), [0, 1, e, e, e, e, 1, 0, 1, e, e, e, e, 1]);
+        assert_eq!(strip(12, 19), [0, e, 1, 1, e, 1, e, 1, e, 1, 1, e]);
+        // Sharp and flat layers side by side.
+        assert_eq!(strip(31, 49)[..7], [0, 5, 2, 3, 4, 1, 3]);
+    }
+
+    #[test]
+    fn the_strip_of_2400_steps() {
+        let strip = Layout::new(1, 2400, 3800).unwrap().strip();
+        assert_eq!(strip.len(), 2400);
+        // 200 cycles of two layers: natural and sharp 0 to 198, enharmonic 199 and flat 0 to 198.
+        assert_eq!(strip[..3], [0, 2, 4]);
+        assert_eq!(strip[199], 2 + 2 * 198);
+        assert_eq!(strip[200], 65_535);
+        assert_eq!(strip[201..203], [3 + 2 * 198, 3 + 2 * 197]);
+        assert_eq!(strip[399..401], [3, 1]);
+    }
+
+    #[test]
+    fn the_largest_codes() {
+        let largest = |code, octave, tritave| {
+            let strip = Layout::new(code, octave, tritave).unwrap().strip();
+            strip.into_iter().filter(|code| *code < 65_535).max()
+        };
+        assert_eq!(largest(2, 65_534, 65_535), Some(65_529));
+        assert_eq!(largest(5, 65_535, 6), Some(65_529));
+    }
+
+    #[test]
+    fn former_strips() {
+        let strip = |octave, tritave| Layout::new(1, octave, tritave).unwrap().former_strip();
         let seven = vec![0, 1, 255, 255, 255, 255, 1, 0, 1, 255, 255, 255, 255, 1];
         assert_eq!(strip(7, 11), Ok(seven));
         assert_eq!(
@@ -224,20 +251,39 @@ mod tests {
             Ok(vec![0, 255, 1, 1, 255, 1, 255, 1, 255, 1, 1, 255])
         );
         assert_eq!(strip(2400, 3800), Err(9));
+        // The last strip whose sharp layers had codes, and the first without.
+        let cycles = |n: u16| strip(7 * n, 11 * n);
+        assert_eq!(cycles(101).unwrap().len(), 2 * 707);
+        assert_eq!(cycles(102), Err(9));
+    }
+
+    #[test]
+    fn former_strips_are_widened_to_the_strip() {
+        for n in 1..=110 {
+            let layout = Layout::new(1, 12 * n, 19 * n).unwrap();
+            let strip = layout.strip();
+            match layout.former_strip() {
+                Ok(former) => {
+                    assert_eq!(codes::widened(&former), Ok(strip.clone()));
+                    assert_eq!(codes::narrowed(&strip), Ok(former));
+                }
+                Err(number) => {
+                    assert_eq!(number, 9);
+                    assert_eq!(codes::narrowed(&strip), Err(17));
+                }
+            }
+        }
     }
 
     #[test]
     fn an_equalized_strip_has_two_octaves() {
-        let strip = Layout::new(3, 8, 13).unwrap().strip().unwrap();
+        let strip = Layout::new(3, 8, 13).unwrap().strip();
         assert_eq!(strip.len(), 16);
         // Home at every octave, on both sides; the keys beside it alternate.
         let lamp = |key| repeated(&strip, key);
         assert_eq!([0, 8, 16, -8, -16].map(lamp), [0; 5]);
-        assert_eq!([1, 9, 17, -7, -15].map(lamp), [1, 255, 1, 255, 1]);
-        // The last strip whose sharp layers have codes, and the first without.
-        let cycles = |n: u16| Layout::new(1, 7 * n, 11 * n).unwrap().strip();
-        assert_eq!(cycles(101).unwrap().len(), 2 * 707);
-        assert_eq!(cycles(102), Err(9));
+        let e = 65_535;
+        assert_eq!([1, 9, 17, -7, -15].map(lamp), [1, e, 1, e, 1]);
     }
 
     #[test]
@@ -249,21 +295,5 @@ mod tests {
         // Both ends, 2^31 being a multiple of 16.
         assert_eq!(layer(i32::MIN), layers[0]);
         assert_eq!(layer(i32::MAX), layers[15]);
-    }
-
-    #[test]
-    fn layers_up_to_99_have_a_lamp() {
-        let kinds = [
-            Kind::Natural,
-            Kind::Natural,
-            Kind::Sharp(0),
-            Kind::Sharp(99),
-            Kind::Flat(0),
-            Kind::Flat(99),
-            Kind::Enharmonic(400),
-        ];
-        assert_eq!(strip_of(7, &kinds), Ok(vec![0, 1, 2, 101, 102, 201, 255]));
-        assert_eq!(strip_of(2, &[Kind::Natural, Kind::Sharp(100)]), Err(9));
-        assert_eq!(strip_of(2, &[Kind::Natural, Kind::Flat(100)]), Err(9));
     }
 }

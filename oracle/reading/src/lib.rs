@@ -9,6 +9,8 @@
 
 pub mod books;
 pub mod chains;
+pub mod codes;
+pub mod former;
 pub mod layers;
 pub mod layouts;
 pub mod names;

@@ -10,8 +10,8 @@ use super::names;
 /// The largest octave that the program takes.
 const LARGEST_OCTAVE: u16 = 4096;
 
-/// "A line per key from 0 to octave − 1: number, name, lamp code", one octave even where
-/// the strip has two (W-204); "a refusal prints only `refused`, a space and the number,
+/// "A line per key from 0 to octave − 1: number, name, lamp code", of 16 bits (W-207), one
+/// octave even where the strip has two (W-204); "a refusal prints only `refused`, a space and the number,
 /// and a line feed".
 pub fn output(input: &[u8]) -> String {
     match table(input) {
@@ -23,9 +23,8 @@ pub fn output(input: &[u8]) -> String {
 fn table(input: &[u8]) -> Outcome<String> {
     let [code, octave, tritave] = line(input)?;
     let layout = Layout::new(code, octave, tritave)?;
-    let strip = layout.strip()?;
     Ok((0..octave)
-        .zip(strip)
+        .zip(layout.strip())
         .map(|(key, lamp)| format!("{key} {} {lamp}\n", names::name(&layout, key.into())))
         .collect())
 }
@@ -64,17 +63,25 @@ mod tests {
     use super::*;
 
     #[test]
-    fn the_table_of_document_01() {
-        let table = "0 D 0\n1 D#/Eb 255\n2 E 1\n3 F 1\n4 F#/Gb 255\n5 G 1\n6 G#/Ab 255\n\
-                     7 A 1\n8 A#/Bb 255\n9 B 1\n10 C 1\n11 C#/Db 255\n";
+    fn the_table_of_document_01_with_the_new_codes() {
+        let table = "0 D 0\n1 D#/Eb 65535\n2 E 1\n3 F 1\n4 F#/Gb 65535\n5 G 1\n6 G#/Ab 65535\n\
+                     7 A 1\n8 A#/Bb 65535\n9 B 1\n10 C 1\n11 C#/Db 65535\n";
         assert_eq!(output(b"1 12 19\n"), table);
         assert_eq!(output(b"00001 012 0019\nmore"), table);
     }
 
     #[test]
     fn one_octave_of_an_equalized_scale() {
-        let table = "0 D 0\n1 E 1\n2 F 255\n3 G 255\n4 A 255\n5 B 255\n6 C 1\n";
+        let table = "0 D 0\n1 E 1\n2 F 65535\n3 G 65535\n4 A 65535\n5 B 65535\n6 C 1\n";
         assert_eq!(output(b"1 7 11\n"), table);
+    }
+
+    #[test]
+    fn many_cycles() {
+        let table = output(b"1 2400 3800\n");
+        assert_eq!(table.lines().count(), 2400);
+        assert!(table.starts_with("0 D 0\n1 D* 2\n2 D** 4\n"));
+        assert!(table.contains("\n200 (D#/Eb) 65535\n201 (D#/Eb)* 399\n"));
     }
 
     #[test]
@@ -100,6 +107,5 @@ mod tests {
         }
         assert_eq!(line(b"00001 04096 65535\n"), Ok([1, 4096, 65_535]));
         assert_eq!(output(b"6 0 0\n"), "refused 1\n");
-        assert_eq!(output(b"1 2400 3800\n"), "refused 9\n");
     }
 }

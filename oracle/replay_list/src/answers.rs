@@ -18,6 +18,7 @@ use reading::Outcome;
 use reading::ask;
 use reading::books;
 use reading::chains;
+use reading::codes;
 use reading::layouts::repeated;
 use reading::numbers::remainder;
 use reading::pergens::Format;
@@ -74,7 +75,7 @@ pub fn answer(question: &Question) -> Option<String> {
     }
 }
 
-/// Question 10 comes after 1 to 9, and before those on a book.
+/// Question 10 comes after 1 to 8 and 17, and before those on a book.
 fn text_in_room(question: &Question, room: usize) -> Text {
     if let Question::Find(layout, _) = question {
         ask(10, book(*layout)?.len() <= room)?;
@@ -91,6 +92,8 @@ fn elements(question: &Question, text: &str) -> usize {
         Question::OfPattern(..) | Question::OfLayout(..) | Question::Book(_) if text != "-" => {
             text.split(' ').count()
         }
+        Question::Widen(strip) => strip.len(),
+        Question::Narrow(strip) => strip.len(),
         _ => 0,
     }
 }
@@ -165,9 +168,11 @@ fn text(question: &Question) -> Text {
             Ok(layer_text(repeated(&layers, *key)))
         }
         Question::Lamp(layout, key) => {
-            let strip = given(layouts::strip(&created_layout(*layout)?))??;
+            let strip = given(layouts::strip(&created_layout(*layout)?))?;
             Ok(repeated(&strip, *key).to_string())
         }
+        Question::Widen(strip) => Ok(list_text(codes::widened(strip)?)),
+        Question::Narrow(strip) => Ok(list_text(codes::narrowed(strip)?)),
         Question::BookLength(layout) => Ok(book(*layout)?.len().to_string()),
         Question::Book(layout) => book(*layout).map(words),
         Question::Find(layout, key) => Ok(found_text(&book(*layout)?, *key)),
@@ -287,7 +292,7 @@ fn of_layout(asked: OfLayout, layout: &IsomorphicLayout) -> Text {
         OfLayout::KeyLayers => {
             given(layouts::layers(layout)).map(|layers| words(layers.into_iter().map(layer_text)))
         }
-        OfLayout::Lamps => Ok(words(given(layouts::strip(layout))??)),
+        OfLayout::Lamps => given(layouts::strip(layout)).map(words),
     }
 }
 
@@ -325,7 +330,7 @@ fn table_lines(line: &str) -> Text {
     })?;
     let mut text = String::new();
     // One octave, even where the strip has two.
-    for (key, lamp) in (0..octave).zip(given(layouts::strip(&layout))??) {
+    for (key, lamp) in (0..octave).zip(given(layouts::strip(&layout))?) {
         let name = given(layouts::note_name(&layout, key))?;
         writeln!(text, "{key} {name} {lamp}").expect("a string takes any text");
     }
@@ -357,6 +362,14 @@ fn layer_text(layer: Layer) -> String {
     }
 }
 
+/// Numbers, or `-` where there is none.
+fn list_text<T: Display>(numbers: Vec<T>) -> String {
+    match numbers.is_empty() {
+        true => "-".to_owned(),
+        false => words(numbers),
+    }
+}
+
 fn walk_text(walk: Vec<Mos>) -> String {
     words(walk.into_iter().map(words::pattern))
 }
@@ -376,17 +389,17 @@ mod tests {
             Some(
                 "\
 0 D 0
-1 D#/Eb 255
+1 D#/Eb 65535
 2 E 1
 3 F 1
-4 F#/Gb 255
+4 F#/Gb 65535
 5 G 1
-6 G#/Ab 255
+6 G#/Ab 65535
 7 A 1
-8 A#/Bb 255
+8 A#/Bb 65535
 9 B 1
 10 C 1
-11 C#/Db 255
+11 C#/Db 65535
 "
             )
         );
@@ -399,7 +412,6 @@ mod tests {
             ("1 0 19", 2),
             ("3 12 19", 3),
             ("0 12 19", 4),
-            ("1 2400 3800", 9),
             ("1 12", 14),
         ] {
             assert_eq!(table(line), Some(format!("refused {number}\n")), "{line}");
@@ -416,13 +428,13 @@ mod tests {
         };
         assert_eq!(
             answer(&Question::OfLayout(OfLayout::Lamps, layout)).as_deref(),
-            Some("0 1 255 255 255 255 1 0 1 255 255 255 255 1\n")
+            Some("0 1 65535 65535 65535 65535 1 0 1 65535 65535 65535 65535 1\n")
         );
     }
 
     #[test]
     fn a_table_of_one_octave() {
-        let lines = "0 D 0\n1 E 1\n2 F 255\n3 G 255\n4 A 255\n5 B 255\n6 C 1\n";
+        let lines = "0 D 0\n1 E 1\n2 F 65535\n3 G 65535\n4 A 65535\n5 B 65535\n6 C 1\n";
         assert_eq!(table("1 7 11").as_deref(), Some(lines));
     }
 
@@ -454,6 +466,21 @@ mod tests {
         let chain = Question::Chain(1);
         assert_eq!(in_room(11, chain.clone()).as_deref(), Some("Meantone[7]\n"));
         assert_eq!(in_room(10, chain).as_deref(), Some("refused 10\n"));
+    }
+
+    #[test]
+    fn conversions() {
+        let widen = |codes: &[u8]| Question::Widen(codes.to_vec());
+        let narrow = |codes: &[u16]| Question::Narrow(codes.to_vec());
+        let in_room = |room, question| answer(&Question::InRoom(room, Box::new(question)));
+        let wide = in_room(3, widen(&[3, 103, 255]));
+        assert_eq!(wide.as_deref(), Some("4 5 65535\n"));
+        let back = in_room(3, narrow(&[4, 5, 65_535]));
+        assert_eq!(back.as_deref(), Some("3 103 255\n"));
+        assert_eq!(in_room(0, widen(&[])).as_deref(), Some("-\n"));
+        assert_eq!(in_room(0, widen(&[201])).as_deref(), Some("refused 10\n"));
+        assert_eq!(in_room(0, widen(&[202])).as_deref(), Some("refused 17\n"));
+        assert_eq!(in_room(1, narrow(&[202])).as_deref(), Some("refused 17\n"));
     }
 
     #[test]

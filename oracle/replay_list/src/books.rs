@@ -6,6 +6,7 @@
 use reading::layers;
 use reading::patterns::Pattern;
 
+use crate::keys::MANY_CYCLES;
 use crate::list::layout;
 use crate::questions::Layout;
 use crate::questions::OfLayout;
@@ -53,8 +54,8 @@ pub fn all(random: &mut Random) -> Vec<Question> {
         ]);
         questions.extend(in_no_room(refused));
     }
-    // Its strip is refused with 9, and its book is longer than any room here.
-    questions.extend(in_no_room(layout((1, 2_400, 3_800))));
+    // Its book and its table are longer than any room here.
+    questions.extend(in_no_room(layout(MANY_CYCLES)));
     questions.push(Question::BookLength(layout((2, 65_534, 65_535))));
     questions.extend(pattern_rooms());
     questions.extend(lookups(random));
@@ -63,7 +64,7 @@ pub fn all(random: &mut Random) -> Vec<Question> {
 
 // ---- short slices
 
-fn in_room(room: usize, question: &Question) -> Question {
+pub fn in_room(room: usize, question: &Question) -> Question {
     let room = u16::try_from(room).expect("a small room");
     Question::InRoom(room, Box::new(question.clone()))
 }
@@ -83,7 +84,7 @@ fn rooms(layout: Layout) -> Vec<Question> {
 
 pub fn layout_rooms(layout: Layout) -> Vec<Question> {
     let read = layout.read().expect("an accepted layout");
-    let strip = read.strip().expect("few layers").len();
+    let strip = read.strip().len();
     let keys = i32::from(layout.octave);
     let book = reading::books::book(&read).len();
     let name = reading::names::name(&read, 1).len();

@@ -48,14 +48,11 @@ pub const ACCEPTED: [(u16, u16, u16); 11] = [
     (1, 31, 49),
 ];
 
-/// One layout for each refusal 1 to 4, and one whose strip is refused with 9.
-pub const REFUSED: [(u16, u16, u16); 5] = [
-    (6, 12, 19),
-    (1, 0, 19),
-    (3, 12, 19),
-    (0, 12, 19),
-    (1, 2_400, 3_800),
-];
+/// One layout for each refusal 1 to 4.
+pub const REFUSED: [(u16, u16, u16); 4] = [(6, 12, 19), (1, 0, 19), (3, 12, 19), (0, 12, 19)];
+
+/// One with 200 cycles, whose strip had no one-byte codes.
+pub const MANY_CYCLES: (u16, u16, u16) = (1, 2_400, 3_800);
 
 pub fn all() -> Vec<Question> {
     // Numbers of its own, so that the rest of the list does not depend on this part.
@@ -150,7 +147,7 @@ fn of_layouts() -> Vec<Question> {
         questions.extend((0..=two).map(|key| Question::Layer(layout, key)));
         questions.extend((0..=two).map(|key| Question::Lamp(layout, key)));
     }
-    for layout in REFUSED.map(layout) {
+    for layout in REFUSED.into_iter().chain([MANY_CYCLES]).map(layout) {
         let some = [i32::MIN, -1, 0, 1, i32::MAX];
         questions.extend(some.into_iter().flat_map(|key| of_key(layout, key)));
     }
@@ -190,7 +187,7 @@ mod tests {
     fn key_minus_1_of_the_twelve() {
         let twelve = layout((1, 12, 19));
         let answers = of_key(twelve, -1).each_ref().map(answer);
-        let expected = ["1 1 3 1 -\n", "C#/Db\n", "e0\n", "255\n"];
+        let expected = ["1 1 3 1 -\n", "C#/Db\n", "e0\n", "65535\n"];
         assert_eq!(answers, expected.map(|text| Some(text.to_owned())));
     }
 
@@ -206,7 +203,7 @@ mod tests {
         let answers = [0, -8, 1, -7, -15].map(|key| answer(&Question::Lamp(layout, key)));
         assert_eq!(
             answers,
-            ["0\n", "0\n", "1\n", "255\n", "1\n"].map(|text| Some(text.to_owned()))
+            ["0\n", "0\n", "1\n", "65535\n", "1\n"].map(|text| Some(text.to_owned()))
         );
     }
 }

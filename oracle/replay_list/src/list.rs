@@ -1,6 +1,6 @@
 //! The list of questions: the bench examples of document 01, small numbers
 //! densely, limits, and numbers of every size at random; then keys below 0, other letters
-//! on key 0, and strips of two octaves.
+//! on key 0, strips of two octaves, and stored strips.
 
 use std::collections::HashSet;
 use std::iter;
@@ -11,6 +11,7 @@ use judge::patterns::Pattern;
 
 use crate::answers::created_layout;
 use crate::books;
+use crate::conversions;
 use crate::keys;
 use crate::questions::FreePergen;
 use crate::questions::Layout;
@@ -45,6 +46,7 @@ pub fn all() -> Vec<Question> {
     questions.extend(keys::all());
     questions.extend(starts::all());
     questions.extend(strips::all());
+    questions.extend(conversions::all());
 
     let mut asked = HashSet::new();
     questions.retain(|question| asked.insert(question.to_string()));
@@ -540,6 +542,18 @@ fn unreadable() -> Vec<Question> {
         "find_in 0 256 0 0 0",
         "find_in 0 1 0 0 0 ",
         "find_in 0 1 0 0 -1",
+        "widen 256",
+        "widen 0 -1",
+        "widen 0 ",
+        "widen  0",
+        "widen 0 x",
+        "widenx 0",
+        "narrow 65536",
+        "narrow 0 -1",
+        "narrow 0 ",
+        "narrow  0",
+        "narrow_from 0",
+        "65536 narrow 0",
     ]
     .map(Question::Unreadable)
     .into()
@@ -591,7 +605,8 @@ mod tests {
     #[test]
     fn every_refusal_is_met() {
         let answers: Vec<String> = all().iter().filter_map(answer).collect();
-        for number in 1..=14 {
+        // No call asks 9 any more.
+        for number in (1..=8).chain(10..=14).chain([17, 18]) {
             let refusal = ["refused", &number.to_string()];
             let met = |answer: &String| answer.split_whitespace().take(2).eq(refusal);
             assert!(answers.iter().any(met), "{number}");

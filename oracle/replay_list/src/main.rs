@@ -4,6 +4,7 @@
 
 mod answers;
 mod books;
+mod conversions;
 mod keys;
 mod list;
 mod questions;

@@ -159,6 +159,9 @@ pub enum Question {
     Find(Layout, i32),
     /// A key looked up in any bytes.
     FindIn(i32, Vec<u8>),
+    /// Stored codes of one byte, and the way back.
+    Widen(Vec<u8>),
+    Narrow(Vec<u16>),
     /// The line that the key table program is given, without its line feed.
     Table(String),
     /// A question, and how many elements the slice has that is lent for its answer.
@@ -224,6 +227,14 @@ impl Display for Question {
             Self::FindIn(key, book) => {
                 write!(f, "find_in {key}")?;
                 book.iter().try_for_each(|byte| write!(f, " {byte}"))
+            }
+            Self::Widen(strip) => {
+                f.write_str("widen")?;
+                strip.iter().try_for_each(|code| write!(f, " {code}"))
+            }
+            Self::Narrow(strip) => {
+                f.write_str("narrow")?;
+                strip.iter().try_for_each(|code| write!(f, " {code}"))
             }
             Self::Table(line) => write!(f, "table {line}"),
             Self::InRoom(room, question) => write!(f, "{room} {question}"),

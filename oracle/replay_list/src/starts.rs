@@ -30,8 +30,8 @@ pub fn all() -> Vec<Question> {
     for numbers in IN_ROOMS {
         questions.extend(books::layout_rooms(from(1, layout(numbers))));
     }
-    // Refused with 1 to 4 before 18; and with 18 before 9.
-    for numbers in keys::REFUSED {
+    // Refused with 1 to 4 before 18; and with 18 where there are many cycles.
+    for numbers in keys::REFUSED.into_iter().chain([keys::MANY_CYCLES]) {
         questions.extend(refused(from(9, layout(numbers))));
     }
     questions.extend(of_large_layouts(&mut random));

@@ -19,7 +19,7 @@ const EQUALIZED: [(u16, u16, u16); 6] = [
     (5, 7, 12),
 ];
 
-/// As many cycles as still have lamp codes, and one more.
+/// As many cycles as still had one-byte codes, and one more.
 const CYCLES: [u16; 2] = [101, 102];
 
 pub fn all() -> Vec<Question> {
@@ -73,16 +73,17 @@ mod tests {
         let layout = layout((3, 8, 13));
         let answer = |key| answer(&Question::Lamp(layout, key)).unwrap();
         assert_eq!([0, 8, 16, -8].map(answer), ["0\n"; 4]);
-        assert_eq!([7, 9, -7, -9].map(answer), ["255\n"; 4]);
+        assert_eq!([7, 9, -7, -9].map(answer), ["65535\n"; 4]);
     }
 
     #[test]
-    fn a_strip_ends_with_101_cycles() {
-        let lamps = |cycles: u16| {
+    fn strips_go_on_where_one_byte_codes_ended() {
+        for cycles in CYCLES {
             let layout = layout((1, 7 * cycles, 11 * cycles));
-            answer(&Question::OfLayout(OfLayout::Lamps, layout)).unwrap()
-        };
-        assert_eq!(lamps(101).split(' ').count(), 2 * 707);
-        assert_eq!(lamps(102), "refused 9\n");
+            let strip = answer(&Question::OfLayout(OfLayout::Lamps, layout)).unwrap();
+            assert_eq!(strip.split(' ').count(), usize::from(14 * cycles));
+            let former = layout.read().unwrap().former_strip();
+            assert_eq!(former.is_ok(), cycles == 101);
+        }
     }
 }

@@ -1,49 +1,71 @@
--- The front of the buffer is the output for what is kept, and so for the line.
-use mathlib.Core.Path.{sym}
+-- The output for what is kept is the output for the line: a refusal, or a table.
+use mathlib.Core.Path.{sym, ap, _∙_}
 use native.Mathlib.Omega.{arith}
-use lib.Seq.{length-take-le}
+use Rattle.layout.specs.Parts.{foundOutcome}
+use Rattle.layout_table.proofs.Calls.{line-laid}
+use Rattle.key_table.proofs.Printing.{kept-there, refusing, ready, zeros-hold}
 use borrow.Author.Needs.{needs}
-use Rattle.key_table.proofs.Fits.{zeros-hold}
-use Rattle.key_table.proofs.Printing.{kept-there, printed}
 use Rattle.key_table.proofs.print.Statement.{statement}
 use Rattle.key_table.proofs.print.Tie as tie
 
 kept-requires : tie.Need-kept-requires
 kept-requires c κs = search needs
 
-slice-aggregate-answered : tie.Need-slice-aggregate-answered
-slice-aggregate-answered c = kept-there _ _ _ (c .before .before .before .pre) (c .before .kept .ensures)
+slice-aggregate-ask-line : tie.Need-slice-aggregate-ask-line
+slice-aggregate-ask-line c = kept-there _ _ _ (c .before .before .before .pre) (c .before .kept .ensures)
 
-slice-aggregate-answered-2 : tie.Need-slice-aggregate-answered-2
-slice-aggregate-answered-2 c = search needs
+ask-line-requires : tie.Need-ask-line-requires
+ask-line-requires c κs = search needs
 
-answered-requires : tie.Need-answered-requires
-answered-requires c κs = zeros-hold 403596 403596 (omega arith)
+enum-known-q : tie.Need-enum-known-q
+enum-known-q c = search needs
 
-array-share-prefix-out : tie.Need-array-share-prefix-out
-array-share-prefix-out c = search needs
+number-requires : tie.Need-number-requires
+number-requires c κs = search needs
 
-slice-aggregate-write-output : tie.Need-slice-aggregate-write-output
-slice-aggregate-write-output c = sym (length-take-le _ _ (c .before .before .answered .ensures .1))
+cast-print-refusal : tie.Need-cast-print-refusal
+cast-print-refusal c = search needs
 
-write-output-requires : tie.Need-write-output-requires
-write-output-requires c κs =
-    let a = c .before .before in
-    let s = a .before .before .before .before .before in
-    printed _ _ _ (s .pre) (a .before .before .before .kept .ensures) _ (a .answered .ensures .0)
+print-refusal-requires : tie.Need-print-refusal-requires
+print-refusal-requires c κs =
+    let q = c .before .before in
+    refusing _ _ _ (c .before .before .before .before .before .before .before .before .pre) (c .before .before .before .before .before .before .kept .ensures) _ _ (c .number .ensures) (sym (ap foundOutcome (q .q .given .1)) ∙ q .before .before .ask-line .ensures)
+
+enum-known-found : tie.Need-enum-known-found
+enum-known-found c = search needs
+
+table-of-requires : tie.Need-table-of-requires
+table-of-requires c κs = line-laid _ _ (sym (ap foundOutcome (c .before .found .given .1)) ∙ c .before .before .before .ask-line .ensures) .is-laid
+
+slice-aggregate-print-table : tie.Need-slice-aggregate-print-table
+slice-aggregate-print-table c = search needs
+
+print-table-requires : tie.Need-print-table-requires
+print-table-requires c κs =
+    let found = c .before .before .before in
+    let e = sym (ap foundOutcome (found .found .given .1)) ∙ found .before .before .ask-line .ensures in
+    (ready _ _ _ (c .before .before .before .before .before .before .before .before .before .pre) (c .before .before .before .before .before .before .before .kept .ensures) _ e _ (c .before .table-of .ensures), zeros-hold 65536 65536 (omega arith))
 
 returns : tie.Need-returns
 returns c = search needs
+
+returns-2 : tie.Need-returns-2
+returns-2 c = search needs
 
 pub print-spec : {M : Type 1} → statement M
 print-spec =
     tie.close
     (tie.spec
     kept-requires
-    slice-aggregate-answered
-    slice-aggregate-answered-2
-    answered-requires
-    array-share-prefix-out
-    slice-aggregate-write-output
-    write-output-requires
-    returns)
+    slice-aggregate-ask-line
+    ask-line-requires
+    enum-known-q
+    number-requires
+    cast-print-refusal
+    print-refusal-requires
+    enum-known-found
+    table-of-requires
+    slice-aggregate-print-table
+    print-table-requires
+    returns
+    returns-2)

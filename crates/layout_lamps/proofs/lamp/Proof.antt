@@ -1,4 +1,4 @@
--- Questions 1 to 4, 18 and 9, then home or the code of the number of the key round the strip.
+-- Questions 1 to 4 and 18, then home or the code of the number of the key round the strip.
 use mathlib.Core.Path.{sym, ap, _∙_}
 use mir.Syntax.{w32}
 use native.Mathlib.Omega.{arith}
@@ -9,7 +9,7 @@ use Rattle.layout.proofs.Calls.{parts-of, laid-of}
 use Rattle.layout_layers.proofs.PlanLaws.{entries-some}
 use Rattle.layout_layers.proofs.Calls.{inverse-given}
 use Rattle.layout_lamps.proofs.StripLaws.{number-below}
-use Rattle.layout_lamps.proofs.Calls.{lamp-refused, lamp-too-deep, lamp-at-home, lamp-given}
+use Rattle.layout_lamps.proofs.Calls.{lamp-refused, lamp-at-home, lamp-given}
 use borrow.Author.Needs.{needs}
 use Rattle.layout_lamps.proofs.lamp.Statement.{statement}
 use Rattle.layout_lamps.proofs.lamp.Tie as tie
@@ -26,55 +26,44 @@ enum-known-found c = search needs
 plan-of-requires : tie.Need-plan-of-requires
 plan-of-requires c κs = laid-of _ _ (sym (ap foundOutcome (c .before .found .given .1)) ∙ c .before .before .before .ask .ensures)
 
-total-of-requires : tie.Need-total-of-requires
-total-of-requires c κs = c .plan-of .ensures .sound
-
-returns : tie.Need-returns
-returns c =
-    let found = c .before .before .before .before in
-    let e = sym (ap foundOutcome (found .found .given .1)) ∙ found .before .before .ask .ensures in
-    lamp-too-deep _ _ e _ (c .before .before .plan-of .ensures) _ (c .before .total-of .ensures) (c .if1 .taken) _
-
 entry-count-requires : tie.Need-entry-count-requires
 entry-count-requires c κs = search needs
 
 rem-u32-requires : tie.Need-rem-u32-requires
 rem-u32-requires c κs =
-    let found = c .before .before .before .before .before in
-    let start = found .before .before .before in
+    let found = c .before .before .before in
     let e = sym (ap foundOutcome (found .found .given .1)) ∙ found .before .before .ask .ensures in
-    entries-some (c .before .before .before .plan-of .result) _ _ (parts-of _ _ e .positive) (c .entry-count .ensures .0)
+    entries-some (c .before .plan-of .result) _ _ (parts-of _ _ e .positive) (c .entry-count .ensures .0)
 
-cast-if2 : tie.Need-cast-if2
-cast-if2 c = search needs
+cast-if1 : tie.Need-cast-if1
+cast-if1 c = search needs
 
-rem-if2 : tie.Need-rem-if2
-rem-if2 c =
-    let found = c .before .before .before .before .before .before .before in
+rem-if1 : tie.Need-rem-if1
+rem-if1 c =
+    let found = c .before .before .before .before .before in
     parts-of _ _ (sym (ap foundOutcome (found .found .given .1)) ∙ found .before .before .ask .ensures) .positive
 
-returns-2 : tie.Need-returns-2
-returns-2 c =
-    let found = c .before .before .before .before .before .before .before .before in
+returns : tie.Need-returns
+returns c =
+    let found = c .before .before .before .before .before .before in
     let start = found .before .before .before in
     let e = sym (ap foundOutcome (found .found .given .1)) ∙ found .before .before .ask .ensures in
-    lamp-at-home _ _ e _ (c .before .before .before .before .before .before .plan-of .ensures) _ (c .before .before .before .before .before .total-of .ensures)
-    (c .before .before .before .before .if1 .left)
+    lamp-at-home _ _ e _ (c .before .before .before .before .plan-of .ensures)
     (start .args .key) _ _ (c .before .before .before .entry-count .ensures .0)
     (remainder-read w32 (start .args .key) (start .fits .key) _ _ (c .before .before .rem-u32 .ensures))
-    (c .if2 .taken)
+    (c .if1 .taken)
 
 solve-requires : tie.Need-solve-requires
 solve-requires c κs =
-    let found = c .before .before .before .before .before .before .before .before in
+    let found = c .before .before .before .before .before .before in
     parts-of _ _ (sym (ap foundOutcome (found .found .given .1)) ∙ found .before .before .ask .ensures) .positive
 
 number-of-requires : tie.Need-number-of-requires
 number-of-requires c κs =
-    let found = c .before .before .before .before .before .before .before .before .before in
+    let found = c .before .before .before .before .before .before .before in
     let start = found .before .before .before in
     let e = sym (ap foundOutcome (found .found .given .1)) ∙ found .before .before .ask .ensures in
-    let plan = c .before .before .before .before .before .before .before .plan-of in
+    let plan = c .before .before .before .before .before .plan-of in
     let counted = c .before .before .before .before .entry-count .ensures in (
       plan .ensures .sound,
       inverse-given _ _ e _ (plan .ensures) _ (c .solve .ensures),
@@ -86,28 +75,24 @@ number-of-requires c κs =
       ),
     )
 
-code-requires : tie.Need-code-requires
-code-requires c κs = (
-  c .before .before .before .before .before .before .if1 .left,
-  number-below _ (c .before .before .before .before .before .before .before .before .plan-of .ensures .sound) _ _ _ (c .number-of .ensures) (c .before .before .before .before .before .before .before .total-of .ensures),
-)
+total-of-requires : tie.Need-total-of-requires
+total-of-requires c κs = search needs
 
-cast-t18 : tie.Need-cast-t18
-cast-t18 c = search needs
+code-requires : tie.Need-code-requires
+code-requires c κs = number-below _ (c .before .before .before .before .before .before .before .plan-of .ensures .sound) _ _ _ (c .before .number-of .ensures) (c .total-of .ensures)
+
+returns-2 : tie.Need-returns-2
+returns-2 c = lamp-refused _ _ (sym (ap foundOutcome (c .before .q .given .1)) ∙ c .before .before .before .ask .ensures) _
 
 returns-3 : tie.Need-returns-3
-returns-3 c = lamp-refused _ _ (sym (ap foundOutcome (c .before .q .given .1)) ∙ c .before .before .before .ask .ensures) _
-
-returns-4 : tie.Need-returns-4
-returns-4 c =
-    let found = c .before .before .before .before .before .before .before .before .before .before .before in
+returns-3 c =
+    let found = c .before .before .before .before .before .before .before .before .before .before in
     let start = found .before .before .before in
     let e = sym (ap foundOutcome (found .found .given .1)) ∙ found .before .before .ask .ensures in
-    lamp-given _ _ e _ (c .before .before .before .before .before .before .before .before .before .plan-of .ensures) _
-    (c .before .before .before .before .before .before .before .before .total-of .ensures) (c .before .before .before .before .before .before .before .if1 .left)
-    (start .args .key) _ _ (c .before .before .before .before .before .before .entry-count .ensures .0)
-    (remainder-read w32 (start .args .key) (start .fits .key) _ _ (c .before .before .before .before .before .rem-u32 .ensures))
-    _ _ (c .before .before .before .if2 .left) (c .before .number-of .ensures) (c .code .ensures)
+    lamp-given _ _ e _ (c .before .before .before .before .before .before .before .before .plan-of .ensures)
+    (start .args .key) _ _ (c .before .before .before .before .before .before .before .entry-count .ensures .0)
+    (remainder-read w32 (start .args .key) (start .fits .key) _ _ (c .before .before .before .before .before .before .rem-u32 .ensures))
+    _ _ _ (c .before .total-of .ensures) (c .before .before .before .before .if1 .left) (c .before .before .number-of .ensures) (c .code .ensures)
 
 pub lamp-spec : {M : Type 1} → statement M
 lamp-spec =
@@ -117,16 +102,14 @@ lamp-spec =
     enum-known-q
     enum-known-found
     plan-of-requires
-    total-of-requires
-    returns
     entry-count-requires
     rem-u32-requires
-    cast-if2
-    rem-if2
-    returns-2
+    cast-if1
+    rem-if1
+    returns
     solve-requires
     number-of-requires
+    total-of-requires
     code-requires
-    cast-t18
-    returns-3
-    returns-4)
+    returns-2
+    returns-3)

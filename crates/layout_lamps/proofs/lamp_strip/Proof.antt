@@ -1,8 +1,8 @@
--- Questions 1 to 4, 18 and 9, then the strip of the plan.
+-- Questions 1 to 4 and 18, then the strip of the plan.
 use mathlib.Core.Path.{sym, ap, _∙_}
 use Rattle.layout.specs.Parts.{foundOutcome}
 use Rattle.layout.proofs.Calls.{laid-of}
-use Rattle.layout_lamps.proofs.Calls.{strip-refused, strip-too-deep, strip-not-written, strip-written}
+use Rattle.layout_lamps.proofs.Calls.{strip-refused, strip-not-written, strip-written}
 use borrow.Author.Needs.{needs}
 use Rattle.layout_lamps.proofs.lamp_strip.Statement.{statement}
 use Rattle.layout_lamps.proofs.lamp_strip.Tie as tie
@@ -19,29 +19,20 @@ enum-known-found c = search needs
 plan-of-requires : tie.Need-plan-of-requires
 plan-of-requires c κs = laid-of _ _ (sym (ap foundOutcome (c .before .found .given .1)) ∙ c .before .before .before .ask .ensures)
 
-total-of-requires : tie.Need-total-of-requires
-total-of-requires c κs = c .plan-of .ensures .sound
+write-strip-requires : tie.Need-write-strip-requires
+write-strip-requires c κs = search needs
 
 returns : tie.Need-returns
-returns c =
-    let e = sym (ap foundOutcome (c .before .before .before .before .found .given .1)) ∙ c .before .before .before .before .before .before .ask .ensures in
-    strip-not-written _ 9 (strip-too-deep _ _ e _ (c .before .before .plan-of .ensures) _ (c .before .total-of .ensures) (c .if1 .taken)) _
-
-write-strip-requires : tie.Need-write-strip-requires
-write-strip-requires c κs = (c .before .before .before .plan-of .ensures .sound, c .before .before .total-of .ensures, c .before .if1 .left)
-
-returns-2 : tie.Need-returns-2
-returns-2 c =
-    strip-not-written _ _ (strip-refused _ _ (sym (ap foundOutcome (c .before .q .given .1)) ∙ c .before .before .before .ask .ensures)) _
+returns c = strip-not-written _ _ (strip-refused _ _ (sym (ap foundOutcome (c .before .q .given .1)) ∙ c .before .before .before .ask .ensures)) _
 
 same-length : tie.Need-same-length
 same-length c = search needs
 
-returns-3 : tie.Need-returns-3
-returns-3 c =
-    let e = sym (ap foundOutcome (c .before .before .before .before .before .before .before .before .found .given .1)) ∙ c .before .before .before .before .before .before .before .before .before .before .ask .ensures in
-    strip-written _ _ e _ (c .before .before .before .before .before .before .plan-of .ensures) _ (c .before .before .before .before .before .total-of .ensures) (c .before .before .before .before .if1 .left)
-    (c .before .before .write-strip .ensures)
+returns-2 : tie.Need-returns-2
+returns-2 c =
+    let found = c .before .before .before .before .before .before in
+    let e = sym (ap foundOutcome (found .found .given .1)) ∙ found .before .before .ask .ensures in
+    strip-written _ _ e _ (c .before .before .before .before .plan-of .ensures) (c .before .before .write-strip .ensures)
 
 pub lamp-strip-spec : {M : Type 1} → statement M
 lamp-strip-spec =
@@ -51,9 +42,7 @@ lamp-strip-spec =
     enum-known-q
     enum-known-found
     plan-of-requires
-    total-of-requires
-    returns
     write-strip-requires
-    returns-2
+    returns
     same-length
-    returns-3)
+    returns-2)

@@ -1,9 +1,9 @@
--- Questions 1 to 4, 18 and 9, then the number of entries.
+-- Questions 1 to 4 and 18, then the number of entries.
 use mathlib.Core.Path.{sym, ap, _∙_}
 use Rattle.answer.specs.Lent.{counted}
 use Rattle.layout.specs.Parts.{foundOutcome}
 use Rattle.layout.proofs.Calls.{laid-of}
-use Rattle.layout_lamps.proofs.Calls.{strip-refused, strip-too-deep, strip-counted}
+use Rattle.layout_lamps.proofs.Calls.{strip-refused, strip-counted}
 use borrow.Author.Needs.{needs}
 use Rattle.layout_lamps.proofs.strip_len.Statement.{statement}
 use Rattle.layout_lamps.proofs.strip_len.Tie as tie
@@ -20,26 +20,17 @@ enum-known-found c = search needs
 plan-of-requires : tie.Need-plan-of-requires
 plan-of-requires c κs = laid-of _ _ (sym (ap foundOutcome (c .before .found .given .1)) ∙ c .before .before .before .ask .ensures)
 
-total-of-requires : tie.Need-total-of-requires
-total-of-requires c κs = c .plan-of .ensures .sound
-
-returns : tie.Need-returns
-returns c =
-    let e = sym (ap foundOutcome (c .before .before .before .before .found .given .1)) ∙ c .before .before .before .before .before .before .ask .ensures in
-    ap counted (strip-too-deep _ _ e _ (c .before .before .plan-of .ensures) _ (c .before .total-of .ensures) (c .if1 .taken))
-
 entries-requires : tie.Need-entries-requires
 entries-requires c κs = search needs
 
-returns-2 : tie.Need-returns-2
-returns-2 c = ap counted (strip-refused _ _ (sym (ap foundOutcome (c .before .q .given .1)) ∙ c .before .before .before .ask .ensures))
+returns : tie.Need-returns
+returns c = ap counted (strip-refused _ _ (sym (ap foundOutcome (c .before .q .given .1)) ∙ c .before .before .before .ask .ensures))
 
-returns-3 : tie.Need-returns-3
-returns-3 c =
-    let found = c .before .before .before .before .before in
+returns-2 : tie.Need-returns-2
+returns-2 c =
+    let found = c .before .before .before in
     let e = sym (ap foundOutcome (found .found .given .1)) ∙ found .before .before .ask .ensures in
-    strip-counted _ _ e _ (c .before .before .before .plan-of .ensures) _ (c .before .before .total-of .ensures) (c .before .if1 .left) _
-    (c .entries .ensures)
+    strip-counted _ _ e _ (c .before .plan-of .ensures) _ (c .entries .ensures)
 
 pub strip-len-spec : {M : Type 1} → statement M
 strip-len-spec =
@@ -49,8 +40,6 @@ strip-len-spec =
     enum-known-q
     enum-known-found
     plan-of-requires
-    total-of-requires
-    returns
     entries-requires
-    returns-2
-    returns-3)
+    returns
+    returns-2)

@@ -46,6 +46,11 @@ pub fn plan(tasks: &mut Vec<Task>, mode: Mode, seed: u64) {
     for octave in (5..=mode.pick(16, 28)).rev() {
         tasks.push(Box::new(move |tally| strips_at_limit(tally, octave)));
     }
+    for (code, octave, tritave) in MANY_LAYERS {
+        tasks.push(Box::new(move |tally| {
+            GivenLayout::new(code, octave, tritave).compare_octave(tally);
+        }));
+    }
     for stream in 0..mode.pick(256, 2_048) {
         let randoms = Randoms::new(seed, STREAM + 20_000 + stream);
         tasks.push(Box::new(move |tally| at_random(tally, randoms.clone())));
@@ -154,8 +159,20 @@ fn limits_of_octave(tally: &mut Tally, octave: u16, mut randoms: Randoms) {
     }
 }
 
+/// Layouts whose strips had no one-byte codes: document 01's with 200 cycles, the most
+/// cycles that equalized scales of three chains have, and the largest sharp and flat
+/// layers, with an even and with an odd number of layers.
+const MANY_LAYERS: [(u16, u16, u16); 6] = [
+    (1, 2400, 3800),
+    (0, 42_129, 65_534),
+    (1, 41_699, 65_527),
+    (2, 40_955, 65_528),
+    (2, 65_534, 65_535),
+    (5, 65_535, 6),
+];
+
 /// Small layouts times the numbers that bring their count of layers close to the
-/// 202 with which a strip just has codes.
+/// 202 with which a strip just had one-byte codes.
 fn strips_at_limit(tally: &mut Tally, octave: u16) {
     for code in 0..=5 {
         for tritave in 0..=3 * octave {
@@ -368,7 +385,8 @@ mod tests {
 
     #[test]
     fn the_large_layouts_are_accepted() {
-        for (code, octave, tritave) in LARGE.into_iter().chain([LONGEST_NAMES]) {
+        let large = LARGE.into_iter().chain([LONGEST_NAMES]);
+        for (code, octave, tritave) in large.chain(MANY_LAYERS) {
             assert!(GivenLayout::new(code, octave, tritave).is_accepted());
         }
     }

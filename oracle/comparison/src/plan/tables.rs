@@ -15,6 +15,10 @@ const ALPHABET: [u8; 8] = *b"019 \n\r-x";
 /// A line that is answered, whose bytes are changed.
 const LINE: &[u8] = b"1 12 19\n";
 
+/// Lines with long tables: 819 cycles, of 1,720,118 bytes, the longest that was found; 585
+/// cycles; and the largest octave with one cycle, whose names have the most signs.
+const LONG_TABLES: [&[u8]; 3] = [b"2 4095 4914\n", b"1 4095 6435\n", b"2 4096 4097\n"];
+
 pub fn plan(tasks: &mut Vec<Task>, mode: Mode, seed: u64) {
     for octave in (0..=mode.pick(72, 144)).rev() {
         tasks.push(Box::new(move |tally| all_of_octave(tally, octave)));
@@ -24,6 +28,9 @@ pub fn plan(tasks: &mut Vec<Task>, mode: Mode, seed: u64) {
         tasks.push(Box::new(move |tally| {
             all_beginning(tally, &mut vec![first], longest);
         }));
+    }
+    for line in LONG_TABLES {
+        tasks.push(Box::new(|tally| tables::print(tally, line)));
     }
     tasks.push(Box::new(changed_line));
     tasks.push(Box::new(limits));

@@ -24,10 +24,15 @@ use crate::classes::Class;
 use crate::question::Call;
 use crate::question::Question;
 use crate::randoms::KEY_LIMITS;
+use crate::subjects::strips;
+use crate::subjects::strips::Expected;
 use crate::tally::Answers;
 use crate::tally::Original;
 use crate::tally::Tally;
 use crate::tally::outcome;
+
+/// The question whether each code has a partner among those of the other width.
+const NO_OLD_CODE: u8 = 17;
 
 /// Four numbers, with what the reading and the original make of them.
 pub struct GivenLayout {
@@ -223,15 +228,12 @@ impl GivenLayout {
             .then(|layout| Original::of(layouts::layers(layout)))
     }
 
-    /// The original has no strips; all its layers, with document 01's codes, make one.
+    /// The original has no strips; all its layers, with the codes of 16 bits, make one.
     fn compare_strip(&self, tally: &mut Tally) {
-        let reading = match &self.reading {
-            Ok(layout) => layout.strip(),
-            Err(number) => Err(*number),
-        };
+        let reading = self.read(Layout::strip);
         let original = self
             .original
-            .then(|layout| Original::of_option(layouts::strip(layout).map(Result::ok)));
+            .then(|layout| Original::of(layouts::strip(layout)));
         let class = self.class(classes::of_layout_layers);
         self.compare_each(
             tally,
@@ -241,9 +243,52 @@ impl GivenLayout {
             class,
             vetchnoon::lamp,
         );
+        if let (Ok(layout), Ok(strip)) = (&self.reading, &reading) {
+            self.compare_conversions(tally, layout, strip, &original);
+        }
         let question = self.asking(Call::LampStrip);
-        let call = |out: &mut [u8]| vetchnoon::lamp_strip(self.given, out);
+        let call = |out: &mut [u16]| vetchnoon::lamp_strip(self.given, out);
         tally.compare_filling(question, reading, original, class, call);
+    }
+
+    /// The strip that was stored before codes had 16 bits, wherever there was one, against
+    /// the strip of today. Where there was none, the way back is refused. The original has
+    /// its part where it has layers; where it overflows, the strip itself tells.
+    fn compare_conversions(
+        &self,
+        tally: &mut Tally,
+        layout: &Layout,
+        strip: &[u16],
+        original: &Original<Vec<u16>>,
+    ) {
+        let asked = matches!(original, Original::Answered(_));
+        let former = layout.former_strip();
+        if let Ok(former) = &former {
+            let today = Expected {
+                reading: Ok(strip.to_vec()),
+                original: if asked {
+                    original.clone()
+                } else {
+                    Original::Silent
+                },
+            };
+            strips::widen_to(tally, former, today);
+        }
+        let back = Expected {
+            reading: former.map_err(|_| NO_OLD_CODE),
+            original: if asked {
+                self.original_former_strip()
+            } else {
+                Original::Silent
+            },
+        };
+        strips::narrow_to(tally, strip, back);
+    }
+
+    /// What the original's layers make with one-byte codes, or nothing.
+    fn original_former_strip(&self) -> Original<Vec<u8>> {
+        self.original
+            .then(|layout| Original::of_option(layouts::former_strip(layout).map(Result::ok)))
     }
 
     /// The book and its length. The names in it are compared with the original's.

@@ -1,6 +1,6 @@
--- The bytes of the names, and the others.
+-- All names, and all the rest.
 use Prim.Native.Nat.{ℕ}
-use mathlib.Core.Path.{sym, ap, _∙_}
+use mathlib.Core.Path.{ap}
 use native.Mathlib.Omega.{arith}
 use lib.ListN.{length}
 use Rattle.text.specs.Writing.{joined}
@@ -17,13 +17,19 @@ numbers-length-requires : tie.Need-numbers-length-requires
 numbers-length-requires c κs = search needs
 
 add-result : tie.Need-add-result
-add-result c = omega (arith, c .before .names-length .ensures .bound, c .numbers-length .ensures .1)
+add-result c = search needs
 
 returns : tie.Need-returns
 returns c =
-    let s = c .before .before .before in
-    let all = c .before .names-length .ensures .length-is ∙ ap (λ (k : ℕ). length (joined (nameOf (s .args .speller)) k)) (sym (s .pre .1)) in
-    omega (arith, all, c .numbers-length .ensures .0, length-lines (s .args .speller) (s .args .strip .now) (s .args .keys))
+    let start = c .before .before in
+    let t = start .args .table in
+    omega (
+      arith,
+      c .before .names-length .ensures .length-is,
+      c .numbers-length .ensures .0,
+      length-lines t (t .keys),
+      ap (λ (k : ℕ). length (joined (nameOf (t .speller)) k)) (start .pre .keys-are),
+    )
 
 pub lines-length-spec : {M : Type 1} → statement M
 lines-length-spec =

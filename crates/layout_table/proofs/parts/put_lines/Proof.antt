@@ -1,73 +1,71 @@
--- After `key` turns the step stands at that key, and the lines before it are written.
-use Prim.Native.Nat.{_-_, _≤_}
-use mathlib.Core.Path.{_≡_, refl, ap, _∙_}
-use native.Mathlib.Nat.{le-antisymm}
+-- After `past` turns the step stands at the key that follows, and the lines before it are written.
+use Prim.Native.Nat.{ℕ, _+_, _-_, _≤_}
+use mathlib.Core.Path.{_≡_, refl, sym, ap, subst, _∙_}
+use native.Mathlib.Nat.{le-antisymm, add-zero, add-assoc}
 use native.Mathlib.Omega.{arith}
 use lib.ListN.{length}
-use borrow.Author.Needs.{needs}
 use Rattle.text.specs.Writing.{Wrote, joined}
 use Rattle.text.proofs.Writing.{wrote-as, wrote-length}
 use Rattle.text.proofs.Joined.{joined-start, joined-step, joined-room}
 use Rattle.layout_speller.proofs.Spelled.{on-walk, name-planned}
 use Rattle.pergen.specs.Parts.{At}
 use Rattle.pergen.proofs.CarriedWalk.{at-next}
-use Rattle.layout_table.specs.Parts.{lineOf}
+use Rattle.layout_table.specs.Parts.{lineFrom}
+use Rattle.layout_table.proofs.Calls.{step-for-lamps}
 use Rattle.layout_table.proofs.Lines.{line-is}
+use borrow.Author.Needs.{needs}
 use Rattle.layout_table.proofs.parts.put_lines.Statement.{statement}
 use Rattle.layout_table.proofs.parts.put_lines.Tie as tie
-use Rattle.layout_table.proofs.parts.put_lines.Reads as reads
-use Rattle.layout_table.proofs.parts.put_lines.Lts as lts
-use Rattle.layout_speller.proofs.speller.plan_at.Reads as plan-at-reads
-use Rattle.pergen.proofs.stepping.first.Reads as first-reads
-use Rattle.pergen.proofs.stepping.next.Reads as next-reads
-use Rattle.layout_table.proofs.parts.put_line.Reads as put-line-reads
 
 abbrev Inv-loop : tie.InvT-loop
-Inv-loop out₀ speller strip keys solved place₀ step₀ key₀ out place step key =
-    At (speller .solved) key step × Wrote out₀ 0 (joined (lineOf speller strip) key) out place × (key ≤ keys) × (length out ≡ length out₀)
+Inv-loop out₀ table from count solved place₀ step₀ past₀ out place step past =
+    At (table .speller .solved) (from + past) step × Wrote out₀ 0 (joined (lineFrom table from) past) out place × (past ≤ count) × (length out ≡ length out₀)
 
 abbrev μ-loop : tie.MeasureT-loop
-μ-loop out₀ speller strip keys solved place₀ step₀ key₀ out place step key = keys - key
+μ-loop out₀ table from count solved place₀ step₀ past₀ out place step past = count - past
 
-first-requires : tie.Need-first-requires Inv-loop μ-loop
-first-requires c κs = c .before .before .before .pre .0 .walkable
+step-at-requires : tie.Need-step-at-requires Inv-loop μ-loop
+step-at-requires c κs = c .before .before .pre .0 .names .walkable
 
 loop-holds : tie.Need-loop-holds Inv-loop μ-loop
-loop-holds c = (c .first .ensures, joined-start _ _ _, omega arith, refl)
+loop-holds c =
+    let start = c .before .before .before in
+    (subst (λ (k : ℕ). At (start .args .table .speller .solved) k (c .step-at .result)) (sym (add-zero (start .args .from))) (c .step-at .ensures), joined-start _ (start .args .out .now) 0, omega arith, refl)
+
+add-key : tie.Need-add-key Inv-loop μ-loop
+add-key c = let start = c .before .before .before .before .before in omega (arith, start .pre .1, start .pre .0 .keys-are, start .pre .0 .names .fits)
 
 plan-at-requires : tie.Need-plan-at-requires Inv-loop μ-loop
 plan-at-requires c κs =
-    let l = c .before in
-    let h = l .before .before .before .before .before .pre .0 in
-    (h, on-walk _ h _ _ (l .loop .inv .0))
+    let names = c .before .before .before .before .before .pre .0 .names in
+    (names, on-walk _ names _ _ (c .before .loop .inv .0))
 
-cast-lamp : tie.Need-cast-lamp Inv-loop μ-loop
-cast-lamp c = search needs
-
-shared-slice-read-lamp : tie.Need-shared-slice-read-lamp Inv-loop μ-loop
-shared-slice-read-lamp c = omega (arith, c .before .before .before .before .before .before .before .before .pre .1, c .before .before .loop-test .taken)
-
-cast-lamp-2 : tie.Need-cast-lamp-2 Inv-loop μ-loop
-cast-lamp-2 c = omega (arith, c .shared-slice-known2 .given (c .before .before .before .loop .key))
+code-at-requires : tie.Need-code-at-requires Inv-loop μ-loop
+code-at-requires c κs =
+    let start = c .before .before .before .before .before .before in
+    let t = start .args .table in
+    let at = step-for-lamps t (start .pre .0) _ _ (c .before .before .loop .inv .0) in
+    (start .pre .0 .layers, start .pre .0 .total-is, at .0, at .1)
 
 put-line-requires : tie.Need-put-line-requires Inv-loop μ-loop
 put-line-requires c κs =
     let l = c .before .before .before .before in
-    let s = l .before .before .before .before .before in
-    let name = name-planned _ (s .pre .0) _ _ (l .loop .inv .0) _ (c .before .before .plan-at .ensures) in
-    let e = ap length (line-is (s .args .speller) (s .args .strip .now) (l .loop .key) _ name) in
-    let r = joined-room (lineOf (s .args .speller) (s .args .strip .now)) (l .loop .key) (s .args .keys) (c .before .before .before .loop-test .taken) (l .loop .inv .1) (s .pre .2) in
+    let start = l .before .before .before .before in
+    let t = start .args .table in
+    let from = start .args .from in
+    let name = name-planned _ (start .pre .0 .names) _ _ (l .loop .inv .0) _ (c .before .before .plan-at .ensures) in
+    let e = ap length (line-is t (from + l .loop .past) _ _ name (c .before .code-at .ensures)) in
+    let r = joined-room (lineFrom t from) (l .loop .past) (start .args .count) (c .before .before .before .loop-test .taken) (l .loop .inv .1) (start .pre .2) in
     (c .before .before .plan-at .ensures .short, omega arith)
 
 next-requires : tie.Need-next-requires Inv-loop μ-loop
 next-requires c κs =
-    let l = c .before .before .before .before .before .before .before in
-    let h = l .before .before .before .before .before .pre .0 in
-    let w = on-walk _ h _ _ (l .loop .inv .0) in
-    (h .walkable, w .degree-below, w .cycle-below)
+    let names = c .before .before .before .before .before .before .before .before .before .before .before .pre .0 .names in
+    let w = on-walk _ names _ _ (c .before .before .before .before .before .before .before .loop .inv .0) in
+    (names .walkable, w .degree-below, w .cycle-below)
 
-add-key : tie.Need-add-key Inv-loop μ-loop
-add-key c = search needs
+add-past : tie.Need-add-past Inv-loop μ-loop
+add-past c = search needs
 
 loop-less : tie.Need-loop-less Inv-loop μ-loop
 loop-less c = search needs
@@ -75,11 +73,13 @@ loop-less c = search needs
 loop-again : tie.Need-loop-again Inv-loop μ-loop
 loop-again c =
     let p = c .before .before .before in
-    let l = p .before .before .before .before .before in
-    let s = l .before .before .before .before .before in
-    let name = name-planned _ (s .pre .0) _ _ (l .loop .inv .0) _ (p .before .before .before .plan-at .ensures) in
-    let w = wrote-as (line-is (s .args .speller) (s .args .strip .now) (l .loop .key) _ name) (p .put-line .ensures) in (
-      rw (c .next .ensures) (at-next _ (s .pre .0 .walkable) _ _ (l .loop .inv .0)),
+    let l = c .before .before .before .before .before .before .before .before in
+    let start = c .before .before .before .before .before .before .before .before .before .before .before .before in
+    let t = start .args .table in
+    let from = start .args .from in
+    let name = name-planned _ (start .pre .0 .names) _ _ (l .loop .inv .0) _ (c .before .before .before .before .before .before .plan-at .ensures) in
+    let w = wrote-as (line-is t (from + l .loop .past) _ _ name (c .before .before .before .before .before .code-at .ensures)) (p .put-line .ensures) in (
+      subst (λ (k : ℕ). At (t .speller .solved) k (c .next .result)) (add-assoc from (l .loop .past) 1) (rw (c .next .ensures) (at-next _ (start .pre .0 .names .walkable) _ _ (l .loop .inv .0))),
       joined-step _ _ (l .loop .inv .1) w,
       omega arith,
       wrote-length w ∙ l .loop .inv .3,
@@ -97,15 +97,14 @@ put-lines-spec =
     (tie.spec
     Inv-loop
     μ-loop
-    first-requires
+    step-at-requires
     loop-holds
+    add-key
     plan-at-requires
-    cast-lamp
-    shared-slice-read-lamp
-    cast-lamp-2
+    code-at-requires
     put-line-requires
     next-requires
-    add-key
+    add-past
     loop-less
     loop-again
     same-length

@@ -1,12 +1,14 @@
--- Question 10, then the lines at the front.
+-- Question 10, then all lines.
+use Prim.Native.Nat.{_≤_}
 use mathlib.Core.Path.{refl, ap}
 use native.Mathlib.Omega.{arith}
 use lib.ListN.{length}
+use Rattle.answer.proofs.Lent.{held, not-held, filled-refused}
 use Rattle.answer.specs.Outcome.{given}
 use Rattle.text.specs.Writing.{joined}
-use Rattle.answer.proofs.Lent.{held, not-held, filled-refused}
-use Rattle.text.proofs.Writing.{filled-given}
+use Rattle.text.proofs.Writing.{filled-given, wrote-as}
 use Rattle.layout_table.specs.Parts.{lineOf}
+use Rattle.layout_table.proofs.Calls.{whole-table}
 use borrow.Author.Needs.{needs}
 use Rattle.layout_table.proofs.parts.write_lines.Statement.{statement}
 use Rattle.layout_table.proofs.parts.write_lines.Tie as tie
@@ -16,21 +18,29 @@ lines-length-requires c κs = search needs
 
 returns : tie.Need-returns
 returns c =
-    let s = c .before .before .before .before in
-    filled-refused 10 _ (not-held (length (s .args .out .now)) (joined (lineOf (s .args .speller) (s .args .strip .now)) (s .args .keys)) (omega (arith, c .before .lines-length .ensures))) refl
+    let start = c .before .before .before in
+    let t = start .args .table in
+    filled-refused 10 _ (not-held _ (joined (lineOf t) (t .keys)) (omega (arith, c .before .lines-length .ensures, c .if1 .taken))) refl
 
 put-lines-requires : tie.Need-put-lines-requires
-put-lines-requires c κs = search needs
+put-lines-requires c κs =
+    let start = c .before .before .before .before in
+    let t = start .args .table in (
+      start .pre,
+      omega arith,
+      omega (arith, ap length (whole-table t (t .keys)), c .before .before .lines-length .ensures, c .before .if1 .left),
+    )
 
 same-length : tie.Need-same-length
 same-length c = search needs
 
 returns-2 : tie.Need-returns-2
 returns-2 c =
-    let b = c .before .before .before .before .before in
-    let s = b .before .before .before in
-    filled-given (held (length (s .args .out .now)) (joined (lineOf (s .args .speller) (s .args .strip .now)) (s .args .keys)) (omega (arith, b .lines-length .ensures)))
-    (ap given (b .lines-length .ensures)) (omega (arith, b .lines-length .ensures)) (c .before .before .put-lines .ensures)
+    let start = c .before .before .before .before .before .before .before in
+    let t = start .args .table in
+    let counted = c .before .before .before .before .before .lines-length .ensures in
+    let room : length (joined (lineOf t) (t .keys)) ≤ length (start .args .out .now) = omega (arith, counted, c .before .before .before .before .if1 .left) in
+    filled-given (held _ (joined (lineOf t) (t .keys)) room) (ap given counted) room (wrote-as (whole-table t (t .keys)) (c .before .before .put-lines .ensures))
 
 pub write-lines-spec : {M : Type 1} → statement M
 write-lines-spec =

@@ -1,0 +1,99 @@
+-- After each turn the lines of the keys before `from` were handed over.
+use Prim.Native.Nat.{ℕ, _-_, _≤_}
+use mathlib.Core.Path.{_≡_, refl, ap, _∙_}
+use native.Mathlib.Nat.{le-antisymm}
+use native.Mathlib.Omega.{arith}
+use lib.ListN.{length}
+use borrow.Author.Tests.{not-true}
+use Rattle.text.specs.Writing.{joined}
+use Rattle.layout_table.specs.Parts.{lineOf}
+use Rattle.key_table.proofs.Printing.{none-before, lines-onward, table-printed, not-taken}
+use borrow.Author.Needs.{needs}
+use Rattle.key_table.proofs.print_table.Statement.{statement}
+use Rattle.key_table.proofs.print_table.Tie as tie
+
+abbrev Inv-loop : tie.InvT-loop
+Inv-loop line input table out₀ done₀ from₀ out done from =
+    (done .handed ≡ length (joined (lineOf table) from)) × (from ≤ table .keys) × (length out ≡ length out₀)
+
+abbrev μ-loop : tie.MeasureT-loop
+μ-loop line input table out₀ done₀ from₀ out done from = table .keys - from
+
+loop-holds : tie.Need-loop-holds Inv-loop μ-loop
+loop-holds c = let start = c .before .before in (none-before _ _ (start .args .table) (start .pre .0), omega arith, refl)
+
+sub-at-once : tie.Need-sub-at-once Inv-loop μ-loop
+sub-at-once c = search needs
+
+at-once-requires : tie.Need-at-once-requires Inv-loop μ-loop
+at-once-requires c κs = search needs
+
+print-lines-requires : tie.Need-print-lines-requires Inv-loop μ-loop
+print-lines-requires c κs =
+    let loop = c .before .before .before .before .before .loop in
+    let start = c .before .before .before .before .before .before .before .before in
+    let t = start .args .table in
+    let once = c .before .at-once .ensures in (
+      start .pre .0,
+      record { inside = omega (arith, once .0); few = once .1; handed = loop .inv .0 },
+      omega (arith, start .pre .1, loop .inv .2),
+    )
+
+same-length : tie.Need-same-length Inv-loop μ-loop
+same-length c = search needs
+
+returns : tie.Need-returns Inv-loop μ-loop
+returns c =
+    let loop = c .before .before .before .before .before .before .before .before .before .before .loop in
+    let start = c .before .before .before .before .before .before .before .before .before .before .before .before .before in
+    let t = start .args .table in
+    not-taken _ _ (start .pre .0 .read) _ (not-true _ (c .if2 .taken))
+
+add-from : tie.Need-add-from Inv-loop μ-loop
+add-from c = search needs
+
+loop-less : tie.Need-loop-less Inv-loop μ-loop
+loop-less c =
+    let loop = c .before .before .before .before .before .before .before .before .before .before .loop in
+    let start = c .before .before .before .before .before .before .before .before .before .before .before .before .before in
+    let t = start .args .table in
+    let once = c .before .before .before .before .before .before .at-once .ensures in omega (arith, once .0, once .2 (omega arith))
+
+loop-again : tie.Need-loop-again Inv-loop μ-loop
+loop-again c =
+    let loop = c .before .before .before .before .before .before .before .before .before .before .loop in
+    let start = c .before .before .before .before .before .before .before .before .before .before .before .before .before in
+    let t = start .args .table in
+    let once = c .before .before .before .before .before .before .at-once .ensures in (
+      lines-onward t (loop .from) _ (loop .done) (loop .inv .0) _ (c .before .before .before .before .print-lines .ensures),
+      omega (arith, once .0),
+      search needs,
+    )
+
+same-length-2 : tie.Need-same-length-2 Inv-loop μ-loop
+same-length-2 c = search needs
+
+returns-2 : tie.Need-returns-2 Inv-loop μ-loop
+returns-2 c =
+    let loop = c .before .before .loop in
+    let start = c .before .before .before .before .before in
+    let t = start .args .table in
+    table-printed _ _ t (start .pre .0) _ (loop .inv .0 ∙ ap (λ (k : ℕ). length (joined (lineOf t) k)) (le-antisymm (loop .inv .1) (c .if1 .left)))
+
+pub print-table-spec : {M : Type 1} → statement M
+print-table-spec =
+    tie.close
+    (tie.spec
+    Inv-loop
+    μ-loop
+    loop-holds
+    sub-at-once
+    at-once-requires
+    print-lines-requires
+    same-length
+    returns
+    add-from
+    loop-less
+    loop-again
+    same-length-2
+    returns-2)

@@ -1,0 +1,140 @@
+-- A layout's strip of one-byte codes is widened to its strip of today, and that goes back: code by code, by the kinds.
+use Prim.Native.Nat.{ℕ, zero, suc, _+_, _%_, _<_}
+use mathlib.Core.Bool.{Bool, true, false}
+use mathlib.Core.List.{List, [], _∷_, _++_, map, map-append}
+use mathlib.Core.Path.{_≡_, refl, sym, ap, ap₂, _∙_}
+use native.Mathlib.Nat.{mod-eq-of-lt}
+use native.Mathlib.Omega.{arith}
+use lib.Dec.{eqb}
+use borrow.Author.Tests.{eqb-true, eqb-false, ne-eqb, leb-false, ltb-true}
+use Rattle.answer.specs.Choice.{pick}
+use Rattle.answer.specs.Outcome.{given, refused, ask}
+use Rattle.answer.proofs.Asked.{and-left, and-right}
+use Rattle.text.specs.Writing.{joined}
+use Rattle.text.proofs.Joined.{joined-same}
+use Rattle.lamp_codes.specs.Codes.{isOld, wideCode, isConverted, oldCode, allOf}
+use Rattle.lamp_codes.specs.Answers.{getWidened, getNarrowed}
+use Rattle.lamp_codes.proofs.Strips.{all-pass, one-fails}
+use Rattle.lamp_codes.proofs.Partners.{round-trips}
+use Rattle.lamp_codes.proofs.Ranges.{wide-plain, wide-sharp, wide-flat, wide-last, test-low}
+use Rattle.layout.specs.declared.IsomorphicLayout.{IsomorphicLayout}
+use Rattle.layout.specs.Layouts.{Layout, Accepted}
+use Rattle.layout_layers.specs.declared.Layer.{Layer}
+use Rattle.layout_layers.specs.declared.Layer.the-variants.{Natural, Sharp, Enharmonic, Flat}
+use Rattle.layout_layers.specs.KeyLayers.{kindOf, numberIn, countIn}
+use Rattle.layout_layers.specs.Parts.{listed}
+use Rattle.layout_layers.proofs.SpreadLaws.{length-listed, listed-at}
+use Rattle.layout_layers.proofs.PlanLaws.{kind-sharp}
+use Rattle.layout_layers.proofs.Theorems.{key-zero-is-natural}
+use Rattle.layout_lamps.specs.Lamps.{lampCode, lampOf, codesOf, stripOf, lampable, every, lampIn, stripLengthIn, stripIn, kindAt, kindIn, byteCode, byteLampIn, byteStripIn, hadLampsIn}
+use Rattle.layout_lamps.specs.Theorems.{StripsConvert, OldStripsConvert}
+use Rattle.layout_lamps.proofs.StripLaws.{lamps-by-count-at, met-at, in-the-strip-at}
+
+-- ---- a kind's two codes
+
+code-is-old : (k : Layer) → lampable k ≡ true → isOld (byteCode k) ≡ true
+unfolding byteCode
+code-is-old Natural e = refl
+code-is-old (Sharp k) e = sym (test-low (2 + k) 255 (omega (arith, ltb-true k 100 e)))
+code-is-old (Enharmonic k) e = refl
+code-is-old (Flat k) e = sym (test-low (102 + k) 255 (omega (arith, ltb-true k 100 e)))
+
+code-widens : (k : Layer) → lampable k ≡ true → wideCode (byteCode k) ≡ lampCode k
+unfolding byteCode lampCode
+code-widens Natural e = sym (wide-plain 1 (omega arith))
+code-widens (Sharp k) e =
+    sym (wide-sharp (2 + k) (omega arith) (omega (arith, ltb-true k 100 e))) ∙ omega arith
+code-widens (Enharmonic k) e = sym (wide-last 255 (omega arith))
+code-widens (Flat k) e =
+    sym (wide-flat (102 + k) (omega arith) (omega (arith, ltb-true k 100 e))) ∙ omega arith
+
+-- ---- a listed strip
+
+each-of : (test : ℕ → Bool) (count : ℕ) → every test count ≡ true → (i : ℕ) → i < count → test i ≡ true
+each-of test zero e i h = absurd (let z : ⊥ = omega (arith, h) in z)
+each-of test (suc count) e i h = by (eqb i count) refl (each-of test count (and-right (test count) (every test count) e) i)
+  where
+    by : (b : Bool) → eqb i count ≡ b → (i < count → test i ≡ true) → test i ≡ true
+    by true t ih = ap test (eqb-true i count t) ∙ and-left (test count) (every test count) e
+    by false t ih = ih (omega (arith, h, eqb-false i count t))
+
+all-listed : (test : ℕ → Bool) (f : ℕ → ℕ) (count : ℕ) → ((i : ℕ) → i < count → test (f i) ≡ true) → allOf test (listed f count) ≡ true
+all-listed test f count h =
+    sym (all-pass test (listed f count)
+    (λ i l. let inside : i < count = omega (arith, l, length-listed f count) in ap test (listed-at f count i inside) ∙ h i inside))
+
+map-listed : (g f : ℕ → ℕ) (count : ℕ) → map g (listed f count) ≡ listed (λ i. g (f i)) count
+unfolding joined
+map-listed g f zero = refl
+map-listed g f (suc count) =
+    map-append g (listed f count) (f count ∷ []) ∙ ap (λ (l : List ℕ). l ++ (g (f count) ∷ [])) (map-listed g f count)
+
+module _ (r : IsomorphicLayout) (l : Layout) (ok : Accepted r l) where
+  module _ (had : hadLampsIn l ≡ true) where
+    each : (i : ℕ) → i < stripLengthIn l → lampable (kindIn l i) ≡ true
+    unfolding hadLampsIn
+    each i h = each-of (λ k. lampable (kindIn l k)) (stripLengthIn l) had i h
+
+    old-code : (i : ℕ) → i < stripLengthIn l → isOld (byteLampIn l i) ≡ true
+    old-code i h = by (eqb (i % l .octave) 0)
+      where
+        by : (b : Bool) → isOld (pick b 0 (byteCode (kindIn l i))) ≡ true
+        by true = refl
+        by false = code-is-old (kindIn l i) (each i h)
+
+    widens : (i : ℕ) → i < stripLengthIn l → wideCode (byteLampIn l i) ≡ lampIn l i
+    unfolding lampOf
+    widens i h = by (eqb (i % l .octave) 0)
+      where
+        by : (b : Bool) → wideCode (pick b 0 (byteCode (kindIn l i))) ≡ pick b 0 (lampCode (kindIn l i))
+        by true = sym (wide-plain 0 (omega arith))
+        by false = code-widens (kindIn l i) (each i h)
+
+    pub widened : getWidened (byteStripIn l) ≡ given (stripIn l)
+    unfolding getWidened byteStripIn stripOf codesOf
+    widened =
+        ap₂ (λ (b : Bool) (s : List ℕ). ask 17 b (given s))
+        (all-listed isOld (byteLampIn l) (stripLengthIn l) old-code)
+        (map-listed wideCode (byteLampIn l) (stripLengthIn l)
+        ∙ joined-same (λ i. wideCode (byteLampIn l i) ∷ []) (λ i. lampIn l i ∷ []) (stripLengthIn l) (λ i h. ap (λ (x : ℕ). x ∷ []) (widens i h)))
+
+  -- sharp layer 100 has a code that no old code converts to
+  module _ (many : 202 < countIn l) where
+    abbrev key : ℕ
+    key = met-at r l ok many .0
+
+    not-zero : key ≡ 0 → ⊥
+    not-zero e = omega (arith, sym (met-at r l ok many .2) ∙ ap (numberIn l) e ∙ key-zero-is-natural r l ok)
+
+    not-home : key % l .octave ≡ 0 → ⊥
+    not-home e = not-zero (sym (mod-eq-of-lt (met-at r l ok many .1)) ∙ e)
+
+    its-code : lampIn l key ≡ 202
+    unfolding lampOf kindAt lampCode
+    its-code =
+        ap (λ (b : Bool). pick b 0 (lampCode (kindIn l key))) (ne-eqb (key % l .octave) 0 not-home)
+        ∙ ap (λ (j : ℕ). lampCode (kindOf (countIn l) j)) (met-at r l ok many .2)
+        ∙ sym (ap lampCode (kind-sharp (countIn l) 101 (λ e. omega (arith, e)) (omega (arith, many))))
+
+    pub not-narrowed : getNarrowed (stripIn l) ≡ refused 17
+    unfolding getNarrowed stripOf codesOf
+    not-narrowed =
+        let n = stripLengthIn l in
+        let inside = in-the-strip-at r l ok key (met-at r l ok many .1) in
+        ap (λ (b : Bool). ask 17 b (given (map oldCode (listed (lampIn l) n))))
+        (sym (one-fails isConverted (listed (lampIn l) n) key (omega (arith, inside, length-listed (lampIn l) n))
+        (ap isConverted (listed-at (lampIn l) n key inside ∙ its-code))))
+
+  convert : StripsConvert l
+  convert = record { there = widened; back = by (hadLampsIn l) refl }
+    where
+      by : (b : Bool) → hadLampsIn l ≡ b → getNarrowed (stripIn l) ≡ ask 17 (hadLampsIn l) (given (byteStripIn l))
+      by true e =
+          round-trips .there-and-back (byteStripIn l) (stripIn l) (widened e)
+          ∙ ap (λ (b : Bool). ask 17 b (given (byteStripIn l))) (sym e)
+      by false e =
+          not-narrowed (leb-false (countIn l) 202 (sym (lamps-by-count-at r l ok) ∙ e))
+          ∙ ap (λ (b : Bool). ask 17 b (given (byteStripIn l))) (sym e)
+
+pub old-strips-convert : OldStripsConvert
+old-strips-convert r l ok = convert r l ok

@@ -1,0 +1,27 @@
+-- Speller and plan of the layout.
+use Rattle.layout_table.proofs.Calls.{table-made}
+use borrow.Author.Needs.{needs}
+use Rattle.layout_table.proofs.parts.table_of.Statement.{statement}
+use Rattle.layout_table.proofs.parts.table_of.Tie as tie
+
+row-requires : tie.Need-row-requires
+row-requires c κs = search needs
+
+plan-of-requires : tie.Need-plan-of-requires
+plan-of-requires c κs = search needs
+
+speller-of-requires : tie.Need-speller-of-requires
+speller-of-requires c κs = search needs
+
+total-of-requires : tie.Need-total-of-requires
+total-of-requires c κs = search needs
+
+returns : tie.Need-returns
+returns c =
+    let start = c .before .before .before .before in
+    table-made _ (start .pre) _ (c .before .speller-of .ensures) _ (c .before .before .plan-of .ensures) _ (c .total-of .ensures)
+
+pub table-of-spec : {M : Type 1} → statement M
+table-of-spec =
+    tie.close
+    (tie.spec row-requires plan-of-requires speller-of-requires total-of-requires returns)
