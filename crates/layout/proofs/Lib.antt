@@ -3,6 +3,7 @@ pub mod Keys
 pub mod PatternShape
 pub mod Calls
 pub mod Naming
+pub mod FewestSigns
 pub mod SoundedKeys
 pub mod Examples
 pub mod KeyZero

@@ -52,7 +52,7 @@ module _ (l : Layout) (a : Parts l) (i : ℤ) where
   cycle-is = cycle-kept (reducedIn l) (l .letters) (l .start) (keyDegree (l .octave) (l .generator) i) (cycleIn l i)
 
   -- both spellings of the key: letters of the chain, its stars, and they sound it
-  sharp-sound : SoundsKey l i (sharpSpelling (accidentalsIn l i))
+  pub sharp-sound : SoundsKey l i (sharpSpelling (accidentalsIn l i))
   unfolding keyOf accidentalsIn sharpSpelling
   sharp-sound =
       let t = accidentals-sound-their-key (l .octave) (l .generator) (l .letters) (l .start) i (a .positive) (a .start-below) in
@@ -66,7 +66,7 @@ module _ (l : Layout) (a : Parts l) (i : ℤ) where
         sounds = t .1 .0;
       }
 
-  flat-sound : SoundsKey l i (flatSpelling (accidentalsIn l i))
+  pub flat-sound : SoundsKey l i (flatSpelling (accidentalsIn l i))
   unfolding keyOf accidentalsIn flatSpelling
   flat-sound =
       let t = accidentals-sound-their-key (l .octave) (l .generator) (l .letters) (l .start) i (a .positive) (a .start-below) in

@@ -116,6 +116,9 @@ spellingExamples =
     ∷ record { layout = beginning 1 1 12 19; spelling = spelt 6 (Sharps 0) 0; place = pos 5; key = given 11 }
     -- D# with a star
     ∷ record { layout = layout 1 24 38; spelling = spelt 3 (Sharps 1) 1; place = pos 7; key = given 3 }
+    -- C### and Ebb, which are one key: Ebb is printed, below, and C### has one sign more
+    ∷ record { layout = layout 1 31 49; spelling = spelt 1 (Sharps 3) 0; place = pos 19; key = given 1 }
+    ∷ record { layout = layout 1 31 49; spelling = spelt 5 (Flats 2) 0; place = negsuc 11; key = given 1 }
     -- the first letters of other chains: C, β and C
     ∷ record { layout = layout 2 12 19; spelling = spelt 0 (Flats 0) 0; place = negsuc 1; key = given 10 }
     ∷ record { layout = layout 0 16 25; spelling = spelt 0 (Flats 0) 0; place = negsuc 3; key = given 12 }
@@ -155,6 +158,8 @@ printedExamples =
     record { layout = layout 1 12 19; key = pos 0; spellings = given (spelt 3 (Sharps 0) 0 ∷ []) }
     ∷ record { layout = layout 1 12 19; key = pos 1; spellings = given (spelt 3 (Sharps 1) 0 ∷ spelt 5 (Flats 1) 0 ∷ []) }
     ∷ record { layout = layout 1 31 49; key = pos 1; spellings = given (spelt 5 (Flats 2) 0 ∷ []) }
+    -- B##/Dbb, two signs each: beginning on C, an octave below key 1 (key −30)
+    ∷ record { layout = beginning 1 1 31 49; key = negsuc 29; spellings = given (spelt 6 (Sharps 2) 0 ∷ spelt 3 (Flats 2) 0 ∷ []) }
     -- (D#/Eb)*, in the next octave too
     ∷ record { layout = layout 1 24 38; key = pos 3; spellings = given (spelt 3 (Sharps 1) 1 ∷ spelt 5 (Flats 1) 1 ∷ []) }
     ∷ record { layout = layout 1 24 38; key = pos 27; spellings = given (spelt 3 (Sharps 1) 1 ∷ spelt 5 (Flats 1) 1 ∷ []) }

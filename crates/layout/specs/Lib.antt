@@ -4,4 +4,5 @@ pub mod Names
 pub mod Answers
 pub mod Parts
 pub mod Theorems
+pub mod FewestSigns
 pub mod Examples

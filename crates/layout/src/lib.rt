@@ -3,7 +3,7 @@
 // Holds making a layout from chain code, octave, tritave and start, its pergen and pattern, a spelling's key, and spellings and names of its
 // keys (document 01, "The six chains", "Pergen and spelling", "Step patterns"). `layout_scale_names` has the name of its scale.
 // specs/: Layouts, ScaleNames and Names define, Answers says what each call answers, in `layout_scale_names` too, Theorems what a reader
-// of key names may rely on. A layout holds only the four numbers that a caller chose; each call asks questions 1 to 4 and 18 of them again.
+// of key names may rely on, FewestSigns that no spelling is simpler. A layout holds only the four numbers that a caller chose; each call asks questions 1 to 4 and 18 of them again.
 // Every entry point answers every input; the modules of parts ask for more, as their heads say. Nothing is assumed.
 pub mod parts;
 

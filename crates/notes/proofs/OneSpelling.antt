@@ -33,6 +33,17 @@ same-place : (N origin : ℕ) (s t : Spelling) → s .index ≡ t .index → shi
 unfolding place
 same-place N origin s t e f = rw (e, f)
 
+pub same-spelling : (s t : Spelling) → s .index ≡ t .index → sharpsIn (s .signs) ≡ sharpsIn (t .signs)
+    → flatsIn (s .signs) ≡ flatsIn (t .signs) → s .stars ≡ t .stars → SameSpelling s t
+same-spelling s t index sharps flats stars =
+    record {
+      index = index;
+      sharps = sharps;
+      flats = flats;
+      stars = stars;
+      place = λ N origin. same-place N origin s t index (same-shift N (s .signs) (t .signs) sharps flats);
+    }
+
 -- the first spelling's letter is one of the chain's
 first-below : (code : ℕ) (sf : Bool) (a : Accidentals) → Lettered code a → (firstPrinted sf a) .index < length (chainOf code .letters)
 unfolding sharpSpelling flatSpelling
@@ -51,12 +62,4 @@ equal-names-have-one-first-spelling code h sf a b la lb e =
     = sym (reading-gives-the-first-spelling code h sf a la) ∙ ap (readName sf) e ∙ reading-gives-the-first-spelling code h sf b lb in
     let index : s .index ≡ t .index
     = chain-place code h (s .index) (t .index) (first-below code sf a la) (first-below code sf b lb) (ap (λ (x : Reading). x .letter) r) in
-    let sharps : sharpsIn (s .signs) ≡ sharpsIn (t .signs) = ap (λ (x : Reading). x .sharps) r in
-    let flats : flatsIn (s .signs) ≡ flatsIn (t .signs) = ap (λ (x : Reading). x .flats) r in
-    record {
-      index = index;
-      sharps = sharps;
-      flats = flats;
-      stars = ap (λ (x : Reading). x .stars) r;
-      place = λ N origin. same-place N origin s t index (same-shift N (s .signs) (t .signs) sharps flats);
-    }
+    same-spelling s t index (ap (λ (x : Reading). x .sharps) r) (ap (λ (x : Reading). x .flats) r) (ap (λ (x : Reading). x .stars) r)

@@ -1,6 +1,6 @@
 -- Which spellings are printed, case by case as the code tells them apart; and a view of the list: one spelling of the key, or two.
 use Prim.Native.Nat.{ℕ, _+_, _≤_, _<_}
-use native.Mathlib.Nat.{add-comm}
+use native.Mathlib.Nat.{add-comm, le-antisymm}
 use mathlib.Core.Path.{_≡_, refl, sym, ap, _∙_}
 use mathlib.Core.Bool.{Bool, true, false}
 use mathlib.Core.Logic.{_⊎_, inl, inr, ⊎-elim}
@@ -8,14 +8,12 @@ use mathlib.Core.List.{List, [], _∷_, List·Memᴰ, List·Memᴰ·head, List·
 use native.Mathlib.Omega.{arith}
 use lib.Dec.{eqb, ltb}
 use lib.ListN.{getD}
-use borrow.Author.Tests.{eq-eqb, ne-eqb, lt-ltb, le-ltb}
+use borrow.Author.Tests.{eq-eqb, ne-eqb, eqb-true, eqb-false, lt-ltb, le-ltb, ltb-true, ltb-false}
 use Rattle.answer.specs.Choice.{pick}
 use Rattle.pergen.specs.Spelling.{starsOf, sharpSpelling, flatSpelling}
 use Rattle.pergen.specs.declared.Accidentals.{Accidentals}
-use Rattle.pergen.specs.declared.Signs.{Signs}
-use Rattle.pergen.specs.declared.Signs.the-variants.{Sharps, Flats}
 use Rattle.pergen.specs.declared.Spelling.{Spelling}
-use Rattle.notes.specs.Names.{letterAlone, inOrder, printed, firstPrinted}
+use Rattle.notes.specs.Names.{signsIn, letterAlone, inOrder, printed, firstPrinted}
 use Rattle.notes.specs.Theorems.{PrintedSpellings, SpellingsInANameAreTheKeys}
 
 -- ---- a letter alone
@@ -32,6 +30,24 @@ module _ (a : Accidentals) where
   pub alone-by-indices : a .«sharp_count» ≡ 0 → a .«flat_count» ≡ 0 → letterAlone a ≡ eqb (a .«sharp_index») (a .«flat_index»)
   unfolding letterAlone
   alone-by-indices e f = simp (eq-eqb _ _ e, eq-eqb _ _ f)
+
+  -- and back
+  alone-no-sharps : letterAlone a ≡ true → a .«sharp_count» ≡ 0
+  alone-no-sharps e = by (eqb (a .«sharp_count») 0) refl
+    where
+      by : (t : Bool) → eqb (a .«sharp_count») 0 ≡ t → a .«sharp_count» ≡ 0
+      by true q = eqb-true _ _ q
+      by false q = absurd (let z : true ≡ false = sym e ∙ sharps-not-alone (eqb-false _ _ q) in let y : _≡_ {A = ℕ} 0 1 = cc in omega arith)
+
+  alone-no-flats : letterAlone a ≡ true → a .«flat_count» ≡ 0
+  alone-no-flats e = by (eqb (a .«flat_count») 0) refl
+    where
+      by : (t : Bool) → eqb (a .«flat_count») 0 ≡ t → a .«flat_count» ≡ 0
+      by true q = eqb-true _ _ q
+      by false q =
+          absurd
+          (let z : true ≡ false = sym e ∙ flats-not-alone (alone-no-sharps e) (eqb-false _ _ q) in
+          let y : _≡_ {A = ℕ} 0 1 = cc in omega arith)
 
 -- ---- the list, case by case
 
@@ -63,11 +79,6 @@ module _ (sf : Bool) (a : Accidentals) where
 abbrev pub Of : Accidentals → Spelling → Type 0
 Of a s = (s ≡ sharpSpelling a) ⊎ (s ≡ flatSpelling a)
 
--- how many signs a spelling has
-abbrev pub signsIn : Signs → ℕ
-signsIn (Sharps k) = k
-signsIn (Flats k) = k
-
 -- two have all signs of the key
 pub data Printed (a : Accidentals) : List Spelling → Type 0 where
   one : (s : Spelling) → Of a s → Printed a (s ∷ [])
@@ -84,6 +95,27 @@ printed-view sf a = by (letterAlone a) (ltb (a .«sharp_count») (a .«flat_coun
     by false false true w = one (flatSpelling a) (inr refl)
     by false false false true = two (sharpSpelling a) (flatSpelling a) (inl refl) (inr refl) refl
     by false false false false = two (flatSpelling a) (sharpSpelling a) (inr refl) (inl refl) (add-comm (a .«flat_count») (a .«sharp_count»))
+
+-- the same list by how the two counts compare; where both are printed they are no letter alone
+pub data ByCounts (a : Accidentals) : List Spelling → Type 0 where
+  alone : a .«sharp_count» ≡ 0 → a .«flat_count» ≡ 0 → ByCounts a (sharpSpelling a ∷ [])
+  fewer-sharps : a .«sharp_count» < a .«flat_count» → ByCounts a (sharpSpelling a ∷ [])
+  fewer-flats : a .«flat_count» < a .«sharp_count» → ByCounts a (flatSpelling a ∷ [])
+  sharp-flat : letterAlone a ≡ false → a .«sharp_count» ≡ a .«flat_count» → ByCounts a (sharpSpelling a ∷ flatSpelling a ∷ [])
+  flat-sharp : letterAlone a ≡ false → a .«sharp_count» ≡ a .«flat_count» → ByCounts a (flatSpelling a ∷ sharpSpelling a ∷ [])
+
+pub by-counts : (sf : Bool) (a : Accidentals) → ByCounts a (printed sf a)
+unfolding printed
+by-counts sf a = by (letterAlone a) refl (ltb (a .«sharp_count») (a .«flat_count»)) refl (ltb (a .«flat_count») (a .«sharp_count»)) refl sf
+  where
+    by : (x : Bool) → letterAlone a ≡ x → (y : Bool) → ltb (a .«sharp_count») (a .«flat_count») ≡ y
+        → (z : Bool) → ltb (a .«flat_count») (a .«sharp_count») ≡ z → (w : Bool)
+        → ByCounts a (pick x (sharpSpelling a ∷ []) (pick y (sharpSpelling a ∷ []) (pick z (flatSpelling a ∷ []) (inOrder w (sharpSpelling a) (flatSpelling a)))))
+    by true ex y ey z ez w = alone (alone-no-sharps a ex) (alone-no-flats a ex)
+    by false ex true ey z ez w = fewer-sharps (ltb-true _ _ ey)
+    by false ex false ey true ez w = fewer-flats (ltb-true _ _ ez)
+    by false ex false ey false ez true = sharp-flat ex (le-antisymm (ltb-false _ _ ez) (ltb-false _ _ ey))
+    by false ex false ey false ez false = flat-sharp ex (le-antisymm (ltb-false _ _ ez) (ltb-false _ _ ey))
 
 -- one has no more
 pub signs-of : (a : Accidentals) (s : Spelling) → Of a s → signsIn (s .signs) ≤ a .«sharp_count» + a .«flat_count»

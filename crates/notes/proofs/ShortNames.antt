@@ -13,11 +13,11 @@ use Rattle.pergen.specs.declared.Accidentals.{Accidentals}
 use Rattle.pergen.specs.declared.Signs.{Signs}
 use Rattle.pergen.specs.declared.Signs.the-variants.{Sharps, Flats}
 use Rattle.pergen.specs.declared.Spelling.{Spelling}
-use Rattle.notes.specs.Names.{signsText, sharpSign, flatSign, letterText, letterAt, spellingText, printed, inParentheses, spellingsText, nameText}
+use Rattle.notes.specs.Names.{signsIn, signsText, sharpSign, flatSign, letterText, letterAt, spellingText, printed, inParentheses, spellingsText, nameText}
 use Rattle.notes.specs.Answers.{chainName}
 use Rattle.notes.specs.Theorems.{NamesAreShort, NamesAreNotEmpty}
 use Rattle.notes.proofs.Utf8.{length-letter, letter-not-empty}
-use Rattle.notes.proofs.Printing.{signsIn, Printed, one, two, printed-view, signs-of}
+use Rattle.notes.proofs.Printing.{Printed, one, two, printed-view, signs-of}
 
 length-signs : (sf : Bool) (s : Signs) → length (signsText sf s) ≡ signsIn s
 length-signs sf (Sharps k) = length-replicate k (sharpSign sf)

@@ -3,11 +3,14 @@ use mathlib.Core.Path.{_≡_}
 use mathlib.Core.Bool.{Bool, true, false}
 use mathlib.Core.List.{List, [], _∷_, map}
 use Prim.Native.Nat.{ℕ}
+use lib.IntN.{pos}
 use Rattle.answer.specs.Outcome.{Outcome, given, refused}
 use Rattle.pergen.specs.declared.Cycle.{Cycle}
 use Rattle.pergen.specs.declared.Cycle.the-variants.{Absent, Number}
 use Rattle.pergen.specs.declared.Accidentals.{Accidentals}
-use Rattle.notes.specs.Names.{nameText}
+use Rattle.pergen.specs.declared.Signs.the-variants.{Sharps, Flats}
+use Rattle.pergen.specs.Spelling.{keyAccidentals, soundedKey}
+use Rattle.notes.specs.Names.{printed}
 use Rattle.notes.specs.Reading.{Reading, readName}
 use Rattle.notes.specs.Answers.{chainName, nameLengthOutcome, nameOutcome}
 
@@ -63,3 +66,10 @@ pub record ExamplesHold : Type 0 where
   pub no-chain : nameOutcome 6 true (spelt Absent 3 1 5 1) 0 ≡ refused 1
   pub length-given : nameLengthOutcome 1 true (spelt Absent 3 1 5 1) ≡ given 5
   pub length-no-chain : nameLengthOutcome 65535 true (spelt Absent 3 1 5 1) ≡ refused 1
+  -- Where there are fewer keys than symbols, which no layout has, the printed spellings are not all of the simplest, and two may both be
+  -- bare (document 02, W-211). Period 1, generator 0, two symbols: the first is printed, and the second sounds key 0 as well.
+  pub first-of-two : printed true (keyAccidentals 1 0 2 0 (pos 0)) ≡ record { index = 0; signs = Sharps 0; stars = 0 } ∷ []
+  pub second-of-two : soundedKey 1 0 2 0 (record { index = 1; signs = Sharps 0; stars = 0 }) ≡ 0
+  -- Period 2, generator 1, three symbols, origin 1: key 1 has two names without signs.
+  pub two-bare : printed true (keyAccidentals 2 1 3 1 (pos 1))
+      ≡ record { index = 2; signs = Sharps 0; stars = 0 } ∷ record { index = 0; signs = Flats 0; stars = 0 } ∷ []

@@ -26,6 +26,11 @@ abbrev pub flatSign : Bool → ℕ
 flatSign true = 98
 flatSign false = 43
 
+-- how many sharps or flats they are
+abbrev pub signsIn : Signs → ℕ
+signsIn (Sharps count) = count
+signsIn (Flats count) = count
+
 -- one for each sharp or flat
 abbrev pub signsText : Bool → Signs → List ℕ
 signsText sharpFirst (Sharps count) = replicate count (sharpSign sharpFirst)

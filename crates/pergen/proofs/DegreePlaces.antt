@@ -136,7 +136,7 @@ module _ (R N o e : ℕ) (c : Cycle) (ho : o < N) (he : e < R) where
 
 -- ---- the spellings of a key
 
-stars-of-key : (P G : ℕ) (key : ℤ) → zero < P → starsOf (cycleOf P G key) ≡ keyCycle P G key
+pub stars-of-key : (P G : ℕ) (key : ℤ) → zero < P → starsOf (cycleOf P G key) ≡ keyCycle P G key
 unfolding cycleOf keyCycle cycle
 stars-of-key P G key hP = by (ltb 1 (cycles P G)) refl
   where

@@ -172,6 +172,13 @@ degree-sounds-key P G hP key u a =
     spellings-of-one-key P G hP u (pos (keyDegree P G key)) (keyCycle P G key) (keyCycle P G key) below below .1 (refl, a)
     ∙ key-degree-sounds P G hP key
 
+-- and what sounds a key, with stars below the cycles, has its cycle as stars and stands at a place of its degree
+pub sounds-at-the-degree : (P G : ℕ) → zero < P → (key u : ℤ) (s : ℕ) → s < cycles P G → sounds P G u s ≡ remainder key P
+    → (s ≡ keyCycle P G key) × Apart (reduced P G) u (pos (keyDegree P G key))
+sounds-at-the-degree P G hP key u s hs e =
+    spellings-of-one-key P G hP u (pos (keyDegree P G key)) s (keyCycle P G key) hs (key-cycle-below P G hP key) .0
+    (e ∙ sym (key-degree-sounds P G hP key))
+
 pub degree-and-cycle-tell-keys-apart : DegreeAndCycleTellKeysApart
 unfolding keyDegree keyCycle
 degree-and-cycle-tell-keys-apart P G hP x y = (

@@ -3,6 +3,7 @@ pub mod ExtendedEuclid
 pub mod Keys
 pub mod Indices
 pub mod DegreePlaces
+pub mod FewestSigns
 pub mod Calls
 pub mod CarriedWalk
 pub mod SignedNumbers
