@@ -146,6 +146,42 @@ static void call_layouts(void)
     IS(vn_layout(1, 12, 19, 3, numbers, 7), -VN_ROOM);
 }
 
+/* F C G D A E B. In 24 steps D and D* are 0 and 1; in 36 D** is 2, as far from 19 as D is. */
+static void call_reach(void)
+{
+    IS(vn_nearest_natural(1, 12, 19, 3, 7, 3), 0);
+    IS(vn_nearest_natural(1, 12, 19, 3, -14, 0), 3);
+    IS(vn_nearest_natural(1, 24, 38, 3, 12, 3), 1);
+    IS(vn_nearest_natural(1, 24, 38, 3, 13, 3), 0);
+    IS(vn_nearest_natural(1, 24, 38, 3, 65537, 3), 0);
+    IS(vn_nearest_natural(1, 24, 38, 3, INT32_MIN, 3), 0);
+    IS(vn_nearest_natural(1, 24, 38, 3, INT32_MAX, 3), 1);
+    IS(vn_nearest_natural(1, 36, 57, 3, 18, 3), 2);
+    IS(vn_nearest_natural(1, 36, 57, 3, 19, 3), 0);
+    IS(vn_nearest_natural(1, 12, 19, 1, 7, 3), 2);
+    IS(vn_nearest_natural(1, 12, 19, 3, 0, 7), -VN_LETTER);
+    IS(vn_nearest_natural(1, 12, 19, 3, 0, 259), -VN_LETTER);
+    IS(vn_nearest_natural(1, 12, 19, 7, 0, 7), -VN_START);
+    IS(vn_nearest_natural(0, 12, 19, 9, 0, 9), -VN_PATTERN);
+
+    IS(vn_keys_in_reach(1, 12, 19, 3, 5, 2, numbers, 5), 5);
+    NUMBERS(3, 4, 5, 6, 7);
+    IS(vn_keys_in_reach(1, 12, 19, 3, -1, 2, numbers, 5), 5);
+    NUMBERS(0, 1, 9, 10, 11);
+    IS(vn_keys_in_reach(1, 12, 19, 3, 2, 5, numbers, 12), 11);
+    NUMBERS(0, 1, 2, 3, 4, 5, 6, 7, 9, 10, 11);
+    IS(vn_keys_in_reach(1, 12, 19, 3, 2, 6, numbers, 64), 12);
+    NUMBERS(0, 1, 2, 3, 4, 5, 6, 7, 8, 9, 10, 11);
+    IS(vn_keys_in_reach(1, 12, 19, 3, INT32_MIN, 0, numbers, 1), 1);
+    NUMBERS(4);
+    IS(vn_keys_in_reach(1, 12, 19, 3, INT32_MAX, 0, numbers, 1), 1);
+    NUMBERS(7);
+    IS(vn_keys_in_reach(1, 7, 11, 3, 2, 65535, numbers, 7), 7);
+    NUMBERS(0, 1, 2, 3, 4, 5, 6);
+    IS(vn_keys_in_reach(1, 7, 11, 3, 2, 3, numbers, 6), -VN_ROOM);
+    IS(vn_keys_in_reach(1, 7, 11, 7, 2, 3, numbers, 6), -VN_START);
+}
+
 static void call_layers(void)
 {
     IS(vn_layer_count(1, 12, 19, 3), 2);
@@ -326,6 +362,7 @@ int main(void)
     call_patterns();
     call_chains();
     call_layouts();
+    call_reach();
     call_layers();
     call_lamps();
     call_stored_strips();

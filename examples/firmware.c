@@ -1,5 +1,6 @@
 /* What an instrument's firmware does with the library: it makes a layout, lights the lamps, keeps a book of names, and
- * shows the name of each key that is pressed. Nothing is allocated, and every refusal is shown by its number. */
+ * shows the name of each key that is pressed, and the nearest D. Nothing is allocated, and every refusal is shown by its
+ * number. */
 #include <inttypes.h>
 #include <stdio.h>
 
@@ -72,6 +73,25 @@ static void show(uint16_t start, int32_t key)
            vn_lamp(CHAIN, OCTAVE, TRITAVE, start, key));
 }
 
+/* Shows a lost pupil the nearest D, and the keys of the octave that a hand reaches beside it. */
+static void show_nearest_d(int32_t key)
+{
+    enum { D = 3, HAND = 2 };    /* of F C G D A E B; two keys to both sides */
+    uint16_t keys[2 * HAND + 1]; /* there are never more */
+    int64_t count, i;
+    int64_t nearest = vn_nearest_natural(CHAIN, OCTAVE, TRITAVE, START, key, D);
+
+    if (refused("nearest D", nearest))
+        return;
+    count = vn_keys_in_reach(CHAIN, OCTAVE, TRITAVE, START, (int32_t)nearest, HAND, keys, 2 * HAND + 1);
+    if (refused("keys in reach", count))
+        return;
+    printf("D nearest to key %" PRId32 ": key %" PRId64 ", in reach", key, nearest);
+    for (i = 0; i < count; i++)
+        printf(" %d", keys[i]);
+    printf("\n");
+}
+
 /* Lights the keys from one to another, both included. */
 static void light(int32_t from, int32_t to)
 {
@@ -109,6 +129,9 @@ int main(void)
     show(FROM_C, 0); /* a player of another school */
     show(FROM_C, 2);
     show(FROM_NOTHING, 0);
+
+    show_nearest_d(12); /* D* */
+    show_nearest_d(-2); /* D */
 
     /* Porcupine[8] in 8 equal steps: the colours of one octave are not those of the next, so the strip has two;
      * keys -8, 0, 8 and 16 are home. */

@@ -44,6 +44,10 @@ static uint32_t found[2];
     CALL(vn_note_name(2, 65534, 65535, 4, -32767, text, sizeof text)) \
     CALL(vn_layout_accidentals(2, 65534, 65535, 4, -32767, numbers, 4)) \
     CALL(vn_sounded_key(2, 65534, 65535, 4, 4, INT32_MIN, 0)) \
+    CALL(vn_nearest_natural(2, 65534, 65535, 4, INT32_MIN, 4)) \
+    CALL(vn_nearest_natural(1, 41699, 65527, 6, -1, 6)) \
+    CALL(vn_keys_in_reach(2, 65534, 65535, 4, -1, 32766, numbers, sizeof numbers / 2)) \
+    CALL(vn_keys_in_reach(1, 41699, 65527, 6, 20849, 9, numbers, sizeof numbers / 2)) \
     CALL(vn_layer_count(2, 65534, 65535, 4)) \
     CALL(vn_layout_layers(2, 65534, 65535, 4, numbers, sizeof numbers / 2)) \
     CALL(vn_layer(2, 65534, 65535, 4, -1)) \

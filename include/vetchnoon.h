@@ -86,6 +86,7 @@ extern "C" {
 
 /* The version of this header. The first number changes where a call, a number above or an answer is changed or taken away,
  * the second where some are added, the third where neither is so.
+ *   7.1.0: vn_nearest_natural and vn_keys_in_reach are added.
  *   7.0.0: a lamp code is a uint16_t; it was a uint8_t. Home, natural, sharp 0 and flat 99 keep 0, 1, 2 and 201, and all other
  *          codes are new ones. vn_lamp_strip, vn_lamp and the key table ask 9 no more, and so answer for layouts that they
  *          refused with it. vn_widen_strip and vn_narrow_strip, which ask 17, convert strips that were stored before.
@@ -100,7 +101,7 @@ extern "C" {
  *   2.0.0: vn_sounded_key takes signs as one number, and asks 16 and 21.
  *   1.0.0, before these numbers stood here: it took sharps and flats as two numbers, and asked 15, VN_SPELLING. */
 #define VN_VERSION_MAJOR 7
-#define VN_VERSION_MINOR 0
+#define VN_VERSION_MINOR 1
 #define VN_VERSION_PATCH 0
 
 /* The library was built for a size_t of 64 bits; with any other this line does not compile. */
@@ -205,6 +206,17 @@ int64_t vn_layout_accidentals(uint16_t chain, uint16_t octave, uint16_t tritave,
  * the number is above 0, or flats as it is below; and stars. Asks 1, 2, 3, 4, 18, 16, 21. */
 int64_t vn_sounded_key(uint16_t chain, uint16_t octave, uint16_t tritave, uint16_t start, uint16_t letter, int32_t signs,
                        uint16_t stars);
+
+/* ---- distances between a layout's keys. They go round the octave, the shorter way: in 12 steps keys 0 and 11 are 1 apart. */
+
+/* The key of 0 to octave - 1 nearest to a key, of those that a letter names by itself, with any stars: a letter by its index
+ * along the chain, from 0. Of two keys equally near, it is the lower one. Asks 1, 2, 3, 4, 18, 16. */
+int64_t vn_nearest_natural(uint16_t chain, uint16_t octave, uint16_t tritave, uint16_t start, int32_t key, uint16_t letter);
+
+/* Writes all keys of 0 to octave - 1 within a distance of a key, each once, rising: 2 x distance + 1 of them, or the whole
+ * octave where that is more than it has. Asks 1, 2, 3, 4, 18, 10. */
+int64_t vn_keys_in_reach(uint16_t chain, uint16_t octave, uint16_t tritave, uint16_t start, int32_t key, uint16_t distance,
+                         uint16_t *out, size_t len);
 
 /* ---- layers and lamps of a layout's keys. Keys of one layer number are lit alike, but for home: key 0 and every key whole
  * octaves from it. Of T numbers, as vn_layer_count says, 0 is the natural layer; j below T / 2 is sharp layer j - 1; j = T / 2,

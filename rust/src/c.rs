@@ -84,6 +84,25 @@ unsafe extern "C" {
         stars: u16,
     ) -> i64;
 
+    pub fn vn_nearest_natural(
+        chain: u16,
+        octave: u16,
+        tritave: u16,
+        start: u16,
+        key: i32,
+        letter: u16,
+    ) -> i64;
+    pub fn vn_keys_in_reach(
+        chain: u16,
+        octave: u16,
+        tritave: u16,
+        start: u16,
+        key: i32,
+        distance: u16,
+        out: *mut u16,
+        len: usize,
+    ) -> i64;
+
     pub fn vn_layer_count(chain: u16, octave: u16, tritave: u16, start: u16) -> i64;
     pub fn vn_layout_layers(
         chain: u16,

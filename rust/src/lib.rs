@@ -216,6 +216,24 @@ filling_from_layout! {
     note_name = vn_note_name(key: i32; u8);
     /// Sharp index, sharp count, flat index, flat count of a key (1, 2, 3, 4, 18, 10).
     layout_accidentals = vn_layout_accidentals(key: i32; u16);
+    /// All keys of 0 to octave − 1 within a distance of a key, round the octave, each once,
+    /// rising (1, 2, 3, 4, 18, 10): 2 × distance + 1 of them, or the whole octave where that is
+    /// more than it has.
+    ///
+    /// ```
+    /// use vetchnoon::{Layout, Refused, keys_in_reach};
+    ///
+    /// let twelve = Layout::new(1, 12, 19);
+    /// let mut keys = [0; 12];
+    /// assert_eq!(keys_in_reach(twelve, 5, 2, &mut keys), Ok(5));
+    /// assert_eq!(keys[..5], [3, 4, 5, 6, 7]);
+    /// assert_eq!(keys_in_reach(twelve, -1, 2, &mut keys), Ok(5)); // past the octave's end
+    /// assert_eq!(keys[..5], [0, 1, 9, 10, 11]);
+    ///
+    /// assert_eq!(keys_in_reach(twelve, 5, 6, &mut keys), Ok(12)); // from half the octave on, all
+    /// assert_eq!(keys_in_reach(twelve, 5, 6, &mut keys[..11]), Err(Refused(10)));
+    /// ```
+    keys_in_reach = vn_keys_in_reach(key: i32, distance: u16; u16);
     /// The layer number of each key of the octave, or of two at sharpness 0 (1, 2, 3, 4, 18, 10).
     layout_layers = vn_layout_layers(; u16);
     /// The lamp code of each key of the octave, or of two at sharpness 0, where the colours may
@@ -248,6 +266,23 @@ number_from_layout! {
     /// as many sharps as `signs` is above 0 or flats as it is below, and stars
     /// (1, 2, 3, 4, 18, 16, 21).
     sounded_key = vn_sounded_key(letter: u16, signs: i32, stars: u16) -> u16;
+    /// The key of 0 to octave − 1 nearest to a key, round the octave, of those that a letter,
+    /// by its index along the chain, names by itself, with any stars; of two keys equally near,
+    /// the lower one (1, 2, 3, 4, 18, 16).
+    ///
+    /// ```
+    /// use vetchnoon::{Layout, Refused, nearest_natural};
+    ///
+    /// // F C G D A E B: D and D* are keys 0 and 1.
+    /// let quarter_tones = Layout::new(1, 24, 38);
+    /// assert_eq!(nearest_natural(quarter_tones, 2, 3), Ok(1));
+    /// assert_eq!(nearest_natural(quarter_tones, -2, 3), Ok(0));
+    /// assert_eq!(nearest_natural(quarter_tones, 0, 7), Err(Refused(16)));
+    ///
+    /// // D, D* and D** are keys 0, 1 and 2: from 19 the first and the last are 17 away.
+    /// assert_eq!(nearest_natural(Layout::new(1, 36, 57), 19, 3), Ok(0));
+    /// ```
+    nearest_natural = vn_nearest_natural(key: i32, letter: u16) -> u16;
     /// How many layer numbers there are (1, 2, 3, 4, 18).
     layer_count = vn_layer_count() -> u16;
     /// The layer number of one key, of any octave (1, 2, 3, 4, 18): what [`layout_layers`]

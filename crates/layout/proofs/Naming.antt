@@ -90,7 +90,7 @@ module _ (l : Layout) (a : Parts l) (i : ℤ) where
   first-sound : SoundsKey l i (firstPrinted (sharpFirst l) (accidentalsIn l i))
   first-sound = printed-sound _ (spellings-in-a-name-are-the-keys (sharpFirst l) (accidentalsIn l i) .some)
 
-  lettered : Lettered (l .chain) (accidentalsIn l i)
+  pub lettered : Lettered (l .chain) (accidentalsIn l i)
   unfolding accidentalsIn
   lettered =
       let t = accidentals-sound-their-key (l .octave) (l .generator) (l .letters) (l .start) i (a .positive) (a .start-below) in

@@ -13,6 +13,7 @@ mod numbers;
 mod patterns;
 mod pergens;
 mod print;
+mod reach;
 mod strips;
 mod tables;
 mod words;
@@ -135,6 +136,9 @@ fn answered_other(kind: usize, line: &[u8], end: usize, room: u16) -> bool {
     }
     if kind == names::NARROW {
         return strips::narrow(line, end, room);
+    }
+    if kind <= names::REACH {
+        return reach::answer(kind, line, end, room);
     }
     false
 }

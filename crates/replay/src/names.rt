@@ -91,6 +91,10 @@ pub(crate) const WIDEN: usize = 47;
 
 pub(crate) const NARROW: usize = 48;
 
+pub(crate) const NEAREST: usize = 49;
+
+pub(crate) const REACH: usize = 50;
+
 // How many 16-bit numbers come behind each name up to `LAST_PLAIN`, a key aside.
 const COUNTS: [usize; 42] = [
     2,
@@ -171,7 +175,7 @@ pub(crate) fn has_key(kind: usize) -> bool {
 // The place of the name that a line has up to `end`, or a place behind the last.
 pub(crate) fn kind_of(line: &[u8], end: usize) -> usize {
     let names =
-        b"gcd simplify odd pergen generation accidentals new_genesis new_collapsed pattern child parent genesis dual mirror coprime children parents layer_sizes layers chain layout names key_layers lamps spelling name layer lamp book_len book find layout_from names_from key_layers_from lamps_from spelling_from name_from layer_from lamp_from book_len_from book_from find_from get_key divide16 divide32 table find_in widen narrow ";
+        b"gcd simplify odd pergen generation accidentals new_genesis new_collapsed pattern child parent genesis dual mirror coprime children parents layer_sizes layers chain layout names key_layers lamps spelling name layer lamp book_len book find layout_from names_from key_layers_from lamps_from spelling_from name_from layer_from lamp_from book_len_from book_from find_from get_key divide16 divide32 table find_in widen narrow nearest reach ";
     place_in(names, line, end)
 }
 

@@ -16,8 +16,10 @@ use judge::layouts;
 use judge::layouts::CHAINS;
 use judge::patterns;
 use reading::books;
+use reading::chains;
 use reading::codes;
 use reading::codes::Lamp;
+use reading::reach;
 use tune::layout;
 use tune::layout::IsomorphicLayout;
 use tune::layout::Layer;
@@ -78,6 +80,7 @@ pub fn of_the_original() -> Vec<Row> {
         let what = "accidentals of a key below 0";
         accidentals(what, n, octave_below_0(n), made_anew(n))
     }));
+    rows.extend([SMALL, MIDDLE, LARGE].map(nearest));
     rows.extend(SIZES.map(book));
     rows.extend(SIZES.map(layout_layers));
     rows.extend(SIZES.map(pattern_layers));
@@ -87,10 +90,12 @@ pub fn of_the_original() -> Vec<Row> {
     rows
 }
 
-/// Books and converted strips, beside a plain fill of the memory that they were written to.
+/// Books, lists of keys and converted strips, beside a plain fill of the memory that they were
+/// written to.
 pub fn of_a_fill() -> Vec<Row> {
     let with_old_strip = [SMALL, MIDDLE, LARGEST_OLD_STRIP];
     let mut rows = Vec::from(SIZES.map(book_and_fill));
+    rows.extend(SIZES.map(keys_in_reach));
     rows.extend(with_old_strip.map(widening));
     rows.extend(with_old_strip.map(narrowing));
     rows
@@ -291,6 +296,44 @@ fn accidentals<L: Borrow<IsomorphicLayout>>(
     )
 }
 
+/// The nearest key of each letter from the key half an octave up. The original has no such
+/// call: its caller searches the names of the octave, which are made once for all letters.
+fn nearest(n: Numbers) -> Row {
+    let given = n.layout();
+    let layout = made_anew(n);
+    let half = n.1 / 2;
+    let letters: Vec<&str> = chains::chain(n.0).expect("a chain").letters.to_vec();
+    let count = letters.len();
+    Row::new(
+        "nearest key of a letter; the original's names are searched",
+        n.words(),
+        (count, "letter"),
+        move || {
+            (0..count as u16)
+                .map(|letter| {
+                    let key = vetchnoon::nearest_natural(given, half.into(), letter);
+                    usize::from(key.unwrap())
+                })
+                .sum()
+        },
+        move || {
+            let layout = layout();
+            let names: Vec<String> = (0..n.1).map(|key| layout.get_note_name(key)).collect();
+            let nearest = |letter: &&str| {
+                let keys = (0..n.1).zip(&names);
+                let named = keys.filter(|(_, name)| reach::is_bare(name, letter));
+                let distance = |key: u16| {
+                    let away = key.abs_diff(half);
+                    away.min(n.1 - away)
+                };
+                let key = named.map(|(key, _)| key).min_by_key(|key| distance(*key));
+                usize::from(key.unwrap())
+            };
+            letters.iter().map(nearest).sum()
+        },
+    )
+}
+
 /// The book's text alone is compared: the original's names have no offsets before.
 fn book(n: Numbers) -> Row {
     let given = n.layout();
@@ -319,6 +362,13 @@ fn book_and_fill(n: Numbers) -> Row {
         vec![1; length],
         book,
     )
+}
+
+/// All keys of the octave, which are in reach from half an octave on, from its last key.
+fn keys_in_reach(n: Numbers) -> Row {
+    let given = n.layout();
+    let list = move |out: &mut [u16]| vetchnoon::keys_in_reach(given, -1, n.1 / 2, out).unwrap();
+    beside_a_fill(n, "all keys in reach", vec![1; n.1.into()], list)
 }
 
 fn widening(n: Numbers) -> Row {

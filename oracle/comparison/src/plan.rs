@@ -6,6 +6,7 @@ mod known;
 mod layouts;
 mod patterns;
 mod pergens;
+mod reach;
 mod strips;
 mod tables;
 
@@ -50,6 +51,7 @@ pub fn tasks(mode: Mode, seed: u64) -> Vec<Task> {
     known::plan(&mut tasks);
     // The longest first, so that no thread is left alone with one at the end.
     layouts::plan(&mut tasks, mode, seed);
+    reach::plan(&mut tasks, mode, seed);
     patterns::plan(&mut tasks, mode, seed);
     pergens::plan(&mut tasks, mode, seed);
     books::plan(&mut tasks, mode, seed);

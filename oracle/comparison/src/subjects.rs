@@ -8,5 +8,6 @@ pub mod layouts;
 pub mod numbers;
 pub mod patterns;
 pub mod pergens;
+pub mod reach;
 pub mod strips;
 pub mod tables;

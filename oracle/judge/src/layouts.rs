@@ -7,6 +7,7 @@ use reading::codes::Lamp;
 use reading::former;
 use reading::layers::Kind;
 use reading::layouts::lamps_of;
+use reading::reach;
 use tune::layout;
 use tune::layout::Genchain;
 use tune::layout::IsomorphicLayout;
@@ -104,6 +105,18 @@ pub fn note_names(layout: &IsomorphicLayout) -> Answer<Vec<String>> {
         .collect()
 }
 
+/// The keys of the octave that the original names by a letter alone, with any stars. It has
+/// no such call (W-203); its names are searched.
+pub fn keys_of_letter(layout: &IsomorphicLayout, letter: &str) -> Answer<Vec<u16>> {
+    Ok(reach::keys_of(letter, &note_names(layout)?))
+}
+
+/// Of these keys the one that is nearest to a key, which may be any.
+pub fn nearest(layout: &IsomorphicLayout, letter: &str, key: i32) -> Answer<Option<u16>> {
+    let keys = keys_of_letter(layout, letter)?;
+    Ok(reach::nearest(layout.pergen().period().into(), &keys, key))
+}
+
 /// The original's names, laid down as document 01 says.
 pub fn book(layout: &IsomorphicLayout) -> Answer<Vec<u8>> {
     Ok(books::of_names(&note_names(layout)?))
@@ -169,6 +182,29 @@ mod tests {
         assert_eq!(strip(&seven), Ok(codes));
         let codes = vec![0, 1, 255, 255, 255, 255, 1, 0, 1, 255, 255, 255, 255, 1];
         assert_eq!(former_strip(&seven), Ok(Ok(codes)));
+    }
+
+    #[test]
+    fn each_letter_names_as_many_keys_as_there_are_cycles() {
+        for (layout, _) in accepted() {
+            let cycles = spelling::derived(layout.pergen()).unwrap().num_cycles;
+            let symbol = note_name(&layout, 0).unwrap();
+            assert_eq!(
+                keys_of_letter(&layout, &symbol).unwrap().len(),
+                usize::from(cycles)
+            );
+        }
+    }
+
+    #[test]
+    fn the_nearest_d() {
+        let quarter_tones = create(Genchain::Meantone7, 24, 38).unwrap().unwrap();
+        assert_eq!(keys_of_letter(&quarter_tones, "D"), Ok(vec![0, 1]));
+        let nearest = [2, 13, -1].map(|key| nearest(&quarter_tones, "D", key));
+        assert_eq!(nearest, [Ok(Some(1)), Ok(Some(0)), Ok(Some(0))]);
+        // From another letter, D and D* are four keys higher.
+        let from_c = beginning(&quarter_tones, 1);
+        assert_eq!(keys_of_letter(&from_c, "D"), Ok(vec![4, 5]));
     }
 
     #[test]

@@ -17,6 +17,7 @@ pub mod names;
 pub mod numbers;
 pub mod patterns;
 pub mod pergens;
+pub mod reach;
 pub mod tables;
 
 /// A whole number, wide enough for every sum and product here.

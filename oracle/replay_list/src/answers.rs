@@ -22,6 +22,7 @@ use reading::codes;
 use reading::layouts::repeated;
 use reading::numbers::remainder;
 use reading::pergens::Format;
+use reading::reach;
 use reading::tables;
 use tune::layout::Genchain;
 use tune::layout::IsomorphicLayout;
@@ -92,6 +93,7 @@ fn elements(question: &Question, text: &str) -> usize {
         Question::OfPattern(..) | Question::OfLayout(..) | Question::Book(_) if text != "-" => {
             text.split(' ').count()
         }
+        Question::Reach(..) => text.split(' ').count(),
         Question::Widen(strip) => strip.len(),
         Question::Narrow(strip) => strip.len(),
         _ => 0,
@@ -170,6 +172,17 @@ fn text(question: &Question) -> Text {
         Question::Lamp(layout, key) => {
             let strip = given(layouts::strip(&created_layout(*layout)?))?;
             Ok(repeated(&strip, *key).to_string())
+        }
+        // The original has its names alone.
+        Question::Nearest(layout, key, letter) => {
+            let original = created_layout(*layout)?;
+            let letter = reach::letter(&layout.read()?, *letter)?;
+            let nearest = given(layouts::nearest(&original, letter, *key))?;
+            Ok(nearest.expect("each letter names a key").to_string())
+        }
+        Question::Reach(layout, key, distance) => {
+            let read = layout.read()?;
+            Ok(words(reach::keys_in_reach(&read, *key, *distance)))
         }
         Question::Widen(strip) => Ok(list_text(codes::widened(strip)?)),
         Question::Narrow(strip) => Ok(list_text(codes::narrowed(strip)?)),

@@ -1,6 +1,6 @@
 //! The list of questions: the bench examples of document 01, small numbers
 //! densely, limits, and numbers of every size at random; then keys below 0, other letters
-//! on key 0, strips of two octaves, and stored strips.
+//! on key 0, strips of two octaves, stored strips, and distances between keys.
 
 use std::collections::HashSet;
 use std::iter;
@@ -19,6 +19,7 @@ use crate::questions::OfLayout;
 use crate::questions::OfPattern;
 use crate::questions::Question;
 use crate::random::Random;
+use crate::reach;
 use crate::starts;
 use crate::strips;
 
@@ -47,6 +48,7 @@ pub fn all() -> Vec<Question> {
     questions.extend(starts::all());
     questions.extend(strips::all());
     questions.extend(conversions::all());
+    questions.extend(reach::all());
 
     let mut asked = HashSet::new();
     questions.retain(|question| asked.insert(question.to_string()));
@@ -554,6 +556,22 @@ fn unreadable() -> Vec<Question> {
         "narrow  0",
         "narrow_from 0",
         "65536 narrow 0",
+        "nearest",
+        "nearest 1 12 19 3 0",
+        "nearest 1 12 19 3 0 ",
+        "nearest 1 12 19 3 0 3 ",
+        "nearest 1 12 19 3 0 3 0",
+        "nearest 1 12 19 3 0 65536",
+        "nearest 1 12 19 3 0 -1",
+        "nearest 1 12 19 3 2147483648 3",
+        "nearest 1 12 19 -1 0 3",
+        "nearest_from 1 12 19 3 0 3",
+        "reach 1 12 19 3 0",
+        "reach 1 12 19 3 -2147483649 0",
+        "reach 1 12 19 3 0 65536",
+        "reach 1 12 19 3 0 1 1",
+        "reach 1 65536 19 3 0 1",
+        "65536 reach 1 12 19 3 0 1",
     ]
     .map(Question::Unreadable)
     .into()

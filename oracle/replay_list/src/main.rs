@@ -9,6 +9,7 @@ mod keys;
 mod list;
 mod questions;
 mod random;
+mod reach;
 mod starts;
 mod strips;
 

@@ -159,6 +159,9 @@ pub enum Question {
     Find(Layout, i32),
     /// A key looked up in any bytes.
     FindIn(i32, Vec<u8>),
+    /// A key and a letter's place, and a key and a distance; the layout has a start.
+    Nearest(Layout, i32, u16),
+    Reach(Layout, i32, u16),
     /// Stored codes of one byte, and the way back.
     Widen(Vec<u8>),
     Narrow(Vec<u16>),
@@ -228,6 +231,8 @@ impl Display for Question {
                 write!(f, "find_in {key}")?;
                 book.iter().try_for_each(|byte| write!(f, " {byte}"))
             }
+            Self::Nearest(layout, key, letter) => write!(f, "nearest {layout} {key} {letter}"),
+            Self::Reach(layout, key, distance) => write!(f, "reach {layout} {key} {distance}"),
             Self::Widen(strip) => {
                 f.write_str("widen")?;
                 strip.iter().try_for_each(|code| write!(f, " {code}"))

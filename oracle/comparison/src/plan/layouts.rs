@@ -16,7 +16,7 @@ use crate::subjects::layouts::own_start;
 use crate::tally::Tally;
 
 /// The six chains, and codes that are none.
-const CODES: [u16; 9] = [0, 1, 2, 3, 4, 5, 6, 7, 65_535];
+pub const CODES: [u16; 9] = [0, 1, 2, 3, 4, 5, 6, 7, 65_535];
 
 /// The streams of random numbers that are used here.
 const STREAM: u64 = 1_000_000;
@@ -103,7 +103,7 @@ fn all_starts_of_octave(tally: &mut Tally, octave: u16) {
 
 /// All starts of an accepted layout but the chain's own, and three numbers that are
 /// none; some where another question has the answer no before.
-fn starts(code: u16, octave: u16, tritave: u16) -> Vec<u16> {
+pub fn starts(code: u16, octave: u16, tritave: u16) -> Vec<u16> {
     let layout = GivenLayout::new(code, octave, tritave);
     let letters: Outcome<u16> = layout.read(|layout| fitted(layout.chain.count()));
     match letters {
@@ -198,7 +198,7 @@ fn at_random(tally: &mut Tally, mut randoms: Randoms) {
     }
 }
 
-fn random_layout(randoms: &mut Randoms) -> (u16, u16, u16) {
+pub fn random_layout(randoms: &mut Randoms) -> (u16, u16, u16) {
     let code = randoms.between(0, 5);
     match randoms.below(4) {
         0 => (code, randoms.any(), randoms.any()),
@@ -256,7 +256,7 @@ fn compare_some(tally: &mut Tally, code: u16, octave: u16, tritave: u16, randoms
 }
 
 /// The chain's own start, any other, or at times what is none.
-fn random_start(code: u16, randoms: &mut Randoms) -> u16 {
+pub fn random_start(code: u16, randoms: &mut Randoms) -> u16 {
     match randoms.below(8) {
         0..4 => own_start(code).unwrap_or(0),
         4..7 => randoms.between(0, 9),
@@ -321,7 +321,7 @@ fn with_any_start(layout: (u16, u16, u16), randoms: &mut Randoms) -> ((u16, u16,
 }
 
 /// The first accepted one of the chosen layouts that has at least so many keys.
-fn accepted(least: u16, mut choose: impl FnMut() -> (u16, u16, u16)) -> (u16, u16, u16) {
+pub fn accepted(least: u16, mut choose: impl FnMut() -> (u16, u16, u16)) -> (u16, u16, u16) {
     loop {
         let (code, octave, tritave) = choose();
         if octave >= least && GivenLayout::new(code, octave, tritave).is_accepted() {
