@@ -1,5 +1,5 @@
 -- The output for what is kept of a line is the output for the line; its parts, one after the other, are all of it.
-use Prim.Native.Nat.{ℕ, _+_, _-_, _≤_, _<_, min}
+use Prim.Native.Nat.{ℕ, _+_, _-_, _≤_, min}
 use native.Mathlib.Nat.{zero-add}
 use native.Mathlib.Omega.{arith}
 use mathlib.Core.Bool.{true, false, false≢true}
@@ -54,14 +54,7 @@ module _ (buffer : List ℕ) (input : Input) (kept : ℕ) (read : LineRead buffe
         sound = w .sound;
         is-output = table-is l t w ∙ output-given (take kept buffer) l e ∙ kept-output;
         short =
-            λ key h.
-            let inside : key < l .octave = omega (arith, h, w .octave-is) in
-            omega (
-              arith,
-              ap length (w .lines key inside),
-              tables-fit .line (line .is-laid .caller) l (line .is-laid .accepted) (omega (arith, few)) key inside,
-              line-room-few (l .octave) few,
-            );
+            λ key h. omega (arith, w .short key h, line-room-few (t .keys) (let e : t .keys ≤ 4096 = omega (arith, few, w .octave-is) in e));
       }
 
 pub part-counted : (text buffer : List ℕ) (input : Input) (past : Output) → NextPart text buffer input past → past .handed + length text ≤ 3440640

@@ -1,12 +1,13 @@
 -- From what was asked to what the calls answer: the lines of a layout's speller and plan are its table, and one law for each way in which a call ends.
-use Prim.Native.Nat.{ℕ, _*_, _/_, _%_, _≤_}
+use Prim.Native.Nat.{ℕ, _*_, _/_, _%_, _≤_, _<_}
 use mathlib.Core.Path.{_≡_, refl, sym, ap, subst, _∙_}
-use mathlib.Core.Bool.{_&&_}
+use mathlib.Core.Bool.{true, _&&_}
 use mathlib.Core.List.{List}
 use native.Mathlib.Nat.{zero-add}
 use native.Mathlib.Omega.{arith}
 use lib.ListN.{length}
-use borrow.Author.Tests.{leb-true}
+use lib.Dec.{leb}
+use borrow.Author.Tests.{leb-true, le-leb}
 use Rattle.answer.specs.Outcome.{Outcome, given, refused, andThen}
 use Rattle.answer.specs.Lent.{heldIn, counted}
 use Rattle.answer.proofs.Asked.{given-same, asked-yes, asked-rest, and-right}
@@ -27,13 +28,14 @@ use Rattle.layout_layers.specs.Parts.{inverseOf, totalOf, PlanOf}
 use Rattle.layout_layers.proofs.PlanLaws.{count-is}
 use Rattle.layout_speller.specs.declared.speller.Speller.{Speller}
 use Rattle.layout_speller.specs.Parts.{SpellerOf}
+use Rattle.layout_speller.proofs.Rounds.{short-texts}
 use Rattle.layout_lamps.specs.Lamps.{lampIn}
 use Rattle.layout_lamps.proofs.StripLaws.{octave-lamp-is}
 use Rattle.line.specs.Lines.{isField, octaveAt, tritaveAt, isLine, space, lineFeed, lineOutcome}
 use Rattle.line.specs.declared.Line.{Line}
 use Rattle.layout_table.specs.declared.parts.Table.{Table}
-use Rattle.layout_table.specs.Tables.{keyLine, lineIn, tableIn, getTable, layoutOn, lineLayout, lineTable, refusalLine, outputOf, output}
-use Rattle.layout_table.specs.Parts.{Sound, lineOf, lineFrom, TableOf}
+use Rattle.layout_table.specs.Tables.{keyLine, lineIn, lineRoom, tableIn, getTable, layoutOn, lineLayout, lineTable, refusalLine, outputOf, output}
+use Rattle.layout_table.specs.Parts.{Sound, ShortLines, lineOf, lineFrom, TableOf}
 use Rattle.layout_table.proofs.Lines.{line-is}
 
 -- ---- a table of a layout
@@ -60,14 +62,19 @@ module _ (l : Layout) (ok : Laid l) (s : Speller) (names : SpellerOf l s) (p : P
         inverses-agree = w .inverse-is ∙ sym (ap (λ (x : Solved). x .«generator_inverse») solved);
       }
 
-  pub table-made : TableOf l made
-  table-made =
+  line-made : (key : ℕ) → key < l .octave → lineOf made key ≡ lineIn l key
+  line-made key h =
+      sym (line-is made key (listedName l key) (lampIn l key) (sym (names .names key))
+      (sym (octave-lamp-is l p w (laid l ok .positive) T (is ∙ count-is l p w) key h)))
+      ∙ line-parts l key
+
+  pub table-made : ((key : ℕ) → key < l .octave → length (lineIn l key) ≤ lineRoom (l .octave)) → TableOf l made
+  table-made short =
       record {
         sound = sound;
+        short = λ key h. omega (arith, ap length (line-made key h), short key h);
         octave-is = refl;
-        lines =
-            λ key h. sym (line-is made key (listedName l key) (lampIn l key) (sym (names .names key))
-            (sym (octave-lamp-is l p w (laid l ok .positive) T (is ∙ count-is l p w) key h))) ∙ line-parts l key;
+        lines = line-made;
       }
 
 pub table-is : (l : Layout) (t : Table) → TableOf l t → joined (lineOf t) (t .keys) ≡ tableIn l
@@ -159,3 +166,9 @@ line-laid line l e = by (lineOutcome line) refl e
 -- all lines, from the first on
 pub whole-table : (t : Table) (n : ℕ) → joined (lineFrom t 0) n ≡ joined (lineOf t) n
 whole-table t n = joined-same (lineFrom t 0) (lineOf t) n (λ k h. ap (lineOf t) (zero-add k))
+
+-- a slice that holds the longest table of so many keys holds this one
+pub surely-held : (t : Table) → ShortLines t → (room : ℕ) → lineRoom (t .keys) * t .keys ≤ room
+    → true ≡ leb (length (joined (lineOf t) (t .keys))) room
+surely-held t short room h =
+    sym (le-leb _ room (omega (arith, short-texts (lineRoom (t .keys)) (lineOf t) (t .keys) short, h)))

@@ -34,8 +34,8 @@ use Rattle.layout_speller.proofs.Rounds.{short-texts}
 use Rattle.text.proofs.Digits.{digits-length}
 use Rattle.line.specs.Lines.{isLine, lineOutcome}
 use Rattle.line.specs.declared.Line.{Line}
-use Rattle.layout_table.specs.Tables.{lineIn, tableIn, getTable, layoutOn, lineLayout, refusalLine, output}
-use Rattle.layout_table.specs.Theorems.{lineRoom, TablesFit}
+use Rattle.layout_table.specs.Tables.{lineIn, lineRoom, tableIn, getTable, layoutOn, lineLayout, refusalLine, output}
+use Rattle.layout_table.specs.Theorems.{TablesFit}
 use Rattle.layout_table.proofs.Lines.{length-line, length-refusal}
 use Rattle.layout_table.proofs.Calls.{line-parts, output-refused, output-given, line-laid}
 

@@ -1,13 +1,14 @@
 -- What the parts behind the calls promise: the table by the speller and the plan of layers that the code follows.
-use Prim.Native.Nat.{ℕ, _+_, _*_, _<_}
+use Prim.Native.Nat.{ℕ, _+_, _*_, _≤_, _<_}
 use mathlib.Core.Path.{_≡_}
 use mathlib.Core.List.{List, []}
+use lib.ListN.{length}
 use Rattle.layout.specs.Layouts.{Layout}
 use Rattle.layout_layers.specs.Parts as Layers
 use Rattle.layout_lamps.specs.Parts.{planLamp}
 use Rattle.layout_speller.specs.Parts as Speller
 use Rattle.layout_table.specs.declared.parts.Table.{Table}
-use Rattle.layout_table.specs.Tables.{keyLine, lineIn}
+use Rattle.layout_table.specs.Tables.{keyLine, lineIn, lineRoom}
 
 -- A table that can be written: names and lamps can be followed, and go by the same chain.
 pub record Sound (t : Table) : Type 0 where
@@ -33,8 +34,13 @@ numbersOf t key = keyLine key [] (planLamp (t .plan) (t .total) key)
 abbrev pub lineFrom : Table → (from : ℕ) → ℕ → List ℕ
 lineFrom t from past = lineOf t (from + past)
 
+-- No line is longer than a layout's can be.
+abbrev pub ShortLines : Table → Type 0
+ShortLines t = (key : ℕ) → key < t .keys → length (lineOf t key) ≤ lineRoom (t .keys)
+
 -- The table of a layout.
 pub record TableOf (l : Layout) (t : Table) : Type 0 where
   pub sound : Sound t
+  pub short : ShortLines t
   pub octave-is : t .keys ≡ l .octave
   pub lines : (key : ℕ) → key < l .octave → lineOf t key ≡ lineIn l key

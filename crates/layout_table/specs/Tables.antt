@@ -1,5 +1,5 @@
 -- The key table (document 01, "Lamps and book", the last paragraph), as bytes.
-use Prim.Native.Nat.{ℕ}
+use Prim.Native.Nat.{ℕ, _+_, _/_}
 use mathlib.Core.List.{List, [], _∷_, _++_}
 use Rattle.answer.specs.Outcome.{Outcome, given, refused, andThen}
 use Rattle.text.specs.Writing.{joined}
@@ -26,6 +26,11 @@ lineIn l key = keyLine key (listedName l key) (lampIn l key)
 unfoldable pub tableIn : Layout → List ℕ
 unfolding joined lineIn
 tableIn l = joined (lineIn l) (l .octave)
+
+-- The most bytes that a line has in a table of so many keys (`TablesFit`): a name has at most 7 and, together, at most octave / 5 + 1 signs
+-- and stars; beside it stand two numbers of at most five digits, two spaces and a line feed.
+abbrev pub lineRoom : ℕ → ℕ
+lineRoom octave = octave / 5 + 21
 
 -- Questions 1 to 4 and 18, then the table; question 9 is not asked any more (document 02, W-207).
 unfoldable pub getTable : IsomorphicLayout → Outcome (List ℕ)

@@ -1,17 +1,12 @@
 -- What holds of every table and of every output. Proofs: proofs/Fitting.antt.
-use Prim.Native.Nat.{ℕ, _+_, _*_, _/_, _≤_, _<_}
+use Prim.Native.Nat.{ℕ, _*_, _≤_, _<_}
 use mathlib.Core.Path.{_≡_}
 use mathlib.Core.List.{List}
 use lib.ListN.{length}
 use Rattle.answer.specs.Outcome.{given}
 use Rattle.layout.specs.declared.IsomorphicLayout.{IsomorphicLayout}
 use Rattle.layout.specs.Layouts.{Layout, Accepted}
-use Rattle.layout_table.specs.Tables.{lineIn, getTable, output}
-
--- The most bytes that a line has in a table of so many keys: a name has at most 7 and, together, at most octave / 5 + 1 signs and stars;
--- beside it stand two numbers of at most five digits, two spaces and a line feed.
-abbrev pub lineRoom : ℕ → ℕ
-lineRoom octave = octave / 5 + 21
+use Rattle.layout_table.specs.Tables.{lineIn, lineRoom, getTable, output}
 
 -- Theorem: how much room holds every line and every table (of octaves of 16 bits), and every output: 4,096 lines of 840 bytes.
 pub record TablesFit : Type 0 where

@@ -21,6 +21,7 @@ use text::writer::put_text;
 ghost use mathlib.Core.Path.{_≡_};
 ghost use Prim.Native.Nat.{_+_, _*_, _≤_, _<_};
 ghost use lib.ListN.{length};
+ghost use lib.Dec.{leb};
 ghost use Rattle.answer.specs.Lent.{heldIn, Filled};
 ghost use Rattle.answer.specs.Refusals.{countOutcome};
 ghost use Rattle.text.specs.Writing.{Room, Wrote, joined};
@@ -28,7 +29,14 @@ ghost use Rattle.pergen.specs.Parts.{Walkable, At};
 ghost use Rattle.layout.specs.Parts.{layoutOf, foundOutcome, Laid};
 ghost use Rattle.notes.specs.Parts.{planText, ShortLetters};
 ghost use Rattle.layout_table.specs.Tables.{keyLine, lineLayout, refusalLine};
-ghost use Rattle.layout_table.specs.Parts.{Sound, TableOf, numbersOf, lineOf, lineFrom};
+ghost use Rattle.layout_table.specs.Parts.{
+  Sound,
+  ShortLines,
+  TableOf,
+  numbersOf,
+  lineOf,
+  lineFrom,
+};
 
 // What all lines of a layout's table have in common.
 pub struct Table {
@@ -139,17 +147,27 @@ pub fn put_lines(out: &mut [u8], table: Table, from: u16, count: u16) -> usize
     place
 }
 
+// Do so many bytes hold the lines of all keys? Where they hold any table of so many keys, the lines are not measured.
+fn has_room(table: Table, room: usize) -> bool
+    requires { ⌜ Sound table × ShortLines table ⌝ }
+    ensures { λ r. ⌜ r ≡ leb (length (joined (lineOf table) (table .keys))) room ⌝ }
+{
+    let keys = table.keys as usize;
+    if (keys / 5 + 21) * keys <= room {
+        return true;
+    }
+    lines_length(table) <= room
+}
+
 // The lines of all keys at the front of a slice that holds them (10).
 pub(crate) fn write_lines(table: Table, out: &mut [u8]) -> CountAnswer
-    requires { ⌜ Sound table ⌝ }
+    requires { ⌜ Sound table × ShortLines table ⌝ }
     ensures { λ r. ⌜ Filled (heldIn (length (now (out .entry))) (joined (lineOf table) (table .keys))) (countOutcome r) (now (out .entry)) (now (out .exit)) ⌝ }
 {
-    let bytes = lines_length(table);
-    if out.len() < bytes {
+    if !has_room(table, out.len()) {
         return CountAnswer::Refused(Refusal::Room);
     }
-    put_lines(out, table, 0, table.keys);
-    CountAnswer::Given(bytes)
+    CountAnswer::Given(put_lines(out, table, 0, table.keys))
 }
 
 // A refusal's line at the front of a slice that is known to hold it; the place after it.

@@ -468,7 +468,7 @@ fn strip(n: Numbers) -> Row {
 fn key_table(n: Numbers) -> Row {
     let line = format!("{}\n", n.words());
     let same_line = line.clone();
-    let mut table = vec![0; 524_288];
+    let mut table = vec![0; 3_440_640]; // always enough, as the header says
     n.row_of_keys(
         "key table from its line",
         move || vetchnoon::key_table(line.as_bytes(), &mut table).unwrap(),

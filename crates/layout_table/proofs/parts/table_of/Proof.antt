@@ -1,5 +1,6 @@
 -- Speller and plan of the layout.
 use Rattle.layout_table.proofs.Calls.{table-made}
+use Rattle.layout_table.proofs.Fitting.{tables-fit}
 use borrow.Author.Needs.{needs}
 use Rattle.layout_table.proofs.parts.table_of.Statement.{statement}
 use Rattle.layout_table.proofs.parts.table_of.Tie as tie
@@ -20,6 +21,7 @@ returns : tie.Need-returns
 returns c =
     let start = c .before .before .before .before in
     table-made _ (start .pre) _ (c .before .speller-of .ensures) _ (c .before .before .plan-of .ensures) _ (c .total-of .ensures)
+    (λ key h. tables-fit .line (start .pre .caller) _ (start .pre .accepted) (search needs) key h)
 
 pub table-of-spec : {M : Type 1} → statement M
 table-of-spec =
