@@ -10,8 +10,8 @@ use Rattle.text.specs.Writing.{joined}
 use Rattle.layout_table.specs.declared.parts.Table.{Table}
 use Rattle.layout_table.specs.Tables.{refusalLine, output}
 use Rattle.layout_table.specs.Parts.{Sound, lineOf}
-use Rattle.key_table.specs.Reading.{LineRead}
-use Rattle.key_table.specs.declared.Input.{Input}
+use Rattle.line_input.specs.Reading.{LineRead}
+use Rattle.line_input.specs.declared.Input.{Input}
 use Rattle.key_table.specs.declared.Output.{Output}
 
 -- Where writing stands after one part more: so many bytes further, with all of them taken or not.

@@ -1,0 +1,3 @@
+pub mod OneLine
+pub mod Keeping
+pub mod Going
