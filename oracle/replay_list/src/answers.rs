@@ -76,6 +76,13 @@ pub fn answer(question: &Question) -> Option<String> {
     }
 }
 
+/// A question's line and its answer, which the original does not overflow at.
+#[cfg(test)]
+pub fn answered(question: Question) -> (String, String) {
+    let answer = answer(&question).expect("no overflow");
+    (question.to_string(), answer)
+}
+
 /// Question 10 comes after 1 to 8 and 17, and before those on a book.
 fn text_in_room(question: &Question, room: usize) -> Text {
     if let Question::Find(layout, _) = question {
