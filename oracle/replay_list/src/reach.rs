@@ -2,8 +2,6 @@
 //! original has no such calls: its names are searched for the letter's keys, and the reading
 //! of the sentence lists the keys in reach.
 
-use reading::chains;
-
 use crate::books::around;
 use crate::books::in_room;
 use crate::keys;
@@ -14,6 +12,7 @@ use crate::questions::Question;
 use crate::random::Random;
 use crate::starts::begun;
 use crate::starts::letters;
+use crate::starts::with_own_start;
 
 /// Of Meantone[7] with one cycle, with two, and with three, where a key is as near to D as to
 /// D**.
@@ -42,11 +41,6 @@ pub fn all() -> Vec<Question> {
     questions.extend(refused());
     questions.extend(of_large_layouts(&mut random));
     questions
-}
-
-fn with_own_start(layout: Layout) -> Layout {
-    let chain = chains::chain(layout.code).expect("a code of 0 to 5");
-    from(chain.start as u16, layout)
 }
 
 /// The nearest D from each key of the octave.

@@ -42,6 +42,12 @@ pub fn letters(code: u16) -> u16 {
     u16::try_from(chain.count()).expect("at most nine letters")
 }
 
+/// The layout with its chain's own start among its numbers.
+pub fn with_own_start(layout: Layout) -> Layout {
+    let chain = chains::chain(layout.code).expect("a code of 0 to 5");
+    from(chain.start as u16, layout)
+}
+
 /// All keys of the octave at once, some by themselves, and the book.
 fn from_letter(layout: Layout) -> Vec<Question> {
     let octave = i32::from(layout.octave);
