@@ -22,11 +22,14 @@ const TOO_SHORT: u8 = 10;
 /// How much room is lent where a layout is refused, whatever its octave.
 const SOME_ROOM: usize = 3;
 
+/// A call of the library on a list.
+type Reordering = fn(Layout, &[u16], &mut [u16]) -> Result<usize, Refused>;
+
 /// Either of the two calls, and what it does by the reading, given where each key goes, and
 /// by the original, given its keys along the chain.
 struct Way {
     call: Call,
-    library: fn(Layout, &[u16], &mut [u16]) -> Result<usize, Refused>,
+    library: Reordering,
     reading: fn(&[usize], &[u16]) -> Vec<u16>,
     original: fn(&[u16], &[u16]) -> Vec<u16>,
 }
