@@ -232,6 +232,28 @@ static void call_orders(void)
     NUMBERS(65535, 65533, 65531, 65529, 65534, 65532, 65530, 4711, 4711);
 }
 
+/* In the largest octave of Hanson[7] the chain goes down, key by key. */
+static void call_largest_orders(void)
+{
+    static uint16_t keys[65535], ordered[65536];
+    uint32_t i;
+    int misplaced = 0;
+    for (i = 0; i < 65535; i++)
+        keys[i] = (uint16_t)(i + 1);
+    ordered[65535] = 4711;
+
+    IS(vn_to_chain_order(5, 65535, 6, 3, keys, 65535, ordered, 65536), 65535);
+    for (i = 0; i < 65535; i++)
+        misplaced += ordered[i] != keys[(65535 - i) % 65535];
+    IS(vn_to_key_order(5, 65535, 6, 3, keys, 65535, ordered, 65536), 65535);
+    for (i = 0; i < 65535; i++)
+        misplaced += ordered[i] != keys[(65535 - i) % 65535];
+    IS(misplaced, 0);
+    IS(ordered[65535], 4711);
+    IS(vn_to_chain_order(5, 65535, 6, 3, keys, 65534, ordered, 65536), -VN_ROOM);
+    IS(vn_to_chain_order(5, 65535, 6, 3, keys, 65535, ordered, 65534), -VN_ROOM);
+}
+
 /* Octaves and generators of the primary move, then of the secondary one. */
 static void call_moves(void)
 {
@@ -451,6 +473,7 @@ int main(void)
     call_layouts();
     call_reach();
     call_orders();
+    call_largest_orders();
     call_moves();
     call_layers();
     call_lamps();
