@@ -6,7 +6,7 @@ use super::ask;
 use super::layouts::Layout;
 
 /// "Key i goes to cycle × reduced period + degree, with absent cycle as 0."
-pub fn place(cycle: Option<Whole>, reduced: Whole, degree: Whole) -> Whole {
+fn place(cycle: Option<Whole>, reduced: Whole, degree: Whole) -> Whole {
     cycle.unwrap_or(0) * reduced + degree
 }
 
