@@ -1,22 +1,22 @@
 -- An accepted layout's pattern is one of the walk from its genesis, so all that holds of the walk's moves holds of the layout's.
-use Prim.Native.Nat.{ℕ, zero, _+_, _*_, _<_}
-use mathlib.Core.Path.{_≡_, refl, sym, ap, _∙_}
+use Prim.Native.Nat.{ℕ, _≤_, _<_}
+use mathlib.Core.Path.{_≡_, sym, ap, _∙_, subst}
+use mathlib.Core.List.{List}
 use mathlib.Core.Option.{Option, some}
 use native.Mathlib.Omega.{arith}
-use lib.IntN.{ℤ, pos, negℤ, _+ℤ_, _*ℤ_, *ℤ-comm}
+use lib.IntN.{ℤ, pos, _+ℤ_, _*ℤ_, *ℤ-comm}
+use lib.ListN.{length}
 use Rattle.answer.specs.Outcome.{given, refused}
-use Rattle.math.specs.Division.{remainder, Apart}
+use Rattle.math.specs.Division.{Apart}
 use Rattle.math.proofs.Division.{remainder→apart}
-use Rattle.math.proofs.Integers.{Rep, rep-self, rep-pos, rep-neg, rep-add, rep-mul, rep-agree, rep-same, up, down}
-use Rattle.mos.specs.Patterns.{keyAt}
-use Rattle.mos.specs.Answers.{mosOutcome}
-use Rattle.mos_moves.specs.Moves.{Table, movesWith, patternMoves}
-use Rattle.mos_moves.specs.Answers.{Tabled}
-use Rattle.mos_moves.specs.Parts.{OnWalk}
+use Rattle.math.proofs.Integers.{rep-self, rep-pos, rep-add, rep-mul, rep-agree}
+use Rattle.mos_moves.specs.Moves.{Table, patternMoves, numbersOf}
+use Rattle.mos_moves.specs.Answers.{Tabled, inSignedRoom, FilledSigned}
+use Rattle.mos_moves.specs.Parts.{OnWalk, StoredFrom}
 use Rattle.mos_moves.proofs.Walking.{moves-stand-beside-the-pattern}
 use Rattle.mos_moves.proofs.Combining.{moves-reach-all}
 use Rattle.mos_moves.proofs.Theorems.{moves-reach-their-steps, patterns-tell-their-moves}
-use Rattle.mos_moves.proofs.Answering.{tabled-refused, tabled-moves}
+use Rattle.mos_moves.proofs.Answering.{tabled-refused, tabled-moves, signed-refused, signed-short, signed-given}
 use Rattle.pergen.specs.Pergen.{reduced, keyDegree, keyCycle}
 use Rattle.pergen.specs.Spelling.{sounds}
 use Rattle.pergen.proofs.Keys.{degree-sounds-key}
@@ -25,7 +25,7 @@ use Rattle.layout.specs.Layouts.{Layout, layoutOutcome}
 use Rattle.layout.specs.Answers.{getMos}
 use Rattle.layout.proofs.Calls.{of-refused, of-given, mos-refused, mos-given}
 use Rattle.layout.proofs.Finding.{Parts, accepted}
-use Rattle.layout_moves.specs.Answers.{movesIn, getMoves}
+use Rattle.layout_moves.specs.Answers.{movesIn, getMoves, moveNumbers, getMoveNumbers}
 use Rattle.layout_moves.specs.Theorems.{OwnMoves, LayoutsHaveMoves, MovesReachEveryKey}
 
 own-moves : (l : Layout) → Parts l → (t : Table) × OwnMoves l t
@@ -106,3 +106,31 @@ module _ (r : IsomorphicLayout) (before : Table) where
       tabled-moves t (mos-given r l e)
       (sym (of-given r (λ (k : Layout). given (movesIn k)) l e)
       ∙ ap given (own .1 .are ∙ ap some (own .1 .by-pattern ∙ sym is)))
+
+-- ---- the numbers in a slice
+
+module _ (r : IsomorphicLayout) (xs : List ℤ) where
+  pub numbers-refused : (n : ℕ) → refused n ≡ layoutOutcome r → FilledSigned (inSignedRoom (length xs) (getMoveNumbers r)) (refused n) xs xs
+  unfolding getMoveNumbers
+  numbers-refused n e =
+      signed-refused n xs (ap (inSignedRoom (length xs)) (sym (of-refused r (λ (l : Layout). given (moveNumbers (movesIn l))) n e)))
+
+  module _ (l : Layout) (e : given l ≡ layoutOutcome r) where
+    abbrev own : Table
+    own = patternMoves (l .octave) (l .generator) (l .pattern)
+
+    asked : getMoveNumbers r ≡ given (numbersOf own)
+    unfolding getMoveNumbers
+    asked =
+        let mine = own-moves l (accepted r l (sym e)) in
+        sym (of-given r (λ (k : Layout). given (moveNumbers (movesIn k))) l e)
+        ∙ ap (λ (o : Option Table). given (moveNumbers o)) (mine .1 .are ∙ ap some (mine .1 .by-pattern))
+
+    pub numbers-short : length xs < 4 → FilledSigned (inSignedRoom (length xs) (getMoveNumbers r)) (refused 10) xs xs
+    numbers-short h = signed-short xs (numbersOf own) asked h
+
+    pub numbers-given : 4 ≤ length xs → (t : Table) → t ≡ own → {ys : List ℤ} {next : ℕ} → StoredFrom xs 0 (numbersOf t) ys next
+        → FilledSigned (inSignedRoom (length xs) (getMoveNumbers r)) (given next) xs ys
+    numbers-given room t is {ys} {next} w =
+        signed-given xs (numbersOf own) asked room
+        (subst (λ (u : Table). StoredFrom xs 0 (numbersOf u) ys next) is w)

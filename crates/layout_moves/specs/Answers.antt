@@ -1,9 +1,11 @@
--- What the call answers: questions 1 to 4 and 18 of the layout, then the moves of its own pattern.
-use mathlib.Core.Option.{Option}
+-- What the calls answer: questions 1 to 4 and 18 of the layout, then the moves of its own pattern; as numbers in a slice also question 10.
+use mathlib.Core.Option.{Option, none, some}
+use mathlib.Core.List.{List, []}
+use lib.IntN.{ℤ}
 use Rattle.answer.specs.Outcome.{Outcome, given}
 use Rattle.mos.specs.Patterns.{genesis}
 use Rattle.mos.specs.Walks.{children}
-use Rattle.mos_moves.specs.Moves.{Table, genesisMoves, movesWith}
+use Rattle.mos_moves.specs.Moves.{Table, genesisMoves, movesWith, numbersOf}
 use Rattle.layout.specs.declared.IsomorphicLayout.{IsomorphicLayout}
 use Rattle.layout.specs.Layouts.{Layout, layoutOutcome}
 use Rattle.layout.specs.Answers.{ofLayout}
@@ -17,3 +19,12 @@ movesIn l = movesWith (l .letters) (children (genesis (l .octave) (l .generator)
 unfoldable pub getMoves : IsomorphicLayout → Outcome (Option Table)
 unfolding layoutOutcome movesIn
 getMoves r = ofLayout r (λ (l : Layout). given (movesIn l))
+
+-- The four numbers of a table.
+abbrev pub moveNumbers : Option Table → List ℤ
+moveNumbers none = []
+moveNumbers (some t) = numbersOf t
+
+unfoldable pub getMoveNumbers : IsomorphicLayout → Outcome (List ℤ)
+unfolding layoutOutcome movesIn
+getMoveNumbers r = ofLayout r (λ (l : Layout). given (moveNumbers (movesIn l)))

@@ -7,7 +7,7 @@ use Rattle.answer.specs.Outcome.{Outcome, given, refused}
 use Rattle.mos_moves.specs.Moves.{Table, row}
 use Rattle.layout.specs.declared.IsomorphicLayout.{IsomorphicLayout}
 use Rattle.layout.specs.Examples.{layout, beginning}
-use Rattle.layout_moves.specs.Answers.{getMoves}
+use Rattle.layout_moves.specs.Answers.{getMoves, getMoveNumbers}
 
 pub record MovesExample : Type 0 where
   pub layout : IsomorphicLayout
@@ -33,5 +33,8 @@ movesExamples =
     ∷ []
 
 -- Theorem.
-abbrev pub ExamplesHold : Type 0
-ExamplesHold = map (λ (e : MovesExample). getMoves (e .layout)) movesExamples ≡ map (λ (e : MovesExample). e .moves) movesExamples
+pub record ExamplesHold : Type 0 where
+  pub tables : map (λ (e : MovesExample). getMoves (e .layout)) movesExamples ≡ map (λ (e : MovesExample). e .moves) movesExamples
+  -- the same in a row
+  pub numbers : getMoveNumbers (layout 1 12 19) ≡ given (negsuc 0 ∷ pos 2 ∷ pos 3 ∷ negsuc 4 ∷ [])
+  pub no-numbers : getMoveNumbers (layout 0 12 19) ≡ refused 4

@@ -103,7 +103,7 @@ module _ (from to : ℕ → ℕ) (entries : List ℕ) where
             placed-back xs room j q
             ∙ sym
             (List·getD-append wholeOf (drop (length wholeOf) xs) 0 j (omega (arith, q, whole-length))
-            ∙ placed-back (replicate P 0) (omega (arith, length-replicate P 0)) j q)
+            ∙ placed-back (replicate P 0) (omega (arith, length-replicate {A = ℕ} P 0)) j q)
         by j (no q) =
             let e : j ≡ length wholeOf + (j - length wholeOf) = omega (arith, q, whole-length) in
             placed-past P xs j (λ i l. omega (arith, p .within i l, q))
@@ -147,12 +147,12 @@ module _ (P G : ℕ) (h : 0 < P) (entries : List ℕ) where
   goes-there i l =
       ap (λ (x : List ℕ). getD x (chainPlace P G i) 0) chain-is
       ∙ placed-at self (chainPlace P G) entries P (replicate P 0) (places-apart P G h) i l
-      (omega (arith, length-replicate P 0, place-below P G h i))
+      (omega (arith, length-replicate {A = ℕ} P 0, place-below P G h i))
 
   comes-back : (i : ℕ) → i < P → getD (inKeyOrder P G entries) i 0 ≡ getD entries (chainPlace P G i) 0
   comes-back i l =
       ap (λ (x : List ℕ). getD x i 0) key-is
-      ∙ placed-at (chainPlace P G) self entries P (replicate P 0) (λ a b la lb e. e) i l (omega (arith, length-replicate P 0))
+      ∙ placed-at (chainPlace P G) self entries P (replicate P 0) (λ a b la lb e. e) i l (omega (arith, length-replicate {A = ℕ} P 0))
 
 pub entries-go-to-their-places : EntriesGoToTheirPlaces
 entries-go-to-their-places P G h entries =

@@ -1,5 +1,5 @@
 -- The answers of the calls, one law for each way in which they end: question 2, the table's moves, the walk to the k-th pattern, question 10.
-use Prim.Native.Nat.{ℕ, _-_, _≤_}
+use Prim.Native.Nat.{ℕ, _-_, _≤_, _<_}
 use mathlib.Core.Path.{_≡_, refl, sym, ap, _∙_, subst}
 use mathlib.Core.Bool.{Bool, true, false, not}
 use mathlib.Core.Option.{Option, none, some}
@@ -10,7 +10,7 @@ use lib.Dec.{leb}
 use lib.IntN.{ℤ}
 use lib.ListN.{length, getElem?}
 use borrow.Author.Tests.{le-leb, lt-leb, leb-true, leb-false}
-use Rattle.answer.specs.Outcome.{Outcome, given, refused, ask, andThen}
+use Rattle.answer.specs.Outcome.{Outcome, given, refused}
 use Rattle.answer.proofs.Questions.{ask-none, ask-some}
 use Rattle.mos.specs.declared.Mos.{Mos}
 use Rattle.mos.specs.Answers.{genesisOutcome}
@@ -119,16 +119,37 @@ module _ {P G k : ℕ} {m : Mos} {t : Table} {left : ℕ} (d : Descending P G k 
 pub genesis-pattern : (P G : ℕ) → (P ≡ 0 → ⊥) → P ≤ 65535 → {m : Mos} → m ≡ genesis P G → isPattern m ≡ true
 genesis-pattern P G h l e = subst (λ (x : Mos). isPattern x ≡ true) (sym e) (made-patterns .of-genesis P G (pos-of-ne-zero h) l)
 
+-- a lent slice of signed numbers: a refusal of the call, question 10, and an output that has room
+pub signed-refused : {o : Outcome (List ℤ)} (n : ℕ) (xs : List ℤ) → o ≡ refused n → FilledSigned o (refused n) xs xs
+signed-refused n xs e =
+    record { answered = sym (ap signedCounted e); content = sym (ap (λ (p : Outcome (List ℤ)). signedWritten p xs) e) }
+
+module _ {o : Outcome (List ℤ)} (xs output : List ℤ) (e : o ≡ given output) where
+  pub signed-short : length xs < length output → FilledSigned (inSignedRoom (length xs) o) (refused 10) xs xs
+  signed-short h =
+      signed-refused 10 xs
+      (ap (inSignedRoom (length xs)) e ∙ (let q : signedHeldIn (length xs) output ≡ refused 10 = simp (lt-leb (length output) (length xs) h) in q))
+
+  pub signed-given : length output ≤ length xs → {ys : List ℤ} {next : ℕ} → StoredFrom xs 0 output ys next
+      → FilledSigned (inSignedRoom (length xs) o) (given next) xs ys
+  signed-given room w =
+      let whole : inSignedRoom (length xs) o ≡ given output
+      = ap (inSignedRoom (length xs)) e
+      ∙ (let q : signedHeldIn (length xs) output ≡ given output = simp (le-leb (length output) (length xs) room) in q) in
+      record {
+        answered = ap given (w .end ∙ zero-add _) ∙ sym (ap signedCounted whole);
+        content = stored-front room w ∙ sym (ap (λ (p : Outcome (List ℤ)). signedWritten p xs) whole);
+      }
+
 pub walk-refused : (P G : ℕ) → P ≡ 0 → (xs : List ℤ) → FilledSigned (inSignedRoom (length xs) (getWalkMoves P G)) (refused 2) xs xs
 unfolding getWalkMoves
-walk-refused P G e xs =
-    let o : inSignedRoom (length xs) (getWalkMoves P G) ≡ refused 2 = ap (inSignedRoom (length xs)) (ask-none 2 P _ e) in
-    record {
-      answered = sym (ap signedCounted o);
-      content = sym (ap (λ (p : Outcome (List ℤ)). signedWritten p xs) o);
-    }
+walk-refused P G e xs = signed-refused 2 xs (ap (inSignedRoom (length xs)) (ask-none 2 P _ e))
 
 module _ (P G : ℕ) (h : P ≡ 0 → ⊥) (xs : List ℤ) {m : Mos} (is : m ≡ genesis P G) {fit : Bool} (f : fit ≡ leb (length (listed (children m))) (length xs)) where
+  asked : getWalkMoves P G ≡ given (listedMoves (walkMoves P G))
+  unfolding getWalkMoves
+  asked = ask-some 2 P _ h
+
   -- as many numbers as for the patterns
   fits : fit ≡ leb (length (listedMoves (walkMoves P G))) (length xs)
   fits =
@@ -136,25 +157,12 @@ module _ (P G : ℕ) (h : P ≡ 0 → ⊥) (xs : List ℤ) {m : Mos} (is : m ≡
       ∙ ap (λ (n : Mos). leb (length (listed (children n))) (length xs)) is
       ∙ ap (λ (n : ℕ). leb n (length xs)) (sym (as-long P G))
 
-  asked : (b : Bool) → fit ≡ b → inSignedRoom (length xs) (getWalkMoves P G) ≡ ask 10 b (given (listedMoves (walkMoves P G)))
-  unfolding getWalkMoves
-  asked b e =
-      ap (inSignedRoom (length xs)) (ask-some 2 P _ h) ∙ ap (λ (c : Bool). ask 10 c (given (listedMoves (walkMoves P G)))) (sym fits ∙ e)
-
   pub walk-room : fit ≡ true → length (listedMoves (walkMoves P G)) ≤ length xs
   walk-room e = leb-true (length (listedMoves (walkMoves P G))) (length xs) (sym fits ∙ e)
 
   pub walk-short : fit ≡ false → FilledSigned (inSignedRoom (length xs) (getWalkMoves P G)) (refused 10) xs xs
-  walk-short e =
-      record {
-        answered = sym (ap signedCounted (asked false e));
-        content = sym (ap (λ (p : Outcome (List ℤ)). signedWritten p xs) (asked false e));
-      }
+  walk-short e = signed-short xs (listedMoves (walkMoves P G)) asked (leb-false (length (listedMoves (walkMoves P G))) (length xs) (sym fits ∙ e))
 
   pub walk-listed : fit ≡ true → {ys : List ℤ} {next : ℕ} → StoredFrom xs 0 (listedMoves (walkMoves P G)) ys next
       → FilledSigned (inSignedRoom (length xs) (getWalkMoves P G)) (given next) xs ys
-  walk-listed e w =
-      record {
-        answered = ap given (w .end ∙ zero-add _) ∙ sym (ap signedCounted (asked true e));
-        content = stored-front (walk-room e) w ∙ sym (ap (λ (p : Outcome (List ℤ)). signedWritten p xs) (asked true e));
-      }
+  walk-listed e w = signed-given xs (listedMoves (walkMoves P G)) asked (walk-room e) w

@@ -80,7 +80,7 @@ pub fn pattern_moves(period: u16, generator: u16, pattern: Mos) -> [[i32; 2]; 2]
 }
 
 // The four numbers of a table at a place; the place after them.
-fn put_moves(out: &mut [i32], at: usize, moves: [[i32; 2]; 2]) -> usize
+pub fn put_moves(out: &mut [i32], at: usize, moves: [[i32; 2]; 2]) -> usize
     requires { ⌜ (at + 4 ≤ length (now out)) × SmallTable moves ⌝ }
     ensures { λ r. ⌜ StoredFrom (now (out .entry)) at (numbersOf moves) (now (out .exit)) r ⌝ }
 {
