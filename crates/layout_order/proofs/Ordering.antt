@@ -1,16 +1,15 @@
 -- The answers of the calls, one law for each way in which they end; and that the calls undo each other.
 use Prim.Native.Nat.{ℕ, _≤_, _<_}
-use mathlib.Core.Path.{_≡_, refl, sym, ap, _∙_, subst}
-use mathlib.Core.Bool.{true}
+use mathlib.Core.Path.{_≡_, refl, sym, ap, _∙_}
+use mathlib.Core.Bool.{Bool, true, false, not, _&&_}
 use mathlib.Core.List.{List, _++_}
-use native.Mathlib.Nat.{le-refl}
 use native.Mathlib.Omega.{arith}
 use lib.Dec.{leb}
-use lib.ListN.{length, take, drop, replicate}
-use borrow.Author.Tests.{le-leb, lt-leb, leb-true}
+use lib.ListN.{length, take, drop}
+use borrow.Author.Tests.{le-leb, lt-leb, leb-true, leb-false}
 use Rattle.answer.specs.Outcome.{Outcome, given, refused, ask, andThen}
-use Rattle.answer.specs.Lent.{heldIn, counted, written, Filled}
-use Rattle.answer.proofs.Asked.{given-same, asked-yes, asked-rest}
+use Rattle.answer.specs.Lent.{counted, written, Filled}
+use Rattle.answer.proofs.Asked.{given-same, asked-yes, asked-rest, and-left, and-right}
 use Rattle.answer.proofs.Lent.{held, not-held, filled-refused}
 use Rattle.layout.specs.declared.IsomorphicLayout.{IsomorphicLayout}
 use Rattle.layout.specs.Layouts.{Layout, layoutOutcome}
@@ -21,31 +20,49 @@ use Rattle.layout_order.specs.Order.{chainPlace, placed, inChainOrder, i
 use Rattle.layout_order.specs.Answers.{ordered, getChainOrder, getKeyOrder}
 use Rattle.layout_order.specs.Parts.{self}
 use Rattle.layout_order.specs.Theorems.{CallsUndoEachOther}
-use Rattle.layout_order.proofs.Placing.{Permutes, whole-length, placed-front, self-permutes, chain-permutes, chain-is, key-is, chain-length, key-length, each-undoes-the-other}
+use Rattle.layout_order.proofs.Placing.{placed-front, self-permutes, chain-permutes, chain-is, key-is, chain-length, key-length, each-undoes-the-other}
 
 -- ---- question 10, of either list
 
-module _ (P : ℕ) (entries output xs : List ℕ) where
-  pub order-no-entries : length entries < P → Filled (inRoom (length xs) (ordered P entries output)) (refused 10) xs xs
-  order-no-entries h =
-      filled-refused 10 xs (ap (inRoom (length xs)) (let e : ordered P entries output ≡ refused 10 = simp (lt-leb P (length entries) h) in e)) refl
+-- a test of the opposite
+pub no-of : (b : Bool) → not b ≡ true → b ≡ false
+no-of true e = sym e
+no-of false e = refl
 
-  module _ (h : P ≤ length entries) (many : length output ≡ P) where
-    asked : ordered P entries output ≡ given output
-    asked = simp (le-leb P (length entries) h)
+pub yes-of : (b : Bool) → not b ≡ false → b ≡ true
+yes-of true e = refl
+yes-of false e = sym e
 
-    pub order-no-room : length xs < P → Filled (inRoom (length xs) (ordered P entries output)) (refused 10) xs xs
-    order-no-room short =
-        filled-refused 10 xs (ap (inRoom (length xs)) asked ∙ not-held (length xs) output (omega (arith, many))) refl
+pub entries-missing : (P n room : ℕ) → n < P → false ≡ (leb P n && leb P room)
+entries-missing P n room h = sym (ap (λ (b : Bool). b && leb P room) (lt-leb P n h))
 
-    pub order-given : P ≤ length xs → {ys : List ℕ} → ys ≡ output ++ drop (length output) xs
-        → Filled (inRoom (length xs) (ordered P entries output)) (given P) xs ys
-    order-given room is =
-        let e : inRoom (length xs) (ordered P entries output) ≡ given output
-        = ap (inRoom (length xs)) asked ∙ held (length xs) output (omega (arith, many)) in
+pub room-decides : (P n room : ℕ) → P ≤ n → leb P room ≡ (leb P n && leb P room)
+room-decides P n room h = sym (ap (λ (b : Bool). b && leb P room) (le-leb P n h))
+
+module _ (P : ℕ) (entries output xs : List ℕ) (many : length output ≡ P) {test : Bool} (e : test ≡ (leb P (length entries) && leb P (length xs))) where
+  -- either is too short
+  pub order-refused : test ≡ false → Filled (inRoom (length xs) (ordered P entries output)) (refused 10) xs xs
+  order-refused f = filled-refused 10 xs (by (leb P (length entries)) (leb P (length xs)) (sym e ∙ f) refl) refl
+    where
+      by : (a b : Bool) → (a && b) ≡ false → leb P (length xs) ≡ b → inRoom (length xs) (ask 10 a (given output)) ≡ refused 10
+      by false b q d = refl
+      by true b q d = not-held (length xs) output (omega (arith, many, leb-false P (length xs) (d ∙ q)))
+
+  module _ (f : test ≡ true) where
+    pub order-entries : P ≤ length entries
+    order-entries = leb-true P (length entries) (and-left (leb P (length entries)) (leb P (length xs)) (sym e ∙ f))
+
+    pub order-room : P ≤ length xs
+    order-room = leb-true P (length xs) (and-right (leb P (length entries)) (leb P (length xs)) (sym e ∙ f))
+
+    pub order-given : {ys : List ℕ} → ys ≡ output ++ drop (length output) xs → Filled (inRoom (length xs) (ordered P entries output)) (given P) xs ys
+    order-given is =
+        let asked : ordered P entries output ≡ given output = simp (le-leb P (length entries) order-entries) in
+        let whole : inRoom (length xs) (ordered P entries output) ≡ given output
+        = ap (inRoom (length xs)) asked ∙ held (length xs) output (omega (arith, many, order-room)) in
         record {
-          answered = ap given (sym many) ∙ sym (ap counted e);
-          content = is ∙ sym (ap (λ (o : Outcome (List ℕ)). written o xs) e);
+          answered = ap given (sym many) ∙ sym (ap counted whole);
+          content = is ∙ sym (ap (λ (o : Outcome (List ℕ)). written o xs) whole);
         }
 
 -- what the walk leaves is the output at the front

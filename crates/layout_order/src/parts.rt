@@ -8,7 +8,9 @@ use pergen::euclid::Solved;
 use pergen::stepping;
 use pergen::stepping::Step;
 ghost use mathlib.Core.Path.{_≡_};
+ghost use mathlib.Core.Bool.{_&&_};
 ghost use Prim.Native.Nat.{_+_, _*_, _<_, _≤_};
+ghost use lib.Dec.{leb};
 ghost use lib.ListN.{length};
 ghost use Rattle.answer.specs.Lent.{Filled};
 ghost use Rattle.answer.specs.Refusals.{countOutcome};
@@ -22,6 +24,17 @@ fn place_of(solved: Solved, step: Step) -> usize
     ensures { λ r. ⌜ r ≡ step .cycle * solved .«reduced_period» + step .degree ⌝ }
 {
     step.cycle as usize * solved.reduced_period as usize + step.degree as usize
+}
+
+// Question 10 of both lists: has each of them an entry for every key of the octave?
+fn both_hold(octave: u16, entries: usize, room: usize) -> bool
+    ensures { λ r. ⌜ r ≡ (leb octave entries && leb octave room) ⌝ }
+{
+    let keys = octave as usize;
+    if entries < keys {
+        return false;
+    }
+    keys <= room
 }
 
 // Each key's entry to its place.
@@ -64,15 +77,11 @@ pub(crate) fn write_chain_order(
     requires { ⌜ 0 < octave ⌝ }
     ensures { λ r. ⌜ Filled (inRoom (length (now (out .entry))) (ordered octave (now (keys .entry)) (inChainOrder octave generator (now (keys .entry))))) (countOutcome r) (now (out .entry)) (now (out .exit)) ⌝ }
 {
-    let entries = octave as usize;
-    if keys.len() < entries {
-        return CountAnswer::Refused(Refusal::Room);
-    }
-    if out.len() < entries {
+    if !both_hold(octave, keys.len(), out.len()) {
         return CountAnswer::Refused(Refusal::Room);
     }
     put_chain_order(octave, generator, keys, out);
-    CountAnswer::Given(entries)
+    CountAnswer::Given(octave as usize)
 }
 
 // The list in key order (10, of either list).
@@ -85,13 +94,9 @@ pub(crate) fn write_key_order(
     requires { ⌜ 0 < octave ⌝ }
     ensures { λ r. ⌜ Filled (inRoom (length (now (out .entry))) (ordered octave (now (keys .entry)) (inKeyOrder octave generator (now (keys .entry))))) (countOutcome r) (now (out .entry)) (now (out .exit)) ⌝ }
 {
-    let entries = octave as usize;
-    if keys.len() < entries {
-        return CountAnswer::Refused(Refusal::Room);
-    }
-    if out.len() < entries {
+    if !both_hold(octave, keys.len(), out.len()) {
         return CountAnswer::Refused(Refusal::Room);
     }
     put_key_order(octave, generator, keys, out);
-    CountAnswer::Given(entries)
+    CountAnswer::Given(octave as usize)
 }

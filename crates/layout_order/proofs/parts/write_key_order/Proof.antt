@@ -4,35 +4,48 @@ use mathlib.Core.Path.{_∙_}
 use borrow.Author.Needs.{needs}
 use Rattle.layout_order.specs.Order.{inKeyOrder}
 use Rattle.layout_order.proofs.Placing.{key-length}
-use Rattle.layout_order.proofs.Ordering.{order-no-entries, order-no-room, order-given, key-front}
+use Rattle.layout_order.proofs.Ordering.{no-of, yes-of, order-refused, order-entries, order-room, order-given, key-front}
 use Rattle.layout_order.proofs.parts.write_key_order.Statement.{statement}
 use Rattle.layout_order.proofs.parts.write_key_order.Tie as tie
 
+both-hold-requires : tie.Need-both-hold-requires
+both-hold-requires c κs = search needs
+
 returns : tie.Need-returns
 returns c =
-    let start = c .before .before .before in
-    order-no-entries (start .args .octave) (now (start .args .keys)) (inKeyOrder (start .args .octave) (start .args .generator) (now (start .args .keys))) (now (start .args .out)) (c .if1 .taken)
-
-returns-2 : tie.Need-returns-2
-returns-2 c =
     let start = c .before .before .before .before in
-    order-no-room (start .args .octave) (now (start .args .keys)) (inKeyOrder (start .args .octave) (start .args .generator) (now (start .args .keys))) (now (start .args .out))
-    (c .before .if1 .left) (key-length _ _ (start .pre) _) (c .if2 .taken)
+    let entries = now (start .args .keys) in
+    let output = inKeyOrder (start .args .octave) (start .args .generator) entries in
+    let many = key-length (start .args .octave) (start .args .generator) (start .pre) entries in
+    order-refused (start .args .octave) entries output (now (start .args .out)) many (c .before .both-hold .ensures) (no-of _ (c .if1 .taken))
 
 put-key-order-requires : tie.Need-put-key-order-requires
-put-key-order-requires c κs = search needs
+put-key-order-requires c κs =
+    let start = c .before .before .before .before .before in
+    let entries = now (start .args .keys) in
+    let output = inKeyOrder (start .args .octave) (start .args .generator) entries in
+    let many = key-length (start .args .octave) (start .args .generator) (start .pre) entries in
+    let held = yes-of _ (c .before .if1 .left) in (
+      start .pre,
+      order-entries (start .args .octave) entries output (now (start .args .out)) many (c .before .before .both-hold .ensures) held,
+      order-room (start .args .octave) entries output (now (start .args .out)) many (c .before .before .both-hold .ensures) held,
+    )
 
 same-length : tie.Need-same-length
 same-length c = search needs
 
-returns-3 : tie.Need-returns-3
-returns-3 c =
+returns-2 : tie.Need-returns-2
+returns-2 c =
     let start = c .before .before .before .before .before .before .before .before in
-    let room = c .before .before .before .before .if2 .left in
-    order-given (start .args .octave) (now (start .args .keys)) (inKeyOrder (start .args .octave) (start .args .generator) (now (start .args .keys))) (now (start .args .out))
-    (c .before .before .before .before .before .if1 .left) (key-length _ _ (start .pre) _) room
-    (c .before .before .put-key-order .ensures ∙ key-front _ _ (start .pre) _ _ room)
+    let entries = now (start .args .keys) in
+    let output = inKeyOrder (start .args .octave) (start .args .generator) entries in
+    let many = key-length (start .args .octave) (start .args .generator) (start .pre) entries in
+    let held = yes-of _ (c .before .before .before .before .if1 .left) in
+    let tested = c .before .before .before .before .before .both-hold .ensures in
+    order-given (start .args .octave) entries output (now (start .args .out)) many tested held
+    (c .before .before .put-key-order .ensures ∙ key-front _ _ (start .pre) _ _ (order-room (start .args .octave) entries output (now (start .args .out)) many tested held))
 
 pub write-key-order-spec : {M : Type 1} → statement M
 write-key-order-spec =
-    tie.close (tie.spec returns returns-2 put-key-order-requires same-length returns-3)
+    tie.close
+    (tie.spec both-hold-requires returns put-key-order-requires same-length returns-2)
