@@ -1,7 +1,7 @@
 -- The answers of the calls, one law for each way in which they end; and that the calls undo each other.
 use Prim.Native.Nat.{ℕ, _≤_, _<_}
 use mathlib.Core.Path.{_≡_, refl, sym, ap, _∙_}
-use mathlib.Core.Bool.{Bool, true, false, not, _&&_}
+use mathlib.Core.Bool.{Bool, true, false, _&&_}
 use mathlib.Core.List.{List, _++_}
 use native.Mathlib.Omega.{arith}
 use lib.Dec.{leb}
@@ -23,15 +23,6 @@ use Rattle.layout_order.specs.Theorems.{CallsUndoEachOther}
 use Rattle.layout_order.proofs.Placing.{placed-front, self-permutes, chain-permutes, chain-is, key-is, chain-length, key-length, each-undoes-the-other}
 
 -- ---- question 10, of either list
-
--- a test of the opposite
-pub no-of : (b : Bool) → not b ≡ true → b ≡ false
-no-of true e = sym e
-no-of false e = refl
-
-pub yes-of : (b : Bool) → not b ≡ false → b ≡ true
-yes-of true e = refl
-yes-of false e = sym e
 
 pub entries-missing : (P n room : ℕ) → n < P → false ≡ (leb P n && leb P room)
 entries-missing P n room h = sym (ap (λ (b : Bool). b && leb P room) (lt-leb P n h))

@@ -5,7 +5,7 @@ use native.Mathlib.Nat.{mul-comm, mod-lt, mod-eq-of-lt, div-add-mod', div-lt-iff
 use lib.Arith.{digits-div, digits-mod, digits-lt}
 use lib.IntN.{pos}
 use Rattle.math.proofs.Division.{apart→remainder}
-use Rattle.pergen.specs.Pergen.{cycles, reduced, degree, cycle, keyDegree, keyCycle}
+use Rattle.pergen.specs.Pergen.{cycles, reduced, degree, cycle}
 use Rattle.pergen.specs.Parts.{solvedOf, At}
 use Rattle.pergen.specs.declared.euclid.Solved.{Solved}
 use Rattle.pergen.specs.declared.stepping.Step.{Step}

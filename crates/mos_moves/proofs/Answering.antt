@@ -1,7 +1,7 @@
 -- The answers of the calls, one law for each way in which they end: question 2, the table's moves, the walk to the k-th pattern, question 10.
 use Prim.Native.Nat.{ℕ, _-_, _≤_, _<_}
 use mathlib.Core.Path.{_≡_, refl, sym, ap, _∙_, subst}
-use mathlib.Core.Bool.{Bool, true, false, not}
+use mathlib.Core.Bool.{Bool, true, false}
 use mathlib.Core.Option.{Option, none, some}
 use mathlib.Core.List.{List}
 use native.Mathlib.Nat.{pos-of-ne-zero, zero-add}
@@ -25,15 +25,6 @@ use Rattle.mos_moves.specs.Parts.{StoredFrom}
 use Rattle.mos_moves.proofs.Going.{Going, going-genesis, going-child}
 use Rattle.mos_moves.proofs.Walking.{moves-here, moves-later, moves-never, walk-starts, as-long}
 use Rattle.mos_moves.proofs.Listing.{stored-front}
-
--- a test of the opposite
-pub no-of : (b : Bool) → not b ≡ true → b ≡ false
-no-of true e = sym e
-no-of false e = refl
-
-pub yes-of : (b : Bool) → not b ≡ false → b ≡ true
-yes-of true e = refl
-yes-of false e = sym e
 
 -- ---- lent tables
 

@@ -1,15 +1,15 @@
 -- A determinant of −1 over whole numbers: with v b = u a + 1, c = v y + a x and d = b x + u y are the only numbers with c (−u) + d v = x and
 -- c b + d (−a) = y; so every number of octaves and of generators is made of the two moves, in one way.
-use Prim.Native.Nat.{ℕ, zero, suc, _+_, _*_, _≤_}
-use mathlib.Core.Path.{_≡_, refl, sym, ap, ap₂, _∙_, subst}
-use lib.IntN.{ℤ, pos, negsuc, negℤ, _+ℤ_, _*ℤ_, *ℤ-comm, *ℤ-negsuc, *ℤ-zero}
-use native.Mathlib.Nat.{mul-add, add-mul, mul-assoc, mul-left-comm, mul-comm, one-mul, zero-mul}
+use Prim.Native.Nat.{ℕ, zero, suc, _+_, _*_}
+use mathlib.Core.Path.{_≡_, sym, ap, ap₂, _∙_, subst}
+use lib.IntN.{ℤ, pos, negℤ, _+ℤ_, _*ℤ_, *ℤ-comm, *ℤ-negsuc, *ℤ-zero}
+use native.Mathlib.Nat.{mul-add, add-mul, mul-assoc, mul-left-comm, one-mul, zero-mul}
 use native.Mathlib.Omega.{arith}
-use Rattle.math.proofs.Integers.{up, down, Rep, rep-self, rep-pos, rep-neg, rep-add, rep-mul, rep-agree}
+use Rattle.math.proofs.Integers.{up, down, Rep, rep-self, rep-neg, rep-add, rep-mul, rep-agree}
 use Rattle.mos.specs.declared.Mos.{Mos}
-use Rattle.mos.specs.Patterns.{primaries, secondaries, primary, secondary, keyAt}
+use Rattle.mos.specs.Patterns.{primaries, secondaries, primary, secondary}
 use Rattle.mos_moves.specs.Moves.{Table}
-use Rattle.mos_moves.specs.Theorems.{MadeOf, ReachedInOneWay, MovesReachAll}
+use Rattle.mos_moves.specs.Theorems.{ReachedInOneWay, MovesReachAll}
 use Rattle.mos_moves.proofs.Going.{Going, shape}
 use Rattle.mos_moves.proofs.Walking.{going-at}
 

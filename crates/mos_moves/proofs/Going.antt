@@ -1,19 +1,17 @@
 -- What each pattern of the walk keeps, over naturals: the generators are the other row's count, the octaves are −u and v.
-use Prim.Native.Nat.{ℕ, zero, suc, _+_, _*_, _-_, _/_, _%_, _≤_, _<_}
+use Prim.Native.Nat.{ℕ, zero, suc, _+_, _*_, _-_, _/_, _≤_, _<_}
 use mathlib.Core.Path.{_≡_, refl, sym, ap, ap₂, _∙_, subst}
 use mathlib.Core.Bool.{true}
-use mathlib.Core.Option.{Option, none, some}
-use mathlib.Core.List.{List, [], _∷_}
+use mathlib.Core.Option.{some}
+use mathlib.Core.List.{[], _∷_}
 use lib.IntN.{ℤ, pos, negsuc, negℤ, natAbs, _+ℤ_, _-ℤ_, _*ℤ_, *ℤ-comm, zero-*ℤ, *ℤ-zero, negsuc-*ℤ-negsuc}
-use lib.Dec.{ltb}
-use lib.ListN.{getElem?}
 use borrow.Author.Tests.{lt-ltb, le-ltb}
 use native.Mathlib.Nat.{mul-add, add-mul, mul-le-mul-right, le-of-mul-le-mul-right, mul-comm, div-add-mod', mod-lt, one-mul, mul-one, zero-mul, mul-zero}
 use native.Mathlib.Omega.{arith}
 use Rattle.mos.specs.declared.Mos.{Mos}
 use Rattle.mos.specs.Patterns.{mos, primaries, secondaries, primary, secondary, countOf, sizeOf, isPattern, genesis, childOf}
 use Rattle.mos.proofs.Sizes.{fits-pattern, counts-fit}
-use Rattle.mos.proofs.Descent.{Child, longer-primary, longer-secondary, child-at, child-keeps-size, child-steps, child-longer-primary, child-longer-secondary}
+use Rattle.mos.proofs.Descent.{Child, longer-primary, longer-secondary, child-at, child-keeps-size, child-steps}
 use Rattle.mos.proofs.Theorems.{genesis-size}
 use Rattle.mos_moves.specs.Moves.{Row, Table, row, primaryRow, secondaryRow, lessRow, childMoves, genesisMoves, reached, determinant}
 use Rattle.mos_moves.specs.Parts.{SmallTable}

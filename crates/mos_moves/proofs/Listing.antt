@@ -1,5 +1,5 @@
 -- Storing signed numbers in a row, and listing a walk's moves: what is listed and what is still to come make up the whole.
-use Prim.Native.Nat.{ℕ, suc, _+_, _≤_, _<_}
+use Prim.Native.Nat.{ℕ, suc, _+_, _≤_}
 use mathlib.Core.Path.{_≡_, refl, sym, ap, _∙_, subst}
 use mathlib.Core.Bool.{false}
 use mathlib.Core.Option.{some}

@@ -1,13 +1,12 @@
 -- Worked examples, and one theorem that the definitions give them. `negsuc k` is −1 − k.
-use Prim.Native.Nat.{ℕ}
 use mathlib.Core.Path.{_≡_}
 use mathlib.Core.Option.{none, some}
-use mathlib.Core.List.{List, [], _∷_}
-use lib.IntN.{ℤ, pos, negsuc}
+use mathlib.Core.List.{[], _∷_}
+use lib.IntN.{pos, negsuc}
 use Rattle.answer.specs.Outcome.{given, refused}
 use Rattle.mos.specs.Patterns.{mos, genesis}
 use Rattle.mos.specs.Walks.{children}
-use Rattle.mos_moves.specs.Moves.{row, genesisMoves, walkMoves, movesWith, patternMoves, listedMoves}
+use Rattle.mos_moves.specs.Moves.{row, genesisMoves, movesWith, patternMoves}
 use Rattle.mos_moves.specs.Answers.{tableAfter, genesisTable, nthOutcome, nthTable, getWalkMoves, signedHeldIn, signedCounted, signedWritten}
 
 -- Theorem.

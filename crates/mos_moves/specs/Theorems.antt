@@ -53,8 +53,8 @@ abbrev pub MovesReachAll : Type 0
 MovesReachAll =
     (P G k : ℕ) (m : Mos) (t : Table) → 1 ≤ P → MovesAt P G k m t → (x y : ℤ) → ReachedInOneWay P G m t x y
 
--- Theorem: a pattern's moves follow from its own numbers: a row's generators are the other step's count, up for the primary and down for the
--- secondary, and its octaves what is then left to the step.
+-- Theorem: a pattern's moves follow from its own numbers: a row's generators are the other step's count, up for the primary row and down for
+-- the secondary, and its octaves are what is then left to the step.
 abbrev pub PatternsTellTheirMoves : Type 0
 PatternsTellTheirMoves = (P G k : ℕ) (m : Mos) (t : Table) → 1 ≤ P → MovesAt P G k m t → t ≡ patternMoves P G m
 

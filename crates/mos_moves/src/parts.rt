@@ -18,7 +18,7 @@ ghost use Rattle.mos_moves.specs.Moves.{
 ghost use Rattle.mos_moves.specs.Parts.{SmallRow, SmallTable, OnWalk, StoredFrom};
 
 // The pattern that the walk starts from.
-pub fn genesis_of(period: u16, generator: u16) -> Mos
+pub(crate) fn genesis_of(period: u16, generator: u16) -> Mos
     requires { ⌜ 1 ≤ period ⌝ }
     ensures { λ r. ⌜ r ≡ genesis period generator ⌝ }
 {
@@ -67,11 +67,9 @@ pub fn pattern_moves(period: u16, generator: u16, pattern: Mos) -> [[i32; 2]; 2]
     requires { ⌜ (1 ≤ period) × OnWalk period generator pattern ⌝ }
     ensures { λ r. ⌜ r ≡ patternMoves period generator pattern ⌝ }
 {
-    let down = (pattern.num_secondary_steps as u32 * generator as u32
-        - pattern.primary_step as u32)
+    let down = (pattern.num_secondary_steps as u32 * generator as u32 - pattern.primary_step as u32)
         / period as u32;
-    let up = (pattern.num_primary_steps as u32 * generator as u32
-        + pattern.secondary_step as u32)
+    let up = (pattern.num_primary_steps as u32 * generator as u32 + pattern.secondary_step as u32)
         / period as u32;
     [
         [-(down as i32), pattern.num_secondary_steps as i32],

@@ -51,7 +51,13 @@ pub extern "C" fn vn_to_key_order(
 
 // The moves of the layout's pattern: the primary row's octaves and generators, then the secondary row's (1, 2, 3, 4, 18, 10).
 #[no_mangle]
-pub extern "C" fn vn_moves(chain: u16, octave: u16, tritave: u16, start: u16, out: &mut [i32]) -> i64
+pub extern "C" fn vn_moves(
+    chain: u16,
+    octave: u16,
+    tritave: u16,
+    start: u16,
+    out: &mut [i32],
+) -> i64
     ensures { λ r. ⌜ FillsSigned (getMoveNumbers (layout chain octave tritave start)) r (now (out .entry)) (now (out .exit)) ⌝ }
 {
     let layout = IsomorphicLayout {

@@ -2,8 +2,9 @@
 use mathlib.Core.Path.{sym, _∙_}
 use native.Mathlib.Nat.{pos-of-ne-zero}
 use borrow.Author.Needs.{needs}
+use borrow.Author.Tests.{not-true, not-false}
 use Rattle.mos_moves.proofs.Going.{going-pattern, going-small}
-use Rattle.mos_moves.proofs.Answering.{no-of, yes-of, Descending, nth-start, nth-next, nth-here, nth-none, nth-refused}
+use Rattle.mos_moves.proofs.Answering.{Descending, nth-start, nth-next, nth-here, nth-none, nth-refused}
 use Rattle.mos_moves.proofs.nth_moves.Statement.{statement}
 use Rattle.mos_moves.proofs.nth_moves.Tie as tie
 
@@ -30,7 +31,7 @@ has-child-requires c κs = search needs
 
 returns-2 : tie.Need-returns-2 Inv-loop μ-loop
 returns-2 c =
-    nth-none (c .before .before .before .loop .inv) (c .before .before .loop-test .taken) (sym (c .before .has-child .ensures) ∙ no-of _ (c .if2 .taken)) _
+    nth-none (c .before .before .before .loop .inv) (c .before .before .loop-test .taken) (sym (c .before .has-child .ensures) ∙ not-true _ (c .if2 .taken)) _
 
 child-moves-requires : tie.Need-child-moves-requires Inv-loop μ-loop
 child-moves-requires c κs =
@@ -41,7 +42,7 @@ child-of-requires : tie.Need-child-of-requires Inv-loop μ-loop
 child-of-requires c κs =
     let d = c .before .before .before .before .loop .inv in (
       going-pattern _ _ (d .positive) (search needs) (search needs) _ _ (d .going),
-      sym (c .before .before .has-child .ensures) ∙ yes-of _ (c .before .if2 .left),
+      sym (c .before .before .has-child .ensures) ∙ not-false _ (c .before .if2 .left),
     )
 
 sub-left : tie.Need-sub-left Inv-loop μ-loop
