@@ -2,9 +2,13 @@
 use Prim.Native.Nat.{ℕ, _+_, _*_, _/_, _%_, _<_}
 use mathlib.Core.Path.{_≡_, sym, ap, ap₂, _∙_, subst}
 use native.Mathlib.Nat.{mul-comm, mod-lt, mod-eq-of-lt, div-add-mod', div-lt-iff-lt-mul}
+use native.Mathlib.Omega.{arith}
 use lib.Arith.{digits-div, digits-mod, digits-lt}
 use lib.IntN.{pos}
+use mir.Syntax.{w64}
+use mir.Val.{Fits}
 use Rattle.math.proofs.Division.{apart→remainder}
+use Rattle.mos.proofs.Sizes.{product-fits}
 use Rattle.pergen.specs.Pergen.{cycles, reduced, degree, cycle}
 use Rattle.pergen.specs.Parts.{solvedOf, At}
 use Rattle.pergen.specs.declared.euclid.Solved.{Solved}
@@ -15,6 +19,13 @@ use Rattle.pergen.proofs.DegreePlaces.{stars-of-key}
 use Rattle.pergen.proofs.CarriedWalk.{keyWith, key-with-below, key-with-cycle, key-with-degree, at-degree, at-cycle}
 use Rattle.layout_order.specs.Order.{chainPlace}
 use Rattle.layout_order.specs.Theorems.{ChainOrderIsAPermutation}
+
+-- a place fits 64 bits
+pub product-held : (a b : ℕ) → a < 65536 → b < 65536 → Fits w64 (a * b)
+product-held a b ha hb = omega (arith, product-fits a b ha hb)
+
+pub sum-held : (a b c : ℕ) → a < 65536 → b < 65536 → c < 65536 → Fits w64 (a * b + c)
+sum-held a b c ha hb hc = omega (arith, product-fits a b ha hb)
 
 module _ (P G : ℕ) (h : 0 < P) where
   -- by the formulas of degree and cycle

@@ -1,7 +1,6 @@
 -- A product of two numbers of 16 bits, and one more number.
-use native.Mathlib.Omega.{arith}
 use borrow.Author.Needs.{needs}
-use Rattle.mos.proofs.Sizes.{product-fits}
+use Rattle.layout_order.proofs.Places.{product-held, sum-held}
 use Rattle.layout_order.proofs.parts.place_of.Statement.{statement}
 use Rattle.layout_order.proofs.parts.place_of.Tie as tie
 
@@ -12,17 +11,13 @@ cast-result-2 : tie.Need-cast-result-2
 cast-result-2 c = search needs
 
 mul-result : tie.Need-mul-result
-mul-result c =
-    let start = c .before .before in
-    omega (arith, product-fits (start .args .step .cycle) (start .args .solved .«reduced_period») (search needs) (search needs))
+mul-result c = product-held _ _ (search needs) (search needs)
 
 cast-result-3 : tie.Need-cast-result-3
 cast-result-3 c = search needs
 
 add-result : tie.Need-add-result
-add-result c =
-    let start = c .before .before .before in
-    omega (arith, product-fits (start .args .step .cycle) (start .args .solved .«reduced_period») (search needs) (search needs))
+add-result c = sum-held _ _ _ (search needs) (search needs) (search needs)
 
 returns : tie.Need-returns
 returns c = search needs
