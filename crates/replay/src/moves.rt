@@ -1,6 +1,7 @@
 // Questions on moves in octaves and generators. LAYOUT is a chain code, the step counts of octave and tritave, and a start.
 //
 //     moves LAYOUT                         the layout's pattern and its moves, those of the primary step first
+//     write_moves LAYOUT                   its moves alone
 //     genesis_moves PERIOD GENERATOR       the pattern that a walk begins with, and its moves
 //     nth_moves PERIOD GENERATOR PLACE     the pattern at a place of the walk, from 0, and its moves, or `none`
 //     walk_moves PERIOD GENERATOR          the moves of all patterns of the walk
@@ -11,6 +12,7 @@ use crate::print;
 use crate::words;
 use crate::words::Values;
 use crate::words::Wide;
+use answer::CountAnswer;
 use layout::IsomorphicLayout;
 use mos::Mos;
 use mos::MosAnswer;
@@ -28,7 +30,7 @@ pub(crate) fn answer(kind: usize, line: &[u8], at: usize, room: u16) -> bool {
 
 // How many 16-bit numbers come behind a name, a place aside.
 fn count_of(kind: usize) -> usize {
-    if kind == names::MOVES {
+    if kind <= names::WRITE_MOVES {
         return 4;
     }
     2
@@ -65,7 +67,7 @@ fn put(kind: usize, n: Values) {
         put_genesis(n.first, n.second);
         return;
     }
-    walk_into(n.first, n.second, n.room);
+    write_into(kind, n);
 }
 
 fn put_of_layout(layout: IsomorphicLayout) {
@@ -113,14 +115,22 @@ fn put_row(row: [i32; 2]) {
     print::next_signed(row[1]);
 }
 
-fn walk_into(period: u16, generator: u16, room: u16) {
+fn write_into(kind: usize, n: Values) {
     let mut out = print::signed_list_room();
-    let end = room as usize;
-    put_walk(period, generator, &mut out[..end]);
+    let end = n.room as usize;
+    put_written(kind, n, &mut out[..end]);
 }
 
-fn put_walk(period: u16, generator: u16, out: &mut [i32]) {
-    let answer = mos_moves::walk_moves(period, generator, out);
+fn put_written(kind: usize, n: Values, out: &mut [i32]) {
+    let answer = written(kind, n, out);
     print::signed_list(out, answer);
     print::end_line();
+}
+
+// A layout's moves, or those of a walk.
+fn written(kind: usize, n: Values, out: &mut [i32]) -> CountAnswer {
+    if kind == names::WRITE_MOVES {
+        return layout_moves::write_moves(layouts::layout_of(kind, n), out);
+    }
+    mos_moves::walk_moves(n.first, n.second, out)
 }

@@ -104,6 +104,7 @@ fn elements(question: &Question, text: &str) -> usize {
         Question::Reach(..)
         | Question::ToChainOrder(..)
         | Question::ToKeyOrder(..)
+        | Question::WriteMoves(_)
         | Question::WalkMoves(_) => text.split(' ').count(),
         Question::Widen(strip) => strip.len(),
         Question::Narrow(strip) => strip.len(),
@@ -214,6 +215,10 @@ fn text(question: &Question) -> Text {
             let (walk, created) = (walk(*pergen)?, created(*pergen)?);
             let found = walk.get(*place as usize);
             Ok(found.map_or_else(|| "none".to_owned(), |mos| moves_text(*mos, &created)))
+        }
+        Question::WriteMoves(layout) => {
+            let original = created_layout(*layout)?;
+            Ok(words(moves(original.mos(), original.pergen())))
         }
         Question::WalkMoves(pergen) => {
             let (walk, created) = (walk(*pergen)?, created(*pergen)?);

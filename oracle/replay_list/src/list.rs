@@ -592,6 +592,8 @@ fn unreadable() -> Vec<Question> {
         "moves 1 12 19 3 ",
         "moves 1 12 19 3 0",
         "moves_from 1 12 19 3",
+        "write_moves 1 12 19",
+        "write_moves 1 12 19 -3",
         "genesis_moves 12",
         "genesis_moves 12 7 0",
         "nth_moves 12 7",

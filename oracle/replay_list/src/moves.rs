@@ -40,7 +40,21 @@ fn of_layouts(random: &mut Random) -> Vec<Question> {
     questions.extend(keys::REFUSED.map(|numbers| Question::Moves(from(9, layout(numbers)))));
     let any = keys::of_any_size(random, 8, begun, |_, layout| vec![Question::Moves(layout)]);
     questions.extend(any);
+    let alone = questions.iter().filter_map(written).collect::<Vec<_>>();
+    questions.extend(alone);
+    let twelve = Question::WriteMoves(with_own_start(layout((1, 12, 19))));
+    let no_start = Question::WriteMoves(from(7, layout((1, 12, 19))));
+    questions.extend(around(4, &twelve));
+    questions.extend(around(4, &no_start));
     questions
+}
+
+/// The same moves alone, without the pattern.
+fn written(question: &Question) -> Option<Question> {
+    match question {
+        Question::Moves(layout) => Some(Question::WriteMoves(*layout)),
+        _ => None,
+    }
 }
 
 /// Generators within the period and above it; limits; numbers of every size at random.
@@ -99,6 +113,9 @@ mod tests {
         let (line, moves) = answered(Question::Moves(from(3, layout((1, 12, 19)))));
         assert_eq!(line, "moves 1 12 19 3");
         assert_eq!(moves, "5 2 2 1 -1 2 3 -5\n");
+        let (line, moves) = answered(Question::WriteMoves(from(3, layout((1, 12, 19)))));
+        assert_eq!(line, "write_moves 1 12 19 3");
+        assert_eq!(moves, "-1 2 3 -5\n");
         let (line, moves) = answered(Question::NthMoves(pergen(12, 19), 3));
         assert_eq!(line, "nth_moves 12 19 3");
         assert_eq!(moves, "5 2 2 1 -3 2 8 -5\n");

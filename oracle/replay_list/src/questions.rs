@@ -166,10 +166,11 @@ pub enum Question {
     ToChainOrder(Layout, Vec<u16>),
     ToKeyOrder(Layout, Vec<u16>),
     /// A pattern with its moves: a layout's, which has a start, the genesis, and a walk's at a
-    /// place from 0; and the moves of a whole walk.
+    /// place from 0; and the moves alone, of a layout and of a whole walk.
     Moves(Layout),
     GenesisMoves(FreePergen),
     NthMoves(FreePergen, u32),
+    WriteMoves(Layout),
     WalkMoves(FreePergen),
     /// Stored codes of one byte, and the way back.
     Widen(Vec<u8>),
@@ -246,6 +247,7 @@ impl Display for Question {
             Self::Moves(layout) => write!(f, "moves {layout}"),
             Self::GenesisMoves(pergen) => write!(f, "genesis_moves {pergen}"),
             Self::NthMoves(pergen, place) => write!(f, "nth_moves {pergen} {place}"),
+            Self::WriteMoves(layout) => write!(f, "write_moves {layout}"),
             Self::WalkMoves(pergen) => write!(f, "walk_moves {pergen}"),
             Self::Widen(strip) => write!(f, "widen{}", listed(strip)),
             Self::Narrow(strip) => write!(f, "narrow{}", listed(strip)),
