@@ -1,4 +1,4 @@
--- What holds of every accepted layout's moves, where the octave and the generator have 16 bits. Proofs: proofs/Theorems.antt.
+-- What holds of every accepted layout's moves. Proofs: proofs/Theorems.antt.
 use Prim.Native.Nat.{ℕ, _≤_}
 use mathlib.Core.Path.{_≡_}
 use mathlib.Core.Option.{some}
@@ -12,7 +12,7 @@ use Rattle.layout.specs.Layouts.{Layout, Accepted}
 use Rattle.layout_moves.specs.Answers.{movesIn}
 
 -- A layout always has moves, those that stand beside its pattern on the walk. So their rows reach the steps, the determinant is −1, the
--- numbers are small, and all octaves and generators are made of them in one way.
+-- numbers are small, where octave and generator have 16 bits, and all octaves and generators are made of them in one way.
 pub record OwnMoves (l : Layout) (t : Table) : Type 0 where
   pub are : movesIn l ≡ some t
   pub at : (k : ℕ) × MovesAt (l .octave) (l .generator) k (l .pattern) t
