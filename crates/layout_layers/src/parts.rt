@@ -22,7 +22,26 @@ ghost use Rattle.mos_layers.specs.Theorems.{sum};
 ghost use Rattle.mos_layers.specs.Layers.{dropEmpty};
 ghost use Rattle.layout.specs.Parts.{layoutOf, Laid};
 ghost use Rattle.layout_layers.specs.KeyLayers.{alternating};
-ghost use Rattle.layout_layers.specs.Parts.{inverseOf, keysOf, Spread, InTurn, InTurns, Walk, Ahead, runLayer, runNumber, listedNumber, totalOf, Sound, PlanOf, turnLayer, planNumber, turnsOf, Fronted, planLayers};
+ghost use Rattle.layout_layers.specs.Parts.{
+    inverseOf,
+    keysOf,
+    Spread,
+    InTurn,
+    InTurns,
+    Walk,
+    Ahead,
+    runLayer,
+    runNumber,
+    listedNumber,
+    totalOf,
+    Sound,
+    PlanOf,
+    turnLayer,
+    planNumber,
+    turnsOf,
+    Fronted,
+    planLayers,
+};
 
 // What all keys of a layout have in common.
 pub struct Plan {
