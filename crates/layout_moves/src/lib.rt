@@ -9,6 +9,7 @@ use answer::Refusal;
 use layout::IsomorphicLayout;
 use layout::parts::FoundAnswer;
 use mos::MosAnswer;
+use mos_moves::Moves;
 ghost use lib.ListN.{length};
 ghost use Rattle.answer.specs.Refusals.{countOutcome};
 ghost use Rattle.mos.specs.Answers.{mosOutcome};
@@ -17,7 +18,7 @@ ghost use Rattle.layout.specs.Answers.{getMos};
 ghost use Rattle.layout_moves.specs.Answers.{getMoves, getMoveNumbers};
 
 // The pattern of the layout's letters, with its moves in the lent table: the primary row first, octaves before generators (1, 2, 3, 4, 18).
-pub fn get_moves(layout: IsomorphicLayout, moves: &mut [[i32; 2]; 2]) -> MosAnswer
+pub fn get_moves(layout: IsomorphicLayout, moves: &mut Moves) -> MosAnswer
     ensures { λ r. ⌜ Tabled (mosOutcome r) (getMos layout) (getMoves layout) (now (moves .entry)) (now (moves .exit)) ⌝ }
 {
     match layout::parts::ask(layout) {

@@ -25,8 +25,11 @@ ghost use Rattle.mos_moves.specs.Answers.{
   getWalkMoves,
 };
 
+// A table: the primary row first, and in each row octaves before generators.
+pub type Moves = [[i32; 2]; 2];
+
 // The genesis of a period and a generator, with its moves in the lent table (2).
-pub fn genesis_moves(period: u16, generator: u16, moves: &mut [[i32; 2]; 2]) -> MosAnswer
+pub fn genesis_moves(period: u16, generator: u16, moves: &mut Moves) -> MosAnswer
     ensures { λ r. ⌜ Tabled (mosOutcome r) (genesisOutcome period generator) (genesisTable period generator) (now (moves .entry)) (now (moves .exit)) ⌝ }
 {
     if period == 0 {
@@ -37,7 +40,7 @@ pub fn genesis_moves(period: u16, generator: u16, moves: &mut [[i32; 2]; 2]) -> 
 }
 
 // The k-th pattern of the walk of children from the genesis, the genesis for 0, with its moves in the lent table (2).
-pub fn nth_moves(period: u16, generator: u16, k: u32, moves: &mut [[i32; 2]; 2]) -> WalkAnswer
+pub fn nth_moves(period: u16, generator: u16, k: u32, moves: &mut Moves) -> WalkAnswer
     ensures { λ r. ⌜ Tabled (walkOutcome r) (nthOutcome period generator k) (nthTable period generator k) (now (moves .entry)) (now (moves .exit)) ⌝ }
 {
     if period == 0 {

@@ -1,6 +1,7 @@
 // Tables of moves by value: that of a genesis, that of a child, that of any pattern by its own numbers, and a walk's tables in a slice.
 //
 // Parts, and no entry points: each asks for a period above 0, for a table whose numbers are small, or for a pattern of the walk.
+use crate::Moves;
 use mos::Mos;
 ghost use mathlib.Core.Path.{_≡_};
 ghost use Prim.Native.Nat.{_+_, _≤_};
@@ -32,7 +33,7 @@ pub(crate) fn genesis_of(period: u16, generator: u16) -> Mos
 }
 
 // The moves of the genesis.
-pub fn start(period: u16, generator: u16) -> [[i32; 2]; 2]
+pub fn start(period: u16, generator: u16) -> Moves
     requires { ⌜ 1 ≤ period ⌝ }
     ensures { λ r. ⌜ r ≡ genesisMoves period generator ⌝ }
 {
@@ -49,7 +50,7 @@ fn less_row(row: [i32; 2], other: [i32; 2]) -> [i32; 2]
 }
 
 // The moves of a pattern's child, from the pattern's: the shorter step's row is taken from the longer's.
-pub fn child_moves(pattern: Mos, moves: [[i32; 2]; 2]) -> [[i32; 2]; 2]
+pub fn child_moves(pattern: Mos, moves: Moves) -> Moves
     requires { ⌜ SmallTable moves ⌝ }
     ensures { λ r. ⌜ r ≡ childMoves pattern moves ⌝ }
 {
@@ -63,7 +64,7 @@ pub fn child_moves(pattern: Mos, moves: [[i32; 2]; 2]) -> [[i32; 2]; 2]
 
 // The moves of a pattern of the walk by its own numbers: its generators are the other step's count, and so many generators and the step
 // say how many octaves. No walk is gone.
-pub fn pattern_moves(period: u16, generator: u16, pattern: Mos) -> [[i32; 2]; 2]
+pub fn pattern_moves(period: u16, generator: u16, pattern: Mos) -> Moves
     requires { ⌜ (1 ≤ period) × OnWalk period generator pattern ⌝ }
     ensures { λ r. ⌜ r ≡ patternMoves period generator pattern ⌝ }
 {
@@ -78,7 +79,7 @@ pub fn pattern_moves(period: u16, generator: u16, pattern: Mos) -> [[i32; 2]; 2]
 }
 
 // The four numbers of a table at a place; the place after them.
-pub fn put_moves(out: &mut [i32], at: usize, moves: [[i32; 2]; 2]) -> usize
+pub fn put_moves(out: &mut [i32], at: usize, moves: Moves) -> usize
     requires { ⌜ (at + 4 ≤ length (now out)) × SmallTable moves ⌝ }
     ensures { λ r. ⌜ StoredFrom (now (out .entry)) at (numbersOf moves) (now (out .exit)) r ⌝ }
 {

@@ -17,6 +17,7 @@ use layout::IsomorphicLayout;
 use mos::Mos;
 use mos::MosAnswer;
 use mos::WalkAnswer;
+use mos_moves::Moves;
 
 // Whether the line asks this; if so, it is answered.
 pub(crate) fn answer(kind: usize, line: &[u8], at: usize, room: u16) -> bool {
@@ -88,14 +89,14 @@ fn put_nth(period: u16, generator: u16, place: u32) {
     put_walked(walked, moves);
 }
 
-fn put_made(answer: MosAnswer, moves: [[i32; 2]; 2]) {
+fn put_made(answer: MosAnswer, moves: Moves) {
     match answer {
         MosAnswer::Given(m) => put_pattern(m, moves),
         MosAnswer::Refused(q) => print::refused(q),
     }
 }
 
-fn put_walked(answer: WalkAnswer, moves: [[i32; 2]; 2]) {
+fn put_walked(answer: WalkAnswer, moves: Moves) {
     match answer {
         WalkAnswer::Found(m) => put_pattern(m, moves),
         WalkAnswer::Nothing => print::text(b"none\n"),
@@ -103,7 +104,7 @@ fn put_walked(answer: WalkAnswer, moves: [[i32; 2]; 2]) {
     }
 }
 
-fn put_pattern(m: Mos, moves: [[i32; 2]; 2]) {
+fn put_pattern(m: Mos, moves: Moves) {
     patterns::put_counts_and_steps(m);
     put_row(moves[0]);
     put_row(moves[1]);
