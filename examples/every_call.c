@@ -30,7 +30,14 @@ static void holds(int line, const void *slice, const void *wanted, size_t bytes)
         holds(__LINE__, numbers, wanted, sizeof wanted); \
     } while (0)
 
+#define MOVES(...) \
+    do { \
+        const int32_t wanted[] = {__VA_ARGS__}; \
+        holds(__LINE__, moves, wanted, sizeof wanted); \
+    } while (0)
+
 static uint16_t numbers[64];
+static int32_t moves[4 * 65535];
 static uint16_t strip[2400];
 static uint8_t text[512];
 
@@ -180,6 +187,108 @@ static void call_reach(void)
     NUMBERS(0, 1, 2, 3, 4, 5, 6);
     IS(vn_keys_in_reach(1, 7, 11, 3, 2, 3, numbers, 6), -VN_ROOM);
     IS(vn_keys_in_reach(1, 7, 11, 7, 2, 3, numbers, 6), -VN_START);
+}
+
+/* In 24 steps the chain goes 0 14 4 .. through the even keys and then 1 15 5 .. through the odd ones. */
+static void call_orders(void)
+{
+    uint16_t keys[26], i;
+    for (i = 0; i < 26; i++)
+        keys[i] = (uint16_t)(65535 - i); /* no entry is a key */
+
+    IS(vn_to_chain_order(1, 24, 38, 3, keys, 24, numbers, 24), 24);
+    for (i = 0; i < 24; i++)
+        numbers[i] = (uint16_t)(65535 - numbers[i]);
+    NUMBERS(0, 14, 4, 18, 8, 22, 12, 2, 16, 6, 20, 10, 1, 15, 5, 19, 9, 23, 13, 3, 17, 7, 21, 11);
+    IS(vn_to_key_order(1, 24, 38, 3, keys, 24, numbers, 24), 24);
+    for (i = 0; i < 24; i++)
+        numbers[i] = (uint16_t)(65535 - numbers[i]);
+    NUMBERS(0, 12, 7, 19, 2, 14, 9, 21, 4, 16, 11, 23, 6, 18, 1, 13, 8, 20, 3, 15, 10, 22, 5, 17);
+
+    /* Each undoes the other. */
+    IS(vn_to_chain_order(1, 24, 38, 3, keys, 24, numbers, 24), 24);
+    IS(vn_to_key_order(1, 24, 38, 3, numbers, 24, strip, 24), 24);
+    holds(__LINE__, strip, keys, 48);
+    IS(vn_to_key_order(1, 24, 38, 3, keys, 24, numbers, 24), 24);
+    IS(vn_to_chain_order(1, 24, 38, 3, numbers, 24, strip, 24), 24);
+    holds(__LINE__, strip, keys, 48);
+
+    /* The letter on key 0 moves no key. Longer lists: what lies past the octave is not read, and kept. */
+    numbers[7] = numbers[8] = 4711;
+    IS(vn_to_chain_order(1, 7, 11, 0, keys, 26, numbers, 9), 7);
+    NUMBERS(65535, 65531, 65534, 65530, 65533, 65529, 65532, 4711, 4711);
+    IS(vn_to_key_order(1, 7, 11, 6, keys, 26, numbers, 9), 7);
+    NUMBERS(65535, 65533, 65531, 65529, 65534, 65532, 65530, 4711, 4711);
+
+    /* Lists that are too short, and layouts that are none; nothing is written. */
+    IS(vn_to_chain_order(1, 24, 38, 3, keys, 23, numbers, 24), -VN_ROOM);
+    IS(vn_to_chain_order(1, 24, 38, 3, keys, 24, numbers, 23), -VN_ROOM);
+    IS(vn_to_chain_order(1, 24, 38, 7, keys, 0, numbers, 0), -VN_START);
+    IS(vn_to_chain_order(0, 12, 19, 9, keys, 0, numbers, 0), -VN_PATTERN);
+    IS(vn_to_key_order(1, 24, 38, 3, keys, 23, numbers, 24), -VN_ROOM);
+    IS(vn_to_key_order(1, 24, 38, 3, keys, 24, numbers, 23), -VN_ROOM);
+    IS(vn_to_key_order(1, 24, 38, 7, keys, 0, numbers, 0), -VN_START);
+    IS(vn_to_key_order(3, 12, 19, 9, keys, 0, numbers, 0), -VN_GENERATOR);
+    NUMBERS(65535, 65533, 65531, 65529, 65534, 65532, 65530, 4711, 4711);
+}
+
+/* In the largest octave of Hanson[7] the chain goes down, key by key. */
+static void call_largest_orders(void)
+{
+    static uint16_t keys[65535], ordered[65536];
+    uint32_t i;
+    int misplaced = 0;
+    for (i = 0; i < 65535; i++)
+        keys[i] = (uint16_t)(i + 1);
+    ordered[65535] = 4711;
+
+    IS(vn_to_chain_order(5, 65535, 6, 3, keys, 65535, ordered, 65536), 65535);
+    for (i = 0; i < 65535; i++)
+        misplaced += ordered[i] != keys[(65535 - i) % 65535];
+    IS(vn_to_key_order(5, 65535, 6, 3, keys, 65535, ordered, 65536), 65535);
+    for (i = 0; i < 65535; i++)
+        misplaced += ordered[i] != keys[(65535 - i) % 65535];
+    IS(misplaced, 0);
+    IS(ordered[65535], 4711);
+    IS(vn_to_chain_order(5, 65535, 6, 3, keys, 65534, ordered, 65536), -VN_ROOM);
+    IS(vn_to_chain_order(5, 65535, 6, 3, keys, 65535, ordered, 65534), -VN_ROOM);
+}
+
+/* Octaves and generators of the primary move, then of the secondary one. */
+static void call_moves(void)
+{
+    moves[4] = 4711;
+    IS(vn_moves(1, 12, 19, 3, moves, 4), 4);
+    MOVES(-1, 2, 3, -5);
+    IS(vn_moves(5, 19, 30, 0, moves, 5), 4);
+    MOVES(-2, 3, 3, -4, 4711);
+    IS(vn_moves(2, 5, 18, 2, moves, 5), 4); /* the generator is 13 */
+    MOVES(-5, 2, 8, -3, 4711);
+    IS(vn_moves(2, 65534, 65535, 4, moves, 4), 4);
+    MOVES(0, 1, 1, -4);
+    IS(vn_moves(1, 12, 19, 3, moves, 3), -VN_ROOM);
+    IS(vn_moves(1, 12, 19, 7, moves, 3), -VN_START);
+    IS(vn_moves(0, 12, 19, 9, moves, 3), -VN_PATTERN);
+    MOVES(0, 1, 1, -4);
+
+    IS(vn_walk_moves(12, 7, moves, 20), 20);
+    MOVES(0, 1, 1, -1, -1, 2, 1, -1, -1, 2, 2, -3, -1, 2, 3, -5, -4, 7, 3, -5);
+    IS(vn_walk_moves(12, 19, moves, 20), 20);
+    MOVES(-1, 1, 2, -1, -3, 2, 2, -1, -3, 2, 5, -3, -3, 2, 8, -5, -11, 7, 8, -5);
+    IS(vn_walk_moves(12, 7, moves, 19), -VN_ROOM);
+    IS(vn_walk_moves(0, 7, moves, 0), -VN_PERIOD);
+    MOVES(-1, 1, 2, -1, -3, 2, 2, -1, -3, 2, 5, -3, -3, 2, 8, -5, -11, 7, 8, -5);
+    IS(vn_walk_moves(6, 12, moves, 5), 4); /* a step is 0 */
+    MOVES(-2, 1, 3, -1, -3);
+    IS(vn_walk_moves(1, 65535, moves, 4), 4);
+    MOVES(-65535, 1, 65536, -1);
+    IS(vn_walk_moves(65535, 65534, moves, 4 * 65535), 4 * 65534);
+    IS(moves[4 * 65533], -65533);
+    IS(moves[4 * 65533 + 1], 65534);
+    IS(vn_walk_moves(65535, 1, moves, 4 * 65534), 4 * 65534);
+    IS(moves[4 * 65533 + 2], 1);
+    IS(moves[4 * 65533 + 3], -65534);
+    IS(vn_walk_moves(65535, 1, moves, 4 * 65534 - 1), -VN_ROOM);
 }
 
 static void call_layers(void)
@@ -363,6 +472,9 @@ int main(void)
     call_chains();
     call_layouts();
     call_reach();
+    call_orders();
+    call_largest_orders();
+    call_moves();
     call_layers();
     call_lamps();
     call_stored_strips();

@@ -1,6 +1,6 @@
 /* What an instrument's firmware does with the library: it makes a layout, lights the lamps, keeps a book of names, and
- * shows the name of each key that is pressed, and the nearest D. Nothing is allocated, and every refusal is shown by its
- * number. */
+ * shows the name of each key that is pressed, the nearest D, the order in which caps are filed, and the board's moves. Nothing
+ * is allocated, and every refusal is shown by its number. */
 #include <inttypes.h>
 #include <stdio.h>
 
@@ -92,6 +92,37 @@ static void show_nearest_d(int32_t key)
     printf("\n");
 }
 
+/* Shows which keys' caps lie side by side where they are filed along the chain, and that they come back to their keys. */
+static void show_filed_caps(void)
+{
+    uint16_t caps[OCTAVE], filed[OCTAVE], back[OCTAVE];
+    int key, moved = 0;
+
+    for (key = 0; key < OCTAVE; key++)
+        caps[key] = (uint16_t)key;
+    if (refused("caps", vn_to_chain_order(CHAIN, OCTAVE, TRITAVE, START, caps, OCTAVE, filed, OCTAVE)))
+        return;
+    if (refused("caps", vn_to_key_order(CHAIN, OCTAVE, TRITAVE, START, filed, OCTAVE, back, OCTAVE)))
+        return;
+    printf("caps along the chain:");
+    for (key = 0; key < OCTAVE; key++) {
+        printf(" %d", filed[key]);
+        moved += back[key] != caps[key];
+    }
+    printf("\n%d of them come back to another key\n", moved);
+}
+
+/* Shows the moves to the neighbours on the board. */
+static void show_moves(void)
+{
+    int32_t moves[4]; /* octaves and generators, primary first */
+
+    if (refused("moves", vn_moves(CHAIN, OCTAVE, TRITAVE, START, moves, 4)))
+        return;
+    printf("moves: %" PRId32 " octaves and %" PRId32 " generators, %" PRId32 " octaves and %" PRId32 " generators\n", moves[0],
+           moves[1], moves[2], moves[3]);
+}
+
 /* Lights the keys from one to another, both included. */
 static void light(int32_t from, int32_t to)
 {
@@ -132,6 +163,8 @@ int main(void)
 
     show_nearest_d(12); /* D* */
     show_nearest_d(-2); /* D */
+    show_filed_caps();
+    show_moves();
 
     /* Porcupine[8] in 8 equal steps: the colours of one octave are not those of the next, so the strip has two;
      * keys -8, 0, 8 and 16 are home. */

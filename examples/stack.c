@@ -12,6 +12,8 @@ enum { STACK = 65536, PAINT = 0xA5, ALLOWED = 1024 };
 
 static uint8_t stack[STACK];
 static uint16_t numbers[2 * 65536];
+static int32_t moves[4 * 65536];
+static uint16_t entries[65536];
 static uint8_t text[1 << 22];
 static const uint8_t stored[4096];
 static const uint16_t wide[4096];
@@ -31,6 +33,8 @@ static uint32_t found[2];
     CALL(vn_mos_genesis(1, 65535, 4, 0, numbers, 4)) \
     CALL(vn_mos_coprime(1, 1, 4096, 0, numbers, 4)) \
     CALL(vn_mos_find(65535, 1, 65535, numbers, 4)) \
+    CALL(vn_walk_moves(46368, 28657, moves, sizeof moves / 4)) \
+    CALL(vn_walk_moves(65535, 1, moves, sizeof moves / 4)) \
     CALL(vn_mos_children(1, 0, 46368, 28657, numbers, sizeof numbers / 2)) \
     CALL(vn_mos_parents(46368, 28657, 1, 0, numbers, sizeof numbers / 2)) \
     CALL(vn_mos_layers(5, 2, 9000, 7000, numbers, sizeof numbers / 2)) \
@@ -48,6 +52,12 @@ static uint32_t found[2];
     CALL(vn_nearest_natural(1, 41699, 65527, 6, -1, 6)) \
     CALL(vn_keys_in_reach(2, 65534, 65535, 4, -1, 32766, numbers, sizeof numbers / 2)) \
     CALL(vn_keys_in_reach(1, 41699, 65527, 6, 20849, 9, numbers, sizeof numbers / 2)) \
+    CALL(vn_to_chain_order(1, 41699, 65527, 6, entries, sizeof entries / 2, numbers, sizeof numbers / 2)) \
+    CALL(vn_to_chain_order(2, 65534, 65535, 4, entries, sizeof entries / 2, numbers, sizeof numbers / 2)) \
+    CALL(vn_to_key_order(1, 41699, 65527, 6, entries, sizeof entries / 2, numbers, sizeof numbers / 2)) \
+    CALL(vn_to_key_order(2, 65534, 65535, 4, entries, sizeof entries / 2, numbers, sizeof numbers / 2)) \
+    CALL(vn_moves(1, 41699, 65527, 6, moves, 4)) \
+    CALL(vn_moves(2, 65534, 65535, 4, moves, 4)) \
     CALL(vn_layer_count(2, 65534, 65535, 4)) \
     CALL(vn_layout_layers(2, 65534, 65535, 4, numbers, sizeof numbers / 2)) \
     CALL(vn_layer(2, 65534, 65535, 4, -1)) \

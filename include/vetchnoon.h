@@ -23,7 +23,8 @@
  *   VN_COPRIME_SIZE  8  Is the size after coprime at most 65,535?
  *   VN_LAMP_LAYER    9  Reserved: no call asks it since 7.0.0. It asked whether every sharp and flat layer number of the lamp
  *                       strip is below 100, and codes of 16 bits have room for all.
- *   VN_ROOM         10  Does the output slice hold the whole output?
+ *   VN_ROOM         10  Does the output slice hold the whole output? (Of a list that is put in another order: do both lists
+ *                       have an entry for each key of the octave?)
  *   VN_BOOK_PAIRS   11  Does a book hold its count, at least 1, and that many pairs?
  *   VN_BOOK_COVER   12  Do the pairs cover the text?
  *   VN_BOOK_KEY     13  Is the key at least 0 and below the book's count?
@@ -86,6 +87,7 @@ extern "C" {
 
 /* The version of this header. The first number changes where a call, a number above or an answer is changed or taken away,
  * the second where some are added, the third where neither is so.
+ *   7.2.0: vn_to_chain_order, vn_to_key_order, vn_moves and vn_walk_moves are added.
  *   7.1.0: vn_nearest_natural and vn_keys_in_reach are added.
  *   7.0.0: a lamp code is a uint16_t; it was a uint8_t. Home, natural, sharp 0 and flat 99 keep 0, 1, 2 and 201, and all other
  *          codes are new ones. vn_lamp_strip, vn_lamp and the key table ask 9 no more, and so answer for layouts that they
@@ -101,7 +103,7 @@ extern "C" {
  *   2.0.0: vn_sounded_key takes signs as one number, and asks 16 and 21.
  *   1.0.0, before these numbers stood here: it took sharps and flats as two numbers, and asked 15, VN_SPELLING. */
 #define VN_VERSION_MAJOR 7
-#define VN_VERSION_MINOR 1
+#define VN_VERSION_MINOR 2
 #define VN_VERSION_PATCH 0
 
 /* The library was built for a size_t of 64 bits; with any other this line does not compile. */
@@ -149,6 +151,12 @@ int64_t vn_mos_coprime(uint16_t primary_count, uint16_t secondary_count, uint16_
 /* Writes the 4 numbers of the first pattern with so many steps on the walk of children from the genesis of period and
  * generator; 0 elements where there is none. Asks 2, 10. */
 int64_t vn_mos_find(uint16_t period, uint16_t generator, uint16_t steps, uint16_t *out, size_t len);
+
+/* Writes the moves of every pattern on that walk, the genesis first, 4 numbers a pattern: octaves and generators of the primary
+ * move, then of the secondary one. Octaves times the period plus generators times the generator are the pattern's step. The
+ * patterns are those that vn_mos_children writes for the genesis, in its order; there are at most as many as the period. Each
+ * number lies between -65,535 and 65,536. Asks 2, 10. */
+int64_t vn_walk_moves(uint16_t period, uint16_t generator, int32_t *out, size_t len);
 
 /* Writes the whole walk of children, the given pattern first, 4 numbers a pattern. There are at most
  * primary_step + secondary_step + 1 patterns. Asks 7, 10. */
@@ -217,6 +225,26 @@ int64_t vn_nearest_natural(uint16_t chain, uint16_t octave, uint16_t tritave, ui
  * octave where that is more than it has. Asks 1, 2, 3, 4, 18, 10. */
 int64_t vn_keys_in_reach(uint16_t chain, uint16_t octave, uint16_t tritave, uint16_t start, int32_t key, uint16_t distance,
                          uint16_t *out, size_t len);
+
+/* ---- chain order of a layout's keys, and moves on its board */
+
+/* Writes a list's entries, the first one for each key of the octave, in the order of the chain: the entry of key i goes to
+ * cycle x reduced period + degree, as vn_generation gives them (an absent cycle is 0). Entries are any numbers; what the list
+ * has past the octave is not read. Both lists have at least as many entries as the octave has keys, else 10 has the answer no.
+ * Asks 1, 2, 3, 4, 18, 10. */
+int64_t vn_to_chain_order(uint16_t chain, uint16_t octave, uint16_t tritave, uint16_t start, const uint16_t *keys,
+                          size_t keys_len, uint16_t *out, size_t len);
+
+/* Writes a list that is in the order of the chain in the order of keys again: key i gets the entry at
+ * cycle x reduced period + degree. Each of the two calls undoes the other. Both lists have at least as many entries as the
+ * octave has keys, else 10 has the answer no. Asks 1, 2, 3, 4, 18, 10. */
+int64_t vn_to_key_order(uint16_t chain, uint16_t octave, uint16_t tritave, uint16_t start, const uint16_t *keys,
+                        size_t keys_len, uint16_t *out, size_t len);
+
+/* Writes 4 numbers, the moves of the layout's pattern: octaves and generators of the primary move, then of the secondary one.
+ * Octaves times the octave plus generators times the generator are the pattern's step; in 12 steps with code 1 and tritave 19,
+ * -1 and 2 are the step 2, and 3 and -5 the step 1. Asks 1, 2, 3, 4, 18, 10. */
+int64_t vn_moves(uint16_t chain, uint16_t octave, uint16_t tritave, uint16_t start, int32_t *out, size_t len);
 
 /* ---- layers and lamps of a layout's keys. Keys of one layer number are lit alike, but for home: key 0 and every key whole
  * octaves from it. Of T numbers, as vn_layer_count says, 0 is the natural layer; j below T / 2 is sharp layer j - 1; j = T / 2,

@@ -34,6 +34,7 @@ unsafe extern "C" {
         len: usize,
     ) -> i64;
     pub fn vn_mos_find(period: u16, generator: u16, steps: u16, out: *mut u16, len: usize) -> i64;
+    pub fn vn_walk_moves(period: u16, generator: u16, out: *mut i32, len: usize) -> i64;
 
     pub fn vn_chain_letters(chain: u16, out: *mut u16, len: usize) -> i64;
     pub fn vn_chain_name(chain: u16, out: *mut u8, len: usize) -> i64;
@@ -100,6 +101,35 @@ unsafe extern "C" {
         key: i32,
         distance: u16,
         out: *mut u16,
+        len: usize,
+    ) -> i64;
+
+    pub fn vn_to_chain_order(
+        chain: u16,
+        octave: u16,
+        tritave: u16,
+        start: u16,
+        keys: *const u16,
+        keys_len: usize,
+        out: *mut u16,
+        len: usize,
+    ) -> i64;
+    pub fn vn_to_key_order(
+        chain: u16,
+        octave: u16,
+        tritave: u16,
+        start: u16,
+        keys: *const u16,
+        keys_len: usize,
+        out: *mut u16,
+        len: usize,
+    ) -> i64;
+    pub fn vn_moves(
+        chain: u16,
+        octave: u16,
+        tritave: u16,
+        start: u16,
+        out: *mut i32,
         len: usize,
     ) -> i64;
 

@@ -177,6 +177,27 @@ filling! {
     accidentals = vn_accidentals(period: u16, generator: u16, symbols: u16, origin: u16, key: i32; u16);
     /// The pattern with that many steps on the walk from the genesis, or nothing (2, 10).
     mos_find = vn_mos_find(period: u16, generator: u16, steps: u16; u16);
+    /// The moves of every pattern on that walk, the genesis first, four numbers each: octaves and
+    /// generators of the primary move, then of the secondary one (2, 10). There are at most as
+    /// many patterns as the period.
+    ///
+    /// ```
+    /// use vetchnoon::{mos_children, walk_moves};
+    ///
+    /// let (octave, generator) = (12, 7);
+    /// let mut patterns = [0; 4 * 12];
+    /// let mut moves = [0; 4 * 12];
+    /// assert_eq!(mos_children([1, 1, 7, 5], &mut patterns), Ok(20));
+    /// assert_eq!(walk_moves(octave, generator, &mut moves), Ok(20));
+    /// assert_eq!(moves[..8], [0, 1, 1, -1, -1, 2, 1, -1]);
+    ///
+    /// for (pattern, moves) in patterns[..20].chunks(4).zip(moves[..20].chunks(4)) {
+    ///     let step = |octaves, generators| 12 * octaves + 7 * generators;
+    ///     assert_eq!(step(moves[0], moves[1]), i32::from(pattern[2]));
+    ///     assert_eq!(step(moves[2], moves[3]), i32::from(pattern[3]));
+    /// }
+    /// ```
+    walk_moves = vn_walk_moves(period: u16, generator: u16; i32);
     /// A chain's letters in order, as code points (1, 10).
     chain_letters = vn_chain_letters(chain: u16; u16);
     /// A chain's name (1, 10).
@@ -234,6 +255,16 @@ filling_from_layout! {
     /// assert_eq!(keys_in_reach(twelve, 5, 6, &mut keys[..11]), Err(Refused(10)));
     /// ```
     keys_in_reach = vn_keys_in_reach(key: i32, distance: u16; u16);
+    /// The moves of the layout's pattern: octaves and generators of the primary move, then of the
+    /// secondary one (1, 2, 3, 4, 18, 10). Octaves times the octave plus generators times the
+    /// generator are the pattern's step.
+    ///
+    /// ```
+    /// let mut moves = [0; 4];
+    /// assert_eq!(vetchnoon::moves(vetchnoon::Layout::new(1, 12, 19), &mut moves), Ok(4));
+    /// assert_eq!(moves, [-1, 2, 3, -5]); // 2 × 7 − 12 is 2, and 3 × 12 − 5 × 7 is 1
+    /// ```
+    moves = vn_moves(; i32);
     /// The layer number of each key of the octave, or of two at sharpness 0 (1, 2, 3, 4, 18, 10).
     layout_layers = vn_layout_layers(; u16);
     /// The lamp code of each key of the octave, or of two at sharpness 0, where the colours may
@@ -312,6 +343,46 @@ number_from_layout! {
     lamp = vn_lamp(key: i32) -> u16;
     /// How many bytes the book of a layout has (1, 2, 3, 4, 18).
     book_len = vn_book_len() -> usize;
+}
+
+/// Declares functions that put the entries of the octave's keys in another order, into `out`.
+macro_rules! reordering {
+    ($($(#[$doc:meta])* $name:ident = $call:ident;)*) => {$(
+        $(#[$doc])*
+        pub fn $name(layout: Layout, keys: &[u16], out: &mut [u16]) -> Result<usize, Refused> {
+            let Layout { chain, octave, tritave, start } = layout;
+            let (list, count) = (keys.as_ptr(), keys.len());
+            value(unsafe { c::$call(chain, octave, tritave, start, list, count, out.as_mut_ptr(), out.len()) })
+        }
+    )*};
+}
+
+reordering! {
+    /// The entries of the octave's keys in the order of the chain: that of key i goes to
+    /// cycle × reduced period + degree, as [`generation`] gives them (1, 2, 3, 4, 18, 10). Both
+    /// lists have at least as many entries as the octave has keys, else it is refused with 10;
+    /// what `keys` has past them is not read.
+    ///
+    /// ```
+    /// use vetchnoon::{Layout, Refused, to_chain_order, to_key_order};
+    ///
+    /// let twelve = Layout::new(1, 12, 19);
+    /// let keys = [0, 1, 2, 3, 4, 5, 6, 7, 8, 9, 10, 11];
+    /// let mut chain = [0; 12];
+    /// assert_eq!(to_chain_order(twelve, &keys, &mut chain), Ok(12));
+    /// assert_eq!(chain, [0, 7, 2, 9, 4, 11, 6, 1, 8, 3, 10, 5]); // D A E B ..
+    ///
+    /// let mut back = [0; 12];
+    /// assert_eq!(to_key_order(twelve, &chain, &mut back), Ok(12));
+    /// assert_eq!(back, keys);
+    ///
+    /// assert_eq!(to_chain_order(twelve, &keys[1..], &mut chain), Err(Refused(10)));
+    /// assert_eq!(to_chain_order(twelve, &keys, &mut chain[1..]), Err(Refused(10)));
+    /// ```
+    to_chain_order = vn_to_chain_order;
+    /// The entries in the order of keys again (1, 2, 3, 4, 18, 10): key i gets the one at
+    /// cycle × reduced period + degree. Each of [`to_chain_order`] and this undoes the other.
+    to_key_order = vn_to_key_order;
 }
 
 filling_from_pattern! {

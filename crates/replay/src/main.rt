@@ -8,8 +8,10 @@
 // original, and where it has none, by a reading of document 01. docs/DIFFERENCES.md says how they were made.
 mod books;
 mod layouts;
+mod moves;
 mod names;
 mod numbers;
+mod orders;
 mod patterns;
 mod pergens;
 mod print;
@@ -139,6 +141,12 @@ fn answered_other(kind: usize, line: &[u8], end: usize, room: u16) -> bool {
     }
     if kind <= names::REACH {
         return reach::answer(kind, line, end, room);
+    }
+    if kind <= names::TO_KEY_ORDER {
+        return orders::answer(kind, line, end, room);
+    }
+    if kind <= names::WALK_MOVES {
+        return moves::answer(kind, line, end, room);
     }
     false
 }

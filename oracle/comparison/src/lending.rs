@@ -40,7 +40,7 @@ macro_rules! elements {
     )*};
 }
 
-elements!(u8, u16, u32, i64);
+elements!(u8, u16, i32, u32, i64);
 
 /// Elements before and behind a lent slice.
 const GUARD: usize = 4;

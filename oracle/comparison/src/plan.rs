@@ -4,6 +4,8 @@ mod books;
 mod chains;
 mod known;
 mod layouts;
+mod moves;
+mod orders;
 mod patterns;
 mod pergens;
 mod reach;
@@ -52,6 +54,8 @@ pub fn tasks(mode: Mode, seed: u64) -> Vec<Task> {
     // The longest first, so that no thread is left alone with one at the end.
     layouts::plan(&mut tasks, mode, seed);
     reach::plan(&mut tasks, mode, seed);
+    orders::plan(&mut tasks, mode, seed);
+    moves::plan(&mut tasks, mode, seed);
     patterns::plan(&mut tasks, mode, seed);
     pergens::plan(&mut tasks, mode, seed);
     books::plan(&mut tasks, mode, seed);

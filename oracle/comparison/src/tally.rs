@@ -168,18 +168,19 @@ impl Tally {
         self.compare_lent(question, reading, original, class, library);
     }
 
-    /// The same for a call of no class that writes `room` elements or none, and asks for room
-    /// last. A refusal is seen in that room too, in which a call may have begun to write.
+    /// The same for a call that writes `room` elements or none, and asks for room last. A
+    /// refusal is seen in that room too, in which a call may have begun to write.
     pub fn compare_filling_in_room<T: Element>(
         &mut self,
         question: Question,
         room: usize,
         reading: Outcome<Vec<T>>,
         original: Original<Vec<T>>,
+        class: Option<Class>,
         call: impl Fn(&mut [T]) -> Result<usize, Refused>,
     ) {
         let library = lending::lent(room, call);
-        self.compare_lent(question, reading, original, None, library);
+        self.compare_lent(question, reading, original, class, library);
     }
 
     /// Compares a call that writes `room` elements or none, and asks for room first.

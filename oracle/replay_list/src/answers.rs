@@ -21,6 +21,7 @@ use reading::chains;
 use reading::codes;
 use reading::layouts::repeated;
 use reading::numbers::remainder;
+use reading::orders;
 use reading::pergens::Format;
 use reading::reach;
 use reading::tables;
@@ -76,6 +77,13 @@ pub fn answer(question: &Question) -> Option<String> {
     }
 }
 
+/// A question's line and its answer, which the original does not overflow at.
+#[cfg(test)]
+pub fn answered(question: Question) -> (String, String) {
+    let answer = answer(&question).expect("no overflow");
+    (question.to_string(), answer)
+}
+
 /// Question 10 comes after 1 to 8 and 17, and before those on a book.
 fn text_in_room(question: &Question, room: usize) -> Text {
     if let Question::Find(layout, _) = question {
@@ -93,7 +101,11 @@ fn elements(question: &Question, text: &str) -> usize {
         Question::OfPattern(..) | Question::OfLayout(..) | Question::Book(_) if text != "-" => {
             text.split(' ').count()
         }
-        Question::Reach(..) => text.split(' ').count(),
+        Question::Reach(..)
+        | Question::ToChainOrder(..)
+        | Question::ToKeyOrder(..)
+        | Question::WriteMoves(_)
+        | Question::WalkMoves(_) => text.split(' ').count(),
         Question::Widen(strip) => strip.len(),
         Question::Narrow(strip) => strip.len(),
         _ => 0,
@@ -184,6 +196,34 @@ fn text(question: &Question) -> Text {
             let read = layout.read()?;
             Ok(words(reach::keys_in_reach(&read, *key, *distance)))
         }
+        // The original has the cycles and degrees of keys alone.
+        Question::ToChainOrder(layout, list) => {
+            let along = along(*layout, list)?;
+            Ok(words(layouts::in_chain_order(&along, list)))
+        }
+        Question::ToKeyOrder(layout, list) => {
+            let along = along(*layout, list)?;
+            Ok(words(layouts::in_key_order(&along, list)))
+        }
+        // And its patterns, which leave one table of moves each.
+        Question::Moves(layout) => {
+            let original = created_layout(*layout)?;
+            Ok(moves_text(original.mos(), original.pergen()))
+        }
+        Question::GenesisMoves(pergen) => Ok(moves_text(walk(*pergen)?[0], &created(*pergen)?)),
+        Question::NthMoves(pergen, place) => {
+            let (walk, created) = (walk(*pergen)?, created(*pergen)?);
+            let found = walk.get(*place as usize);
+            Ok(found.map_or_else(|| "none".to_owned(), |mos| moves_text(*mos, &created)))
+        }
+        Question::WriteMoves(layout) => {
+            let original = created_layout(*layout)?;
+            Ok(words(moves(original.mos(), original.pergen())))
+        }
+        Question::WalkMoves(pergen) => {
+            let (walk, created) = (walk(*pergen)?, created(*pergen)?);
+            Ok(words(walk.into_iter().flat_map(|mos| moves(mos, &created))))
+        }
         Question::Widen(strip) => Ok(list_text(codes::widened(strip)?)),
         Question::Narrow(strip) => Ok(list_text(codes::narrowed(strip)?)),
         Question::BookLength(layout) => Ok(book(*layout)?.len().to_string()),
@@ -256,6 +296,28 @@ pub fn created_layout(layout: Layout) -> Result<IsomorphicLayout, Absent> {
             answer.map(|layout| layout.is_some())
         ),
     }
+}
+
+/// The original's keys along the chain, where the list has an entry for each.
+fn along(layout: Layout, list: &[u16]) -> Result<Vec<u16>, Absent> {
+    let original = created_layout(layout)?;
+    orders::holds_octave(&layout.read()?, list)?;
+    given(layouts::keys_along_chain(&original))
+}
+
+/// The original's patterns from the genesis on.
+fn walk(pergen: FreePergen) -> Result<Vec<Mos>, Absent> {
+    let genesis = patterns::create_genesis(pergen.period, pergen.generator);
+    given(patterns::children(settled(pergen.read(), genesis)?))
+}
+
+fn moves(mos: Mos, pergen: &PerGen) -> [i32; 4] {
+    patterns::moves(mos, pergen.period(), pergen.generator()).expect("a pattern of the walk")
+}
+
+/// The numbers of a pattern, and its moves.
+fn moves_text(mos: Mos, pergen: &PerGen) -> String {
+    format!("{} {}", words::pattern(mos), words(moves(mos, pergen)))
 }
 
 fn original_chain(code: u16) -> Genchain {

@@ -7,6 +7,8 @@ mod books;
 mod conversions;
 mod keys;
 mod list;
+mod moves;
+mod orders;
 mod questions;
 mod random;
 mod reach;

@@ -162,6 +162,16 @@ pub enum Question {
     /// A key and a letter's place, and a key and a distance; the layout has a start.
     Nearest(Layout, i32, u16),
     Reach(Layout, i32, u16),
+    /// A list in the order of the chain, and in that of keys; the layout has a start.
+    ToChainOrder(Layout, Vec<u16>),
+    ToKeyOrder(Layout, Vec<u16>),
+    /// A pattern with its moves: a layout's, which has a start, the genesis, and a walk's at a
+    /// place from 0; and the moves alone, of a layout and of a whole walk.
+    Moves(Layout),
+    GenesisMoves(FreePergen),
+    NthMoves(FreePergen, u32),
+    WriteMoves(Layout),
+    WalkMoves(FreePergen),
     /// Stored codes of one byte, and the way back.
     Widen(Vec<u8>),
     Narrow(Vec<u16>),
@@ -227,23 +237,28 @@ impl Display for Question {
             Self::BookLength(layout) => write!(f, "book_len{} {layout}", layout.suffix()),
             Self::Book(layout) => write!(f, "book{} {layout}", layout.suffix()),
             Self::Find(layout, key) => write!(f, "find{} {layout} {key}", layout.suffix()),
-            Self::FindIn(key, book) => {
-                write!(f, "find_in {key}")?;
-                book.iter().try_for_each(|byte| write!(f, " {byte}"))
-            }
+            Self::FindIn(key, book) => write!(f, "find_in {key}{}", listed(book)),
             Self::Nearest(layout, key, letter) => write!(f, "nearest {layout} {key} {letter}"),
             Self::Reach(layout, key, distance) => write!(f, "reach {layout} {key} {distance}"),
-            Self::Widen(strip) => {
-                f.write_str("widen")?;
-                strip.iter().try_for_each(|code| write!(f, " {code}"))
+            Self::ToChainOrder(layout, list) => {
+                write!(f, "to_chain_order {layout}{}", listed(list))
             }
-            Self::Narrow(strip) => {
-                f.write_str("narrow")?;
-                strip.iter().try_for_each(|code| write!(f, " {code}"))
-            }
+            Self::ToKeyOrder(layout, list) => write!(f, "to_key_order {layout}{}", listed(list)),
+            Self::Moves(layout) => write!(f, "moves {layout}"),
+            Self::GenesisMoves(pergen) => write!(f, "genesis_moves {pergen}"),
+            Self::NthMoves(pergen, place) => write!(f, "nth_moves {pergen} {place}"),
+            Self::WriteMoves(layout) => write!(f, "write_moves {layout}"),
+            Self::WalkMoves(pergen) => write!(f, "walk_moves {pergen}"),
+            Self::Widen(strip) => write!(f, "widen{}", listed(strip)),
+            Self::Narrow(strip) => write!(f, "narrow{}", listed(strip)),
             Self::Table(line) => write!(f, "table {line}"),
             Self::InRoom(room, question) => write!(f, "{room} {question}"),
             Self::Unreadable(line) => f.write_str(line),
         }
     }
+}
+
+/// Numbers with a space before each.
+fn listed<T: Display>(numbers: &[T]) -> String {
+    numbers.iter().map(|number| format!(" {number}")).collect()
 }

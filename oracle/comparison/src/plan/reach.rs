@@ -2,7 +2,6 @@
 
 use std::iter;
 
-use reading::Whole;
 use reading::fitted;
 use reading::names;
 use reading::names::Spelling;
@@ -187,6 +186,7 @@ fn opposite_keys(layout: &GivenLayout) -> Vec<i32> {
 
 #[cfg(test)]
 mod tests {
+    use reading::Whole;
     use reading::reach;
 
     use super::*;
