@@ -10,6 +10,7 @@
 pub mod books;
 pub mod chains;
 pub mod codes;
+pub mod edo;
 pub mod former;
 pub mod layers;
 pub mod layouts;
@@ -17,6 +18,7 @@ pub mod names;
 pub mod numbers;
 pub mod patterns;
 pub mod pergens;
+pub mod powers;
 pub mod reach;
 pub mod tables;
 
