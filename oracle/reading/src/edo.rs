@@ -70,23 +70,28 @@ fn second_choice(n: u16, k: u16) -> Option<u16> {
 
 /// "We want the layouts that `IsomorphicLayout::find_by_edo` lists, in its order of chains."
 pub fn layouts(n: u16) -> Outcome<Vec<Listed>> {
-    let tritaves = tritaves(n)?;
-    let listed = CODES.filter_map(|code| listed(code, n, &tritaves));
+    ask_division(n)?;
+    let listed = CODES.filter_map(|code| layout_of_chain(n, code).ok());
     Ok(listed.collect())
 }
 
-/// A chain's layout. The second choice "serves a chain only where k gives no layout".
-fn listed(code: u16, n: u16, tritaves: &[u16]) -> Option<Listed> {
-    let mut choices = tritaves.iter().zip([false, true]);
-    choices.find_map(|(tritave, is_second)| {
-        let layout = Layout::new(code, n, *tritave).ok()?;
-        Some(Listed {
+/// One chain's layout. The second choice "serves a chain only where k gives no layout"; where
+/// neither gives one, the refusal is the one that k meets.
+pub fn layout_of_chain(n: u16, code: u16) -> Outcome<Listed> {
+    let tritaves = tritaves(n)?;
+    let layout_of = |tritave| Layout::new(code, n, tritave);
+    let listed = |(tritave, is_second): (&u16, bool)| {
+        Ok(Listed {
             code,
             tritave: *tritave,
             is_second,
-            layout,
+            layout: layout_of(*tritave)?,
         })
-    })
+    };
+    let mut choices = tritaves.iter().zip([false, true]).map(listed);
+    let first = choices.next().expect("there is a first choice");
+    let second = choices.next();
+    first.or_else(|number| second.and_then(Outcome::ok).ok_or(number))
 }
 
 /// "A report over all 400 prints one line per chain code, rising: the code, then the number of
@@ -219,6 +224,17 @@ mod tests {
                 assert_eq!(first.is_err(), listed.is_second);
             }
         }
+    }
+
+    #[test]
+    fn questions_about_one_chain() {
+        let refusal = |n, code| layout_of_chain(n, code).err();
+        assert_eq!(refusal(401, 6), Some(15));
+        assert_eq!(refusal(12, 6), Some(1));
+        // Of the first choice: 13 with 21 has a generator that is not whole, with 20 no pattern.
+        assert_eq!(refusal(13, 3), Some(3));
+        assert_eq!(refusal(12, 0), Some(4));
+        assert_eq!(refusal(13, 0), None);
     }
 
     #[test]

@@ -31,6 +31,7 @@ use tune::pergen::AccidentalsFormat;
 use tune::pergen::Mos;
 use tune::pergen::PerGen;
 
+use crate::edo;
 use crate::questions::FreePergen;
 use crate::questions::Layout;
 use crate::questions::OfLayout;
@@ -52,7 +53,7 @@ impl From<u8> for Absent {
     }
 }
 
-type Text = Result<String, Absent>;
+pub type Text = Result<String, Absent>;
 
 /// The room of a question that names none.
 const USUAL_ROOM: u16 = 65_535;
@@ -65,8 +66,8 @@ pub fn answer(question: &Question) -> Option<String> {
     };
     match text_in_room(question, room.into()) {
         Ok(mut text) => {
-            // A table ends its own lines.
-            if !matches!(question, Question::Table(_)) {
+            // A table and a report end their own lines.
+            if !matches!(question, Question::Table(_) | Question::EdoReport) {
                 text.push('\n');
             }
             Some(text)
@@ -90,10 +91,12 @@ fn text_in_room(question: &Question, room: usize) -> Text {
 fn elements(question: &Question, text: &str) -> usize {
     match question {
         Question::Chain(_) | Question::Name(..) | Question::Table(_) => text.len(),
+        Question::EdoReport => text.len(),
         Question::OfPattern(..) | Question::OfLayout(..) | Question::Book(_) if text != "-" => {
             text.split(' ').count()
         }
         Question::Reach(..) => text.split(' ').count(),
+        Question::FindByEdo(_) if text != "-" => text.split(' ').count(),
         Question::Widen(strip) => strip.len(),
         Question::Narrow(strip) => strip.len(),
         _ => 0,
@@ -184,6 +187,10 @@ fn text(question: &Question) -> Text {
             let read = layout.read()?;
             Ok(words(reach::keys_in_reach(&read, *key, *distance)))
         }
+        Question::Tritaves(n) => edo::tritaves(*n),
+        Question::FindByEdo(n) => edo::layouts(*n),
+        Question::FindChainByEdo(n, code) => edo::layout_of_chain(*n, *code),
+        Question::EdoReport => given(judge::edo::report()),
         Question::Widen(strip) => Ok(list_text(codes::widened(strip)?)),
         Question::Narrow(strip) => Ok(list_text(codes::narrowed(strip)?)),
         Question::BookLength(layout) => Ok(book(*layout)?.len().to_string()),
@@ -197,7 +204,7 @@ fn text(question: &Question) -> Text {
 }
 
 /// What the original answers to a question that the document does not refuse.
-fn given<T>(answer: Answer<T>) -> Result<T, Absent> {
+pub fn given<T>(answer: Answer<T>) -> Result<T, Absent> {
     match answer {
         Ok(value) => Ok(value),
         Err(panicked) if panicked.is_overflow() => Err(Absent::Overflow),
@@ -376,7 +383,7 @@ fn layer_text(layer: Layer) -> String {
 }
 
 /// Numbers, or `-` where there is none.
-fn list_text<T: Display>(numbers: Vec<T>) -> String {
+pub fn list_text<T: Display>(numbers: Vec<T>) -> String {
     match numbers.is_empty() {
         true => "-".to_owned(),
         false => words(numbers),

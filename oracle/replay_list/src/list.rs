@@ -1,6 +1,7 @@
 //! The list of questions: the bench examples of document 01, small numbers
 //! densely, limits, and numbers of every size at random; then keys below 0, other letters
-//! on key 0, strips of two octaves, stored strips, and distances between keys.
+//! on key 0, strips of two octaves, stored strips, distances between keys, and layouts from
+//! the number of steps alone.
 
 use std::collections::HashSet;
 use std::iter;
@@ -12,6 +13,7 @@ use judge::patterns::Pattern;
 use crate::answers::created_layout;
 use crate::books;
 use crate::conversions;
+use crate::edo;
 use crate::keys;
 use crate::questions::FreePergen;
 use crate::questions::Layout;
@@ -49,6 +51,7 @@ pub fn all() -> Vec<Question> {
     questions.extend(strips::all());
     questions.extend(conversions::all());
     questions.extend(reach::all());
+    questions.extend(edo::all());
 
     let mut asked = HashSet::new();
     questions.retain(|question| asked.insert(question.to_string()));
