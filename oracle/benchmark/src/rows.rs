@@ -5,6 +5,8 @@
 //! row says so, the original has its layout made beforehand; ours makes it in
 //! every call, since a call takes the four numbers.
 
+mod edo;
+
 use std::borrow::Borrow;
 use std::cell::RefCell;
 use std::fmt::Write;
@@ -87,6 +89,7 @@ pub fn of_the_original() -> Vec<Row> {
     rows.extend(with_strip.map(strip));
     rows.extend(with_table.map(key_table));
     rows.extend(walks());
+    rows.extend(edo::rows());
     rows
 }
 
