@@ -14,6 +14,7 @@ use edo_layouts::EdoAnswer;
 use edo_layouts::EdoLayout;
 use edo_tritaves::Choices;
 use edo_tritaves::TritavesAnswer;
+use mos::MosAnswer;
 
 const TRITAVES: usize = 0;
 
@@ -120,7 +121,8 @@ fn put_found(found: EdoLayout) {
     print::next_number(layout.start as u64);
     print::next_number(flag(found.second));
     print::space();
-    patterns::put_pattern(found.pattern);
+    let pattern = found.pattern;
+    patterns::put_made(MosAnswer::Given(pattern));
 }
 
 fn flag(second: bool) -> u64 {

@@ -76,8 +76,7 @@ fn answer_pattern(kind: usize, m: Mos) {
     put_made(m.coprime());
 }
 
-// A pattern, which ends the line.
-pub(crate) fn put_pattern(m: Mos) {
+fn put_pattern(m: Mos) {
     print::number(m.num_primary_steps as u64);
     print::next_number(m.num_secondary_steps as u64);
     print::next_number(m.primary_step as u64);

@@ -61,6 +61,7 @@ pub fn of_the_original() -> Vec<Row> {
     let with_table = [SMALL, MIDDLE, LARGEST_OLD_STRIP, LARGE];
     let with_strip = [SMALL, MIDDLE, LARGEST_OLD_STRIP, LARGE, LARGEST];
     let mut rows = making();
+    rows.extend(edo::rows());
     rows.extend(SIZES.map(|n| names("one name", n, first_octave(), made_anew(n))));
     rows.extend(SIZES.map(|n| {
         let what = "one name; the original's layout is made beforehand";
@@ -89,7 +90,6 @@ pub fn of_the_original() -> Vec<Row> {
     rows.extend(with_strip.map(strip));
     rows.extend(with_table.map(key_table));
     rows.extend(walks());
-    rows.extend(edo::rows());
     rows
 }
 

@@ -92,11 +92,11 @@ fn elements(question: &Question, text: &str) -> usize {
     match question {
         Question::Chain(_) | Question::Name(..) | Question::Table(_) => text.len(),
         Question::EdoReport => text.len(),
+        Question::FindByEdo(_) if text != "-" => text.split(' ').count(),
         Question::OfPattern(..) | Question::OfLayout(..) | Question::Book(_) if text != "-" => {
             text.split(' ').count()
         }
         Question::Reach(..) => text.split(' ').count(),
-        Question::FindByEdo(_) if text != "-" => text.split(' ').count(),
         Question::Widen(strip) => strip.len(),
         Question::Narrow(strip) => strip.len(),
         _ => 0,
@@ -158,6 +158,10 @@ fn text(question: &Question) -> Text {
             chains::chain(*code)?;
             Ok(original_chain(*code).to_string())
         }
+        Question::Tritaves(n) => edo::tritaves(*n),
+        Question::FindByEdo(n) => edo::layouts(*n),
+        Question::FindChainByEdo(n, code) => edo::layout_of_chain(*n, *code),
+        Question::EdoReport => given(judge::edo::report()),
         Question::OfLayout(asked, layout) => of_layout(*asked, &created_layout(*layout)?),
         Question::Spelling(layout, key) => {
             let key = asked_at(*key, layout.octave);
@@ -187,10 +191,6 @@ fn text(question: &Question) -> Text {
             let read = layout.read()?;
             Ok(words(reach::keys_in_reach(&read, *key, *distance)))
         }
-        Question::Tritaves(n) => edo::tritaves(*n),
-        Question::FindByEdo(n) => edo::layouts(*n),
-        Question::FindChainByEdo(n, code) => edo::layout_of_chain(*n, *code),
-        Question::EdoReport => given(judge::edo::report()),
         Question::Widen(strip) => Ok(list_text(codes::widened(strip)?)),
         Question::Narrow(strip) => Ok(list_text(codes::narrowed(strip)?)),
         Question::BookLength(layout) => Ok(book(*layout)?.len().to_string()),

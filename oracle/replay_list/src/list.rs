@@ -1,7 +1,6 @@
 //! The list of questions: the bench examples of document 01, small numbers
 //! densely, limits, and numbers of every size at random; then keys below 0, other letters
-//! on key 0, strips of two octaves, stored strips, distances between keys, and layouts from
-//! the number of steps alone.
+//! on key 0, strips of two octaves, stored strips, and distances between keys.
 
 use std::collections::HashSet;
 use std::iter;
@@ -45,13 +44,13 @@ pub fn all() -> Vec<Question> {
     questions.extend(of_layouts(&mut random));
     questions.extend(tables(&mut random));
     questions.extend(books::all(&mut random));
+    questions.extend(edo::all());
     questions.extend(unreadable());
     questions.extend(keys::all());
     questions.extend(starts::all());
     questions.extend(strips::all());
     questions.extend(conversions::all());
     questions.extend(reach::all());
-    questions.extend(edo::all());
 
     let mut asked = HashSet::new();
     questions.retain(|question| asked.insert(question.to_string()));

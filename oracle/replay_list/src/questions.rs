@@ -147,6 +147,11 @@ pub enum Question {
     OfPattern(OfPattern, Pattern),
     GetKey(Pattern, i16, i16),
     Chain(u16),
+    /// Of an octave of so many steps, and of one chain there, by its code.
+    Tritaves(u16),
+    FindByEdo(u16),
+    FindChainByEdo(u16, u16),
+    EdoReport,
     OfLayout(OfLayout, Layout),
     Spelling(Layout, i32),
     Name(Layout, i32),
@@ -162,11 +167,6 @@ pub enum Question {
     /// A key and a letter's place, and a key and a distance; the layout has a start.
     Nearest(Layout, i32, u16),
     Reach(Layout, i32, u16),
-    /// Of an octave of so many steps, and of one chain there, by its code.
-    Tritaves(u16),
-    FindByEdo(u16),
-    FindChainByEdo(u16, u16),
-    EdoReport,
     /// Stored codes of one byte, and the way back.
     Widen(Vec<u8>),
     Narrow(Vec<u16>),
@@ -222,6 +222,10 @@ impl Display for Question {
                 write!(f, "get_key {} {primary} {secondary}", words(*pattern))
             }
             Self::Chain(code) => write!(f, "chain {code}"),
+            Self::Tritaves(n) => write!(f, "tritaves {n}"),
+            Self::FindByEdo(n) => write!(f, "find_by_edo {n}"),
+            Self::FindChainByEdo(n, code) => write!(f, "find_chain_by_edo {n} {code}"),
+            Self::EdoReport => f.write_str("edo_report"),
             Self::OfLayout(asked, layout) => {
                 write!(f, "{}{} {layout}", asked.name(), layout.suffix())
             }
@@ -238,10 +242,6 @@ impl Display for Question {
             }
             Self::Nearest(layout, key, letter) => write!(f, "nearest {layout} {key} {letter}"),
             Self::Reach(layout, key, distance) => write!(f, "reach {layout} {key} {distance}"),
-            Self::Tritaves(n) => write!(f, "tritaves {n}"),
-            Self::FindByEdo(n) => write!(f, "find_by_edo {n}"),
-            Self::FindChainByEdo(n, code) => write!(f, "find_chain_by_edo {n} {code}"),
-            Self::EdoReport => f.write_str("edo_report"),
             Self::Widen(strip) => {
                 f.write_str("widen")?;
                 strip.iter().try_for_each(|code| write!(f, " {code}"))
