@@ -161,6 +161,7 @@ static void call_divisions(void)
     IS(vn_find_by_edo(12, numbers, 0), -VN_ROOM);
     IS(vn_find_by_edo(4, numbers, 0), 0);
     IS(vn_find_by_edo(4, numbers, 18), 0);
+    IS(vn_find_by_edo(6, numbers, 18), 0);
     untouched(__LINE__, 0);
     IS(vn_find_by_edo(12, numbers, 64), 6);
     NUMBERS(1, 19, 0, 2, 19, 0);

@@ -192,8 +192,8 @@ int64_t vn_tritaves(uint16_t n, uint16_t *out, size_t len);
 
 /* Writes the layouts of n steps, at most one for each chain, by the chain's code, rising; 3 numbers a layout: the chain, the
  * tritave, and 1 where that is the second choice, else 0. A chain has the layout of the tritave, or, where there is none, that of
- * the second choice. There are at most 18 numbers, and none for n below 5. Each layout is asked about by its chain, n, its
- * tritave and a start, such as vn_start gives. Asks 15, 10. */
+ * the second choice. There are at most 18 numbers; 1 to 4 and 6 steps have no layout, and 0 numbers. Each layout is asked about by
+ * its chain, n, its tritave and a start, such as vn_start gives. Asks 15, 10. */
 int64_t vn_find_by_edo(uint16_t n, uint16_t *out, size_t len);
 
 /* Writes a report over all n from 1 to 400 in ASCII, without a 0 at the end: a line for each chain, rising, of the chain's code and
