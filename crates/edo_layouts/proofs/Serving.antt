@@ -2,10 +2,12 @@
 use Prim.Native.Nat.{ℕ}
 use mathlib.Core.Path.{_≡_, refl, sym, ap, _∙_}
 use mathlib.Core.Bool.{Bool, true, false}
+use native.Mathlib.Omega.{arith}
 use lib.Dec.{eqb}
 use borrow.Author.Tests.{eq-eqb, ne-eqb}
 use Rattle.answer.specs.Outcome.{Outcome, given, refused, andThen}
 use Rattle.answer.specs.Choice.{pick}
+use Rattle.answer.proofs.Asked.{given-same}
 use Rattle.layout.specs.Layouts.{Layout, layoutOutcome, defaultLayout}
 use Rattle.layout.specs.declared.IsomorphicLayout.{IsomorphicLayout}
 use Rattle.edo_tritaves.specs.declared.Choices.{Choices}
@@ -76,3 +78,38 @@ module _ (n code : ℕ) where
   pub chain-served : (t : Choices) → given t ≡ tritavesOf n → chainServed n code t ≡ chainOutcome n code
   unfolding chainOutcome
   chain-served t e = ap (λ (o : Outcome Choices). andThen o (chainServed n code)) e
+
+-- ---- a chain's layout is of that chain
+
+tried-chain : (n code tritave : ℕ) (second : Bool) (c : EdoLayout) → given c ≡ tried n code tritave second → c .layout .genchain ≡ code
+unfolding tried
+tried-chain n code tritave second c e = by (layoutOutcome (defaultLayout code n tritave)) e
+  where
+    by : (o : Outcome Layout)
+        → given c ≡ andThen o (λ (l : Layout). given (record { layout = defaultLayout code n tritave; second = second; pattern = l .pattern }))
+        → c .layout .genchain ≡ code
+    by (given l) f = ap (λ (x : EdoLayout). x .layout .genchain) (given-same f)
+    by (refused q) f = absurd (let z : _≡_ {A = ℕ} 0 1 = cc in omega arith)
+
+module _ (n code : ℕ) (c : EdoLayout) where
+  else-chain : (a b : Outcome EdoLayout) → (given c ≡ a → c .layout .genchain ≡ code) → (given c ≡ b → c .layout .genchain ≡ code)
+      → given c ≡ orElse a b → c .layout .genchain ≡ code
+  else-chain (given x) b f g e = f e
+  else-chain (refused q) (given x) f g e = g e
+  else-chain (refused q) (refused p) f g e = absurd (let z : _≡_ {A = ℕ} 0 1 = cc in omega arith)
+
+  served-chain : (t : Choices) → given c ≡ chainServed n code t → c .layout .genchain ≡ code
+  unfolding chainServed
+  served-chain t e = by (eqb (t .second) 0) e
+    where
+      by : (test : Bool) → given c ≡ pick test (first n code t) (orElse (first n code t) (next n code t)) → c .layout .genchain ≡ code
+      by true f = tried-chain n code (t .first) false c f
+      by false f = else-chain (first n code t) (next n code t) (tried-chain n code (t .first) false c) (tried-chain n code (t .second) true c) f
+
+  pub chain-is : given c ≡ chainOutcome n code → c .layout .genchain ≡ code
+  unfolding chainOutcome
+  chain-is e = by (tritavesOf n) e
+    where
+      by : (o : Outcome Choices) → given c ≡ andThen o (chainServed n code) → c .layout .genchain ≡ code
+      by (given t) f = served-chain t f
+      by (refused q) f = absurd (let z : _≡_ {A = ℕ} 0 1 = cc in omega arith)
