@@ -1,8 +1,8 @@
 -- The definition's tests.
 use Rattle.layout_scale_names.proofs.ScalePlaces.{place-above, place-below, place-equal}
 use borrow.Author.Needs.{needs}
-use Rattle.layout_scale_names.proofs.place_of.Statement.{statement}
-use Rattle.layout_scale_names.proofs.place_of.Tie as tie
+use Rattle.layout_scale_names.proofs.parts.place_of.Statement.{statement}
+use Rattle.layout_scale_names.proofs.parts.place_of.Tie as tie
 
 mul-result : tie.Need-mul-result
 mul-result c = search needs

@@ -1,0 +1,3 @@
+pub mod Serving
+pub mod Listing
+pub mod Examples

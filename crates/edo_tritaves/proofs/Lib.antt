@@ -1,0 +1,3 @@
+pub mod TableRule
+pub mod Choosing
+pub mod Examples
