@@ -26,7 +26,7 @@ ghost use Rattle.edo_lines.specs.Parts.{chainLine};
 // Three numbers, with a space behind each; the place after them.
 fn put_numbers(out: &mut [u8], at: usize, genchain: u16, octave: u16, tritave: u16) -> usize
     requires { ⌜ at + 18 ≤ length (now out) ⌝ }
-    ensures { λ r. ⌜ Wrote (now (out .entry)) at ((digits genchain ++ (space ∷ [])) ++ (digits octave ++ (space ∷ [])) ++ (digits tritave ++ (space ∷ []))) (now (out .exit)) r ⌝ }
+    ensures { λ r. ⌜ Wrote (now (out .entry)) at ((digits genchain ++ (space ∷ [])) ++ (digits octave ++ (space ∷ [])) ++ (digits tritave ++ (space ∷ []))) (now (out .exit)) r × (r ≤ at + 18) ⌝ }
 {
     let first = decimal::put_number_then(out, at, genchain, b' ');
     let second = decimal::put_number_then(out, first, octave, b' ');
@@ -36,7 +36,7 @@ fn put_numbers(out: &mut [u8], at: usize, genchain: u16, octave: u16, tritave: u
 // Two names by their places in the table, a space between and a line feed behind; the place after it.
 fn put_names(out: &mut [u8], at: usize, chain: u16, scale: u16) -> usize
     requires { ⌜ (chain < 19) × (scale < 19) × (at + 26 ≤ length (now out)) ⌝ }
-    ensures { λ r. ⌜ Wrote (now (out .entry)) at (textAt chain ++ (space ∷ []) ++ textAt scale ++ (lineFeed ∷ [])) (now (out .exit)) r ⌝ }
+    ensures { λ r. ⌜ Wrote (now (out .entry)) at (textAt chain ++ (space ∷ []) ++ textAt scale ++ (lineFeed ∷ [])) (now (out .exit)) r × (r ≤ at + 26) ⌝ }
 {
     let named = texts::put(out, at, chain);
     let between = put_byte(out, named, b' ');

@@ -1,43 +1,42 @@
+-- No line, or one.
+use mathlib.Core.Path.{sym, ap, _∙_}
+use native.Mathlib.Omega.{arith}
+use Rattle.text.proofs.Writing.{wrote-none, wrote-as}
+use Rattle.edo_layouts.specs.Layouts.{edoOutcome}
+use Rattle.edo_lines.proofs.LineLaws.{no-line, line-is}
 use borrow.Author.Needs.{needs}
 use Rattle.edo_lines.proofs.put_chain.Statement.{statement}
 use Rattle.edo_lines.proofs.put_chain.Tie as tie
-use Rattle.edo_lines.proofs.put_chain.Reads as reads
-use Rattle.edo_lines.proofs.put_chain.Lts as lts
-use Rattle.edo_layouts.proofs.parts.serve.Reads as serve-reads
-use Rattle.edo_lines.proofs.put_line.Reads as put-line-reads
-use Rattle.layout_scale_names.proofs.parts.place_of.Reads as place-of-reads
 
--- src/lib.rt:68:11
 serve-requires : tie.Need-serve-requires
 serve-requires c κs = search needs
 
--- src/lib.rt:69:34
 enum-told : tie.Need-enum-told
 enum-told c = search needs
 
--- src/lib.rt:70:26
 enum-known-found : tie.Need-enum-known-found
 enum-known-found c = search needs
 
--- src/lib.rt:73:17
 place-of-requires : tie.Need-place-of-requires
 place-of-requires c κs = search needs
 
--- src/lib.rt:74:13
 put-line-requires : tie.Need-put-line-requires
 put-line-requires c κs = search needs
 
--- src/lib.rt:64:1
 returns : tie.Need-returns
-returns c = ?
+returns c = (wrote-as (no-line _ _ _ _ (sym (ap edoOutcome (c .enum-told .given .1)) ∙ c .before .before .serve .ensures)) (wrote-none _ _), omega arith)
 
--- src/lib.rt:64:1
 same-length : tie.Need-same-length
 same-length c = search needs
 
--- src/lib.rt:64:1
 returns-2 : tie.Need-returns-2
-returns-2 c = ?
+returns-2 c =
+    let s = c .before .before .before .before .before .before .before .before .before .before .before .before in
+    let e = (sym (ap edoOutcome (c .before .before .before .before .before .before .before .before .found .given .1)) ∙ c .before .before .before .before .before .before .before .before .before .before .serve .ensures) in
+    let w = c .before .before .put-line .ensures in (
+      wrote-as (line-is (s .args .n) (s .args .choices) (s .args .genchain) (s .pre .0) _ e _ (c .before .before .before .before .place-of .ensures)) (w .0),
+      w .1,
+    )
 
 pub put-chain-spec : {M : Type 1} → statement M
 put-chain-spec =

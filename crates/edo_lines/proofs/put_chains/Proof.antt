@@ -1,42 +1,54 @@
+-- What is written is the lines of the chains so far.
+use Prim.Native.Nat.{ℕ, _*_, _≤_, _-_}
+use mathlib.Core.Path.{_≡_, refl, ap}
+use native.Mathlib.Omega.{arith}
+use native.Mathlib.Nat.{le-antisymm}
+use lib.ListN.{length}
+use Rattle.text.specs.Writing.{Wrote, joined}
+use Rattle.text.proofs.Writing.{wrote-as}
+use Rattle.text.proofs.Joined.{joined-start, joined-step}
+use Rattle.edo_lines.specs.Parts.{chainLine}
 use Rattle.edo_lines.proofs.put_chains.Statement.{statement}
 use Rattle.edo_lines.proofs.put_chains.Tie as tie
-use Rattle.edo_lines.proofs.put_chains.Reads as reads
-use Rattle.edo_lines.proofs.put_chains.Lts as lts
-use Rattle.edo_lines.proofs.put_chain.Reads as put-chain-reads
 
 abbrev Inv-loop : tie.InvT-loop
-Inv-loop out₀ n choices place₀ genchain₀ out place genchain = ?
+Inv-loop out₀ n choices place₀ genchain₀ out place genchain =
+    Wrote out₀ 0 (joined (chainLine n choices) genchain) out place × (place ≤ 44 * genchain) × (genchain ≤ 6) × (length out ≡ length out₀)
 
 abbrev μ-loop : tie.MeasureT-loop
-μ-loop out₀ n choices place₀ genchain₀ out place genchain = ?
+μ-loop out₀ n choices place₀ genchain₀ out place genchain = 6 - genchain
 
--- src/lib.rt:86:5
 loop-holds : tie.Need-loop-holds Inv-loop μ-loop
-loop-holds c = ?
+loop-holds c = (joined-start _ _ _, omega arith, omega arith, refl)
 
--- src/lib.rt:87:9
 put-chain-requires : tie.Need-put-chain-requires Inv-loop μ-loop
-put-chain-requires c κs = ?
+put-chain-requires c κs = (omega arith, omega arith)
 
--- src/lib.rt:88:9
 add-genchain : tie.Need-add-genchain Inv-loop μ-loop
-add-genchain c = ?
+add-genchain c = omega arith
 
--- src/lib.rt:86:5
 loop-less : tie.Need-loop-less Inv-loop μ-loop
-loop-less c = ?
+loop-less c = omega arith
 
--- src/lib.rt:86:5
 loop-again : tie.Need-loop-again Inv-loop μ-loop
-loop-again c = ?
+loop-again c =
+    let w = c .before .before .put-chain .ensures in
+    let l = c .before .before .before .before .before in (
+      joined-step _ _ (l .loop .inv .0) (w .0),
+      omega (arith, w .1),
+      omega arith,
+      omega arith,
+    )
 
--- src/lib.rt:80:1
 same-length : tie.Need-same-length Inv-loop μ-loop
-same-length c = ?
+same-length c = omega arith
 
--- src/lib.rt:80:1
 returns : tie.Need-returns Inv-loop μ-loop
-returns c = ?
+returns c =
+    let s = c .before .before .before in (
+      wrote-as (ap (joined (chainLine (s .args .n) (s .args .choices))) (le-antisymm (c .before .loop .inv .2) (c .loop-test .left))) (c .before .loop .inv .0),
+      omega arith,
+    )
 
 pub put-chains-spec : {M : Type 1} → statement M
 put-chains-spec =

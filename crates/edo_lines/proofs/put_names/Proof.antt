@@ -1,34 +1,54 @@
+-- Two names and the byte behind each.
+use native.Mathlib.Omega.{arith}
+use Rattle.text.proofs.Writing.{then}
+use Rattle.edo_lines.proofs.LineLaws.{short-name}
 use borrow.Author.Needs.{needs}
 use Rattle.edo_lines.proofs.put_names.Statement.{statement}
 use Rattle.edo_lines.proofs.put_names.Tie as tie
-use Rattle.edo_lines.proofs.put_names.Reads as reads
-use Rattle.edo_lines.proofs.put_names.Lts as lts
-use Rattle.genchain_names.proofs.texts.put.Reads as put-reads
-use Rattle.text.proofs.writer.put_byte.Reads as put-byte-reads
 
--- src/lib.rt:41:9
 put-requires : tie.Need-put-requires
-put-requires c κs = ?
+put-requires c κs =
+    let s = c .before .before in
+    let x = short-name (s .args .chain) (s .pre .0) in
+    let y = short-name (s .args .scale) (s .pre .1) in
+    (s .pre .0, omega (arith, x))
 
--- src/lib.rt:42:9
 put-byte-requires : tie.Need-put-byte-requires
-put-byte-requires c κs = ?
+put-byte-requires c κs =
+    let s = c .before .before .before .before .before .before in
+    let x = short-name (s .args .chain) (s .pre .0) in
+    let y = short-name (s .args .scale) (s .pre .1) in
+    omega (arith, x)
 
--- src/lib.rt:43:9
 put-requires-2 : tie.Need-put-requires-2
-put-requires-2 c κs = ?
+put-requires-2 c κs =
+    let s = c .before .before .before .before .before .before .before .before .before .before in
+    let x = short-name (s .args .chain) (s .pre .0) in
+    let y = short-name (s .args .scale) (s .pre .1) in
+    (s .pre .1, omega (arith, x, y))
 
--- src/lib.rt:44:5
 put-byte-requires-2 : tie.Need-put-byte-requires-2
-put-byte-requires-2 c κs = ?
+put-byte-requires-2 c κs =
+    let s = c .before .before .before .before .before .before .before .before .before .before .before .before .before .before in
+    let x = short-name (s .args .chain) (s .pre .0) in
+    let y = short-name (s .args .scale) (s .pre .1) in
+    omega (arith, x, y)
 
--- src/lib.rt:37:1
 same-length : tie.Need-same-length
 same-length c = search needs
 
--- src/lib.rt:37:1
 returns : tie.Need-returns
-returns c = ?
+returns c =
+    let s = c .before .before .before .before .before .before .before .before .before .before .before .before .before .before .before .before .before in
+    let x = short-name (s .args .chain) (s .pre .0) in
+    let y = short-name (s .args .scale) (s .pre .1) in
+    let d = c .before .before in
+    let e = d .before .before .before .before in
+    let f = e .before .before .before .before in
+    let g = f .before .before .before .before in (
+      then (then (then (g .put .ensures) (f .put-byte .ensures)) (e .put2 .ensures)) (d .put-byte2 .ensures),
+      omega (arith, g .put .ensures .end, f .put-byte .ensures .end, e .put2 .ensures .end, d .put-byte2 .ensures .end, x, y),
+    )
 
 pub put-names-spec : {M : Type 1} → statement M
 put-names-spec =
