@@ -1,4 +1,5 @@
-// How layouts are counted, and how the report's lines are written: parts, and no entry points.
+// How layouts are counted, and how the report's lines are written: parts, and no entry points. `put_report` asks for a slice of 144 bytes,
+// which holds the report: six lines of four numbers with at most five digits.
 use edo_layouts::EdoAnswer;
 use mos::Mos;
 use text::decimal;
@@ -77,14 +78,7 @@ fn tally_chain(genchain: u16) -> Tally
 }
 
 // A chain's line; the place after it. No number has more than five digits.
-fn put_line(
-    out: &mut [u8],
-    at: usize,
-    genchain: u16,
-    above: u16,
-    below: u16,
-    equal: u16,
-) -> usize
+fn put_line(out: &mut [u8], at: usize, genchain: u16, above: u16, below: u16, equal: u16) -> usize
     requires { ⌜ at + 24 ≤ length (now out) ⌝ }
     ensures { λ r. ⌜ Wrote (now (out .entry)) at (reportLine genchain above below equal) (now (out .exit)) r ⌝ }
 {
@@ -95,7 +89,7 @@ fn put_line(
 }
 
 // The lines of all chains at the front of a slice; the place after them.
-pub(crate) fn put_report(out: &mut [u8]) -> usize
+pub fn put_report(out: &mut [u8]) -> usize
     requires { ⌜ 144 ≤ length (now out) ⌝ }
     ensures { λ r. ⌜ Wrote (now (out .entry)) 0 report (now (out .exit)) r ⌝ }
 {

@@ -70,11 +70,11 @@ three-stored xs at c second e =
     let a = set xs at (c .layout .genchain) in
     let b = set a (at + 1) (c .layout .tritave) in
     let two : Wrote xs at (c .layout .genchain ∷ c .layout .tritave ∷ []) b (at + 1 + 1)
-          = then (wrote-one xs at (c .layout .genchain)) (wrote-one a (at + 1) (c .layout .tritave)) in
+    = then (wrote-one xs at (c .layout .genchain)) (wrote-one a (at + 1) (c .layout .tritave)) in
     let three : Wrote xs at (c .layout .genchain ∷ c .layout .tritave ∷ second ∷ []) (set b (at + 1 + 1) second) (at + 1 + 1 + 1)
-          = then two (wrote-one b (at + 1 + 1) second) in
+    = then two (wrote-one b (at + 1 + 1) second) in
     let there : Wrote xs at (c .layout .genchain ∷ c .layout .tritave ∷ second ∷ []) (set b (at + 2) second) (at + 2 + 1)
-          = subst (λ (k : ℕ). Wrote xs at (c .layout .genchain ∷ c .layout .tritave ∷ second ∷ []) (set b k second) (k + 1)) (let q : at + 1 + 1 ≡ at + 2 = omega arith in q) three in
+    = subst (λ (k : ℕ). Wrote xs at (c .layout .genchain ∷ c .layout .tritave ∷ second ∷ []) (set b k second) (k + 1)) (let q : at + 1 + 1 ≡ at + 2 = omega arith in q) three in
     wrote-as (ap (λ (n : ℕ). c .layout .genchain ∷ c .layout .tritave ∷ n ∷ []) e) (record { content = there .content; end = refl })
 
 -- ---- of all chains

@@ -98,7 +98,7 @@ module _ (n code : ℕ) (c : EdoLayout) where
   else-chain (refused q) (given x) f g e = g e
   else-chain (refused q) (refused p) f g e = absurd (let z : _≡_ {A = ℕ} 0 1 = cc in omega arith)
 
-  served-chain : (t : Choices) → given c ≡ chainServed n code t → c .layout .genchain ≡ code
+  pub served-chain : (t : Choices) → given c ≡ chainServed n code t → c .layout .genchain ≡ code
   unfolding chainServed
   served-chain t e = by (eqb (t .second) 0) e
     where

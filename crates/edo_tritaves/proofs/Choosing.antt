@@ -53,7 +53,6 @@ tells : (b : Bool) → b ≡ true → T b
 tells true e = tt
 tells false e = subst T (sym e) tt
 
-
 pub tritave-is : (n k : ℕ) → k ≤ 2 * n → TritaveRule n k → k ≡ tritave n
 unfolding tritave
 tritave-is n k h r =

@@ -37,8 +37,7 @@ loop-less c = omega arith
 loop-again : tie.Need-loop-again Inv-loop μ-loop
 loop-again c =
     let l = c .before .before .before .before .before .before in
-    let w = wrote-as (line-is _ _ (c .before .before .before .before .tally-chain .ensures)) (c .before .before .put-line .ensures) in
-    (
+    let w = wrote-as (line-is _ _ (c .before .before .before .before .tally-chain .ensures)) (c .before .before .put-line .ensures) in (
       joined-step _ _ (l .loop .inv .0) w,
       omega (arith, w .end, chain-short (l .loop .genchain) (c .before .before .before .before .before .loop-test .taken)),
       omega arith,

@@ -42,12 +42,11 @@ loop-less : tie.Need-loop-less Inv-loop μ-loop
 loop-less c = omega arith
 
 loop-again : tie.Need-loop-again Inv-loop μ-loop
-loop-again c =
-    (
-      copy-more (c .before .before .before .before .args .numbers .now) (c .before .before .loop .place) (omega arith) (c .before .before .loop .inv .0),
-      omega arith,
-      simp length-set (omega arith),
-    )
+loop-again c = (
+  copy-more (c .before .before .before .before .args .numbers .now) (c .before .before .loop .place) (omega arith) (c .before .before .loop .inv .0),
+  omega arith,
+  simp length-set (omega arith),
+)
 
 same-length : tie.Need-same-length Inv-loop μ-loop
 same-length c = omega arith

@@ -34,8 +34,7 @@ loop-again : tie.Need-loop-again Inv-loop μ-loop
 loop-again c =
     let w = c .before .before .put-chain .ensures in
     let l = c .before .before .before .before .before in
-    let s = l .before .before in
-    (
+    let s = l .before .before in (
       joined-step _ _ (l .loop .inv .0) w,
       omega (arith, w .end, few-numbers (s .args .n) (s .args .choices) (l .loop .genchain)),
       omega arith,

@@ -8,7 +8,7 @@ use lib.ListN.{length, take, set, length-append, length-set, length-take}
 use lib.Seq.{take-all, take-append-le, take-suc-set}
 use lib.Dec.{ltb}
 use borrow.Author.Tests.{ltb-true, ltb-false, lt-ltb, le-ltb}
-use Rattle.key_table.specs.Reading.{longest, keptIn, Begins}
+use Rattle.line_input.specs.Reading.{longest, keptIn, Begins}
 
 by-test : (at : ℕ) {G : Type 0} (test : Bool) → ltb at longest ≡ test → (at < longest → G) → (longest ≤ at → G) → G
 by-test at true e below past = below (ltb-true at longest e)

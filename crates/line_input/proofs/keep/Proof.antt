@@ -1,9 +1,9 @@
 -- A byte of the first 18 is stored; a later one changes nothing.
 use mathlib.Core.Path.{sym}
-use Rattle.key_table.proofs.Keeping.{kept-below, kept-past}
+use Rattle.line_input.proofs.Keeping.{kept-below, kept-past}
 use borrow.Author.Needs.{needs}
-use Rattle.key_table.proofs.keep.Statement.{statement}
-use Rattle.key_table.proofs.keep.Tie as tie
+use Rattle.line_input.proofs.keep.Statement.{statement}
+use Rattle.line_input.proofs.keep.Tie as tie
 
 slice-write-line : tie.Need-slice-write-line
 slice-write-line c = search needs

@@ -7,10 +7,10 @@ use mathlib.Core.List.{List, [], _∷_, _++_}
 use lib.ListN.{length, getD, length-append}
 use lib.Seq.{getD-at}
 use Rattle.line.specs.Lines.{lineFeed}
-use Rattle.key_table.specs.Reading.{after, Handed, longest, keptIn, Begins, LineRead}
-use Rattle.key_table.specs.declared.Input.{Input}
-use Rattle.key_table.proofs.OneLine.{Open, open-more, open-whole, open-ended}
-use Rattle.key_table.proofs.Keeping.{keeps}
+use Rattle.line_input.specs.Reading.{after, Handed, longest, keptIn, Begins, LineRead}
+use Rattle.line_input.specs.declared.Input.{Input}
+use Rattle.line_input.proofs.OneLine.{Open, open-more, open-whole, open-ended}
+use Rattle.line_input.proofs.Keeping.{keeps}
 
 pub record Going (buffer : List ℕ) (input : Input) : Type 0 where
   pub line : List ℕ

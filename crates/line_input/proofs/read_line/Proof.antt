@@ -4,12 +4,12 @@ use mathlib.Core.Path.{_≡_, refl, sym, ap, _∙_, subst}
 use mathlib.Core.List.{List}
 use native.Mathlib.Omega.{arith}
 use lib.ListN.{length}
-use Rattle.key_table.specs.Reading.{longest, LineRead}
-use Rattle.key_table.proofs.Going.{Going, going-start, read-full, read-to-end, read-to-feed, going-on, further}
-use Rattle.key_table.proofs.Keeping.{length-kept}
+use Rattle.line_input.specs.Reading.{longest, LineRead}
+use Rattle.line_input.proofs.Going.{Going, going-start, read-full, read-to-end, read-to-feed, going-on, further}
+use Rattle.line_input.proofs.Keeping.{length-kept}
 use borrow.Author.Needs.{needs}
-use Rattle.key_table.proofs.read_line.Statement.{statement}
-use Rattle.key_table.proofs.read_line.Tie as tie
+use Rattle.line_input.proofs.read_line.Statement.{statement}
+use Rattle.line_input.proofs.read_line.Tie as tie
 
 abbrev Inv-loop : tie.InvT-loop
 Inv-loop line₀ input₀ line input = Going line input × (longest ≤ length line) × (length line ≡ length line₀)
