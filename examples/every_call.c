@@ -110,6 +110,85 @@ static void call_chains(void)
     IS(vn_start(256), -VN_CHAIN);
 }
 
+/* What a slice holds where nothing may be written. */
+static void fill(void)
+{
+    memset(numbers, 0x5A, sizeof numbers);
+    memset(text, 0x5A, sizeof text);
+}
+
+/* The elements of numbers from a place on are untouched. */
+static void untouched(int line, size_t from)
+{
+    static uint8_t filled[sizeof numbers];
+    memset(filled, 0x5A, sizeof filled);
+    holds(line, numbers + from, filled, sizeof numbers - from * sizeof numbers[0]);
+}
+
+/* 15 is asked before 10. 257 would be 1 in eight bits. */
+static void call_tritaves(void)
+{
+    fill();
+    IS(vn_tritaves(0, numbers, 2), -VN_DIVISION);
+    IS(vn_tritaves(401, numbers, 2), -VN_DIVISION);
+    IS(vn_tritaves(65535, numbers, 0), -VN_DIVISION);
+    IS(vn_tritaves(12, numbers, 0), -VN_ROOM);
+    IS(vn_tritaves(13, numbers, 1), -VN_ROOM);
+    untouched(__LINE__, 0);
+    IS(vn_tritaves(12, numbers, 64), 1);
+    NUMBERS(19);
+    untouched(__LINE__, 1);
+    IS(vn_tritaves(13, numbers, 2), 2);
+    NUMBERS(21, 20);
+    IS(vn_tritaves(16, numbers, 64), 2);
+    NUMBERS(25, 26);
+    untouched(__LINE__, 2);
+    IS(vn_tritaves(1, numbers, 2), 2);
+    NUMBERS(2, 1);
+    IS(vn_tritaves(400, numbers, 1), 1);
+    NUMBERS(634);
+    /* Nearest to half a step, and to a third of one on both sides. */
+    IS(vn_tritaves(153, numbers, 2), 2);
+    NUMBERS(242, 243);
+    IS(vn_tritaves(102, numbers, 2), 2);
+    NUMBERS(162, 161);
+    IS(vn_tritaves(204, numbers, 2), 1);
+    NUMBERS(323);
+    IS(vn_tritaves(257, numbers, 2), 2);
+    NUMBERS(407, 408);
+}
+
+static void call_divisions(void)
+{
+    fill();
+    IS(vn_find_by_edo(0, numbers, 18), -VN_DIVISION);
+    IS(vn_find_by_edo(401, numbers, 0), -VN_DIVISION);
+    IS(vn_find_by_edo(65535, numbers, 18), -VN_DIVISION);
+    IS(vn_find_by_edo(12, numbers, 5), -VN_ROOM);
+    IS(vn_find_by_edo(12, numbers, 0), -VN_ROOM);
+    IS(vn_find_by_edo(4, numbers, 0), 0);
+    IS(vn_find_by_edo(4, numbers, 18), 0);
+    untouched(__LINE__, 0);
+    IS(vn_find_by_edo(12, numbers, 64), 6);
+    NUMBERS(1, 19, 0, 2, 19, 0);
+    untouched(__LINE__, 6);
+    IS(vn_find_by_edo(7, numbers, 9), 9);
+    NUMBERS(1, 11, 0, 2, 11, 0, 4, 11, 0);
+    IS(vn_find_by_edo(13, numbers, 12), 12);
+    NUMBERS(0, 20, 1, 1, 20, 1, 2, 21, 0, 4, 21, 0);
+    IS(vn_find_by_edo(16, numbers, 12), 12);
+    NUMBERS(0, 25, 0, 1, 25, 0, 2, 25, 0, 3, 26, 1);
+    IS(vn_find_by_edo(400, numbers, 6), 6);
+    NUMBERS(1, 634, 0, 2, 634, 0);
+
+    fill();
+    IS(vn_edo_report(text, 56), -VN_ROOM);
+    IS(vn_edo_report(text, 0), -VN_ROOM);
+    holds(__LINE__, text, "ZZZZ", 4);
+    IS(vn_edo_report(text, sizeof text), 57);
+    TEXT("0 5 2 2\n1 377 8 5\n2 3 386 6\n3 166 0 2\n4 124 0 7\n5 84 0 0\nZ");
+}
+
 static void call_layouts(void)
 {
     IS(vn_layout(1, 12, 19, 3, numbers, 8), 8);
@@ -470,6 +549,8 @@ int main(void)
     call_pergens();
     call_patterns();
     call_chains();
+    call_tritaves();
+    call_divisions();
     call_layouts();
     call_reach();
     call_orders();

@@ -23,6 +23,25 @@ static int refused(const char *what, int64_t answer)
     return answer < 0;
 }
 
+/* Shows the layouts of an octave of so many steps: a school types this number alone. */
+static void show_division(uint16_t steps)
+{
+    uint16_t found[6 * 3]; /* chain, tritave, 1 for the second choice, of at most six layouts */
+    uint8_t chain[12], scale[12];
+    int64_t count = vn_find_by_edo(steps, found, 6 * 3), i;
+
+    if (refused("layouts", count))
+        return;
+    for (i = 0; i < count; i += 3) {
+        int chain_len = (int)vn_chain_name(found[i], chain, sizeof chain);
+        uint16_t start = (uint16_t)vn_start(found[i]);
+        int scale_len = (int)vn_scale_name(found[i], steps, found[i + 1], start, scale, sizeof scale);
+
+        printf("%d steps, %d to the tritave%s: %.*s, %.*s\n", steps, found[i + 1], found[i + 2] ? ", second choice" : "",
+               chain_len, (const char *)chain, scale_len, (const char *)scale);
+    }
+}
+
 /* Keeps how many codes were written to the strip, unless it was refused. */
 static int keep_count(int64_t count)
 {
@@ -138,6 +157,10 @@ int main(void)
 {
     uint16_t layout[8]; /* generator, cycles, reduced period, inverse, counts, steps */
     int64_t length;
+
+    show_division(OCTAVE); /* Meantone[7] and Meantone[5]; the first is taken below */
+    show_division(16);
+    show_division(401);
 
     if (refused("layout", vn_layout(CHAIN, OCTAVE, TRITAVE, START, layout, 8)))
         return 1;

@@ -42,6 +42,10 @@ static uint32_t found[2];
     CALL(vn_chain_letters(0, numbers, 9)) \
     CALL(vn_chain_name(3, text, 12)) \
     CALL(vn_start(5)) \
+    CALL(vn_tritaves(400, numbers, 2)) \
+    CALL(vn_find_by_edo(13, numbers, 18)) \
+    CALL(vn_find_by_edo(400, numbers, 18)) \
+    CALL(vn_edo_report(text, sizeof text)) \
     CALL(vn_layout(2, 65534, 65535, 4, numbers, 8)) \
     CALL(vn_scale_name(1, 2400, 3800, 6, text, 12)) \
     CALL(vn_note_name_len(2, 65534, 65535, 4, -32767)) \

@@ -29,6 +29,7 @@
  *   VN_BOOK_COVER   12  Do the pairs cover the text?
  *   VN_BOOK_KEY     13  Is the key at least 0 and below the book's count?
  *   VN_LINE         14  Is the key table's line well formed? (The table prints this number; no call returns it.)
+ *   VN_DIVISION     15  Is the number of steps that the octave is divided into 1 to 400?
  *   VN_LETTER       16  Is the letter's place below the chain's number of letters?
  *   VN_CODE         17  Does every code of the strip have a partner among the other width's codes?
  *   VN_START        18  Is the layout's start below the chain's number of letters?
@@ -74,6 +75,7 @@ extern "C" {
 #define VN_BOOK_COVER 12
 #define VN_BOOK_KEY 13
 #define VN_LINE 14
+#define VN_DIVISION 15
 #define VN_LETTER 16
 #define VN_CODE 17
 #define VN_START 18
@@ -87,6 +89,7 @@ extern "C" {
 
 /* The version of this header. The first number changes where a call, a number above or an answer is changed or taken away,
  * the second where some are added, the third where neither is so.
+ *   7.3.0: vn_tritaves, vn_find_by_edo and vn_edo_report are added, of which the first two ask 15, VN_DIVISION.
  *   7.2.0: vn_to_chain_order, vn_to_key_order, vn_moves and vn_walk_moves are added.
  *   7.1.0: vn_nearest_natural and vn_keys_in_reach are added.
  *   7.0.0: a lamp code is a uint16_t; it was a uint8_t. Home, natural, sharp 0 and flat 99 keep 0, 1, 2 and 201, and all other
@@ -103,7 +106,7 @@ extern "C" {
  *   2.0.0: vn_sounded_key takes signs as one number, and asks 16 and 21.
  *   1.0.0, before these numbers stood here: it took sharps and flats as two numbers, and asked 15, VN_SPELLING. */
 #define VN_VERSION_MAJOR 7
-#define VN_VERSION_MINOR 2
+#define VN_VERSION_MINOR 3
 #define VN_VERSION_PATCH 0
 
 /* The library was built for a size_t of 64 bits; with any other this line does not compile. */
@@ -187,6 +190,24 @@ int64_t vn_chain_name(uint16_t chain, uint8_t *out, size_t len);
 
 /* The chain's own start: the index of key 0's letter among its letters. Asks 1. */
 int64_t vn_start(uint16_t chain);
+
+/* ---- layouts from the number of steps alone: an octave of n equal steps, n from 1 to 400. */
+
+/* Writes 1 or 2 numbers: the tritave of n steps, which is the whole number nearest to the ratio 3 in steps; and, where it is more
+ * than a third of a step away from it, the second choice, which is the whole number on the other side. Both are exact: 12 has
+ * 19, and 13 has 21 and 20. Asks 15, 10. */
+int64_t vn_tritaves(uint16_t n, uint16_t *out, size_t len);
+
+/* Writes the layouts of n steps, at most one for each chain, by the chain's code, rising; 3 numbers a layout: the chain, the
+ * tritave, and 1 where that is the second choice, else 0. A chain has the layout of the tritave, or, where there is none, that of
+ * the second choice. There are at most 18 numbers, and none for n below 5. Each layout is asked about by its chain, n, its
+ * tritave and a start, such as vn_start gives. Asks 15, 10. */
+int64_t vn_find_by_edo(uint16_t n, uint16_t *out, size_t len);
+
+/* Writes a report over all n from 1 to 400 in ASCII, without a 0 at the end: a line for each chain, rising, of the chain's code and
+ * of how many of its layouts, as vn_find_by_edo lists them, have sharpness above 0, below 0 and at 0, with one space between
+ * and a line feed at the end of each line. It has 57 bytes. Asks 10. */
+int64_t vn_edo_report(uint8_t *out, size_t len);
 
 /* ---- layouts: a chain code from 0 to 5, the step counts of octave and tritave, and a start. Each call asks 1, 2, 3, 4, 18
  * first, in that order. */

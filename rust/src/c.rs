@@ -40,6 +40,10 @@ unsafe extern "C" {
     pub fn vn_chain_name(chain: u16, out: *mut u8, len: usize) -> i64;
     pub fn vn_start(chain: u16) -> i64;
 
+    pub fn vn_tritaves(n: u16, out: *mut u16, len: usize) -> i64;
+    pub fn vn_find_by_edo(n: u16, out: *mut u16, len: usize) -> i64;
+    pub fn vn_edo_report(out: *mut u8, len: usize) -> i64;
+
     pub fn vn_layout(
         chain: u16,
         octave: u16,

@@ -228,6 +228,49 @@ filling! {
     layer_kind = vn_layer_kind(total: u16, number: u16; u16);
 }
 
+// Of an octave of n equal steps, n from 1 to 400.
+filling! {
+    /// The tritave of n steps, and the second choice where there is one (15, 10).
+    ///
+    /// ```
+    /// use vetchnoon::{Refused, tritaves};
+    ///
+    /// let mut numbers = [0; 2];
+    /// assert_eq!(tritaves(12, &mut numbers), Ok(1));
+    /// assert_eq!(numbers[0], 19);
+    /// assert_eq!(tritaves(13, &mut numbers), Ok(2));
+    /// assert_eq!(numbers, [21, 20]);
+    ///
+    /// assert_eq!(tritaves(401, &mut numbers), Err(Refused(15)));
+    /// ```
+    tritaves = vn_tritaves(n: u16; u16);
+    /// The layouts of n steps, by their chains, rising: of each the chain, the tritave, and 1 where
+    /// that is the second choice, else 0 (15, 10). There are at most 18 numbers.
+    ///
+    /// ```
+    /// use vetchnoon::{Layout, find_by_edo, scale_name};
+    ///
+    /// let mut numbers = [0; 18];
+    /// let count = find_by_edo(16, &mut numbers).unwrap();
+    /// assert_eq!(numbers[..count], [0, 25, 0, 1, 25, 0, 2, 25, 0, 3, 26, 1]);
+    ///
+    /// // Porcupine[8] has no layout with 16 and 25, and has one with the second choice.
+    /// let mut name = [0; 12];
+    /// let bytes = scale_name(Layout::new(3, 16, 26), &mut name).unwrap();
+    /// assert_eq!(&name[..bytes], b"equalized");
+    /// ```
+    find_by_edo = vn_find_by_edo(n: u16; u16);
+    /// The report over all n, in 57 bytes: a line for each chain, rising, of its code and of how
+    /// many of its layouts have sharpness above 0, below 0 and at 0 (10).
+    ///
+    /// ```
+    /// let mut text = [0; 57];
+    /// assert_eq!(vetchnoon::edo_report(&mut text), Ok(57));
+    /// assert!(text.starts_with(b"0 5 2 2\n1 377 8 5\n"));
+    /// ```
+    edo_report = vn_edo_report(; u8);
+}
+
 filling_from_layout! {
     /// Generator, cycles, reduced period, inverse, and the pattern (1, 2, 3, 4, 18, 10).
     layout = vn_layout(; u16);

@@ -7,6 +7,7 @@
 // The files `stdin` and `stdout` beside src/ hold a list of questions and the answers that were given by others: by the Rust
 // original, and where it has none, by a reading of document 01. docs/DIFFERENCES.md says how they were made.
 mod books;
+mod edo;
 mod layouts;
 mod moves;
 mod names;
@@ -148,7 +149,7 @@ fn answered_other(kind: usize, line: &[u8], end: usize, room: u16) -> bool {
     if kind <= names::WALK_MOVES {
         return moves::answer(kind, line, end, room);
     }
-    false
+    edo::answer(line, end, room)
 }
 
 fn answer_line(line: &[u8]) {

@@ -192,7 +192,7 @@ pub(crate) fn kind_of(line: &[u8], end: usize) -> usize {
 }
 
 // The place among names, each with a space behind it, of the one that a line has up to `end`.
-fn place_in(names: &[u8], line: &[u8], end: usize) -> usize {
+pub(crate) fn place_in(names: &[u8], line: &[u8], end: usize) -> usize {
     let mut place: usize = 0;
     let mut read: usize = 0;
     let mut like = true;

@@ -5,6 +5,8 @@
 //! row says so, the original has its layout made beforehand; ours makes it in
 //! every call, since a call takes the four numbers.
 
+mod edo;
+
 use std::borrow::Borrow;
 use std::cell::RefCell;
 use std::fmt::Write;
@@ -59,6 +61,7 @@ pub fn of_the_original() -> Vec<Row> {
     let with_table = [SMALL, MIDDLE, LARGEST_OLD_STRIP, LARGE];
     let with_strip = [SMALL, MIDDLE, LARGEST_OLD_STRIP, LARGE, LARGEST];
     let mut rows = making();
+    rows.extend(edo::rows());
     rows.extend(SIZES.map(|n| names("one name", n, first_octave(), made_anew(n))));
     rows.extend(SIZES.map(|n| {
         let what = "one name; the original's layout is made beforehand";

@@ -2,6 +2,7 @@
 
 mod books;
 mod chains;
+mod edo;
 mod known;
 mod layouts;
 mod moves;
@@ -62,6 +63,7 @@ pub fn tasks(mode: Mode, seed: u64) -> Vec<Task> {
     tables::plan(&mut tasks, mode, seed);
     strips::plan(&mut tasks, mode, seed);
     chains::plan(&mut tasks, mode, seed);
+    edo::plan(&mut tasks);
     tasks
 }
 

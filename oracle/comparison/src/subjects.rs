@@ -3,6 +3,7 @@
 
 pub mod books;
 pub mod chains;
+pub mod edo;
 pub mod keys;
 pub mod layouts;
 pub mod moves;

@@ -195,6 +195,22 @@ impl Tally {
         self.compare_lent(question, reading, Original::Silent, None, library);
     }
 
+    /// Compares a call of no class with a slice of one length: question 10 comes last.
+    pub fn compare_filling_of_length<T: Element>(
+        &mut self,
+        question: Question,
+        length: usize,
+        reading: &Outcome<Vec<T>>,
+        call: impl Fn(&mut [T]) -> Result<usize, Refused>,
+    ) {
+        let reading = match reading {
+            Ok(output) if output.len() > length => Err(lending::SLICE_HOLDS_OUTPUT),
+            reading => reading.clone(),
+        };
+        let library = lending::lent_once(length, call);
+        self.compare_lent(question, reading, Original::Silent, None, library);
+    }
+
     fn compare_lent<T: Element>(
         &mut self,
         question: Question,

@@ -10,6 +10,7 @@
 pub mod books;
 pub mod chains;
 pub mod codes;
+pub mod edo;
 pub mod former;
 pub mod layers;
 pub mod layouts;
@@ -19,6 +20,7 @@ pub mod numbers;
 pub mod orders;
 pub mod patterns;
 pub mod pergens;
+pub mod powers;
 pub mod reach;
 pub mod tables;
 

@@ -32,6 +32,7 @@ use tune::pergen::AccidentalsFormat;
 use tune::pergen::Mos;
 use tune::pergen::PerGen;
 
+use crate::edo;
 use crate::questions::FreePergen;
 use crate::questions::Layout;
 use crate::questions::OfLayout;
@@ -53,7 +54,7 @@ impl From<u8> for Absent {
     }
 }
 
-type Text = Result<String, Absent>;
+pub type Text = Result<String, Absent>;
 
 /// The room of a question that names none.
 const USUAL_ROOM: u16 = 65_535;
@@ -66,8 +67,8 @@ pub fn answer(question: &Question) -> Option<String> {
     };
     match text_in_room(question, room.into()) {
         Ok(mut text) => {
-            // A table ends its own lines.
-            if !matches!(question, Question::Table(_)) {
+            // A table and a report end their own lines.
+            if !matches!(question, Question::Table(_) | Question::EdoReport) {
                 text.push('\n');
             }
             Some(text)
@@ -98,6 +99,8 @@ fn text_in_room(question: &Question, room: usize) -> Text {
 fn elements(question: &Question, text: &str) -> usize {
     match question {
         Question::Chain(_) | Question::Name(..) | Question::Table(_) => text.len(),
+        Question::EdoReport => text.len(),
+        Question::FindByEdo(_) if text != "-" => text.split(' ').count(),
         Question::OfPattern(..) | Question::OfLayout(..) | Question::Book(_) if text != "-" => {
             text.split(' ').count()
         }
@@ -166,6 +169,10 @@ fn text(question: &Question) -> Text {
             chains::chain(*code)?;
             Ok(original_chain(*code).to_string())
         }
+        Question::Tritaves(n) => edo::tritaves(*n),
+        Question::FindByEdo(n) => edo::layouts(*n),
+        Question::FindChainByEdo(n, code) => edo::layout_of_chain(*n, *code),
+        Question::EdoReport => given(judge::edo::report()),
         Question::OfLayout(asked, layout) => of_layout(*asked, &created_layout(*layout)?),
         Question::Spelling(layout, key) => {
             let key = asked_at(*key, layout.octave);
@@ -232,7 +239,7 @@ fn text(question: &Question) -> Text {
 }
 
 /// What the original answers to a question that the document does not refuse.
-fn given<T>(answer: Answer<T>) -> Result<T, Absent> {
+pub fn given<T>(answer: Answer<T>) -> Result<T, Absent> {
     match answer {
         Ok(value) => Ok(value),
         Err(panicked) if panicked.is_overflow() => Err(Absent::Overflow),
@@ -433,7 +440,7 @@ fn layer_text(layer: Layer) -> String {
 }
 
 /// Numbers, or `-` where there is none.
-fn list_text<T: Display>(numbers: Vec<T>) -> String {
+pub fn list_text<T: Display>(numbers: Vec<T>) -> String {
     match numbers.is_empty() {
         true => "-".to_owned(),
         false => words(numbers),

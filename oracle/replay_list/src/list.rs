@@ -13,6 +13,7 @@ use judge::patterns::Pattern;
 use crate::answers::created_layout;
 use crate::books;
 use crate::conversions;
+use crate::edo;
 use crate::keys;
 use crate::moves;
 use crate::orders;
@@ -46,6 +47,7 @@ pub fn all() -> Vec<Question> {
     questions.extend(of_layouts(&mut random));
     questions.extend(tables(&mut random));
     questions.extend(books::all(&mut random));
+    questions.extend(edo::all());
     questions.extend(unreadable());
     questions.extend(keys::all());
     questions.extend(starts::all());

@@ -5,6 +5,7 @@
 mod answers;
 mod books;
 mod conversions;
+mod edo;
 mod keys;
 mod list;
 mod moves;

@@ -147,6 +147,11 @@ pub enum Question {
     OfPattern(OfPattern, Pattern),
     GetKey(Pattern, i16, i16),
     Chain(u16),
+    /// Of an octave of so many steps, and of one chain there, by its code.
+    Tritaves(u16),
+    FindByEdo(u16),
+    FindChainByEdo(u16, u16),
+    EdoReport,
     OfLayout(OfLayout, Layout),
     Spelling(Layout, i32),
     Name(Layout, i32),
@@ -226,6 +231,10 @@ impl Display for Question {
                 write!(f, "get_key {} {primary} {secondary}", words(*pattern))
             }
             Self::Chain(code) => write!(f, "chain {code}"),
+            Self::Tritaves(n) => write!(f, "tritaves {n}"),
+            Self::FindByEdo(n) => write!(f, "find_by_edo {n}"),
+            Self::FindChainByEdo(n, code) => write!(f, "find_chain_by_edo {n} {code}"),
+            Self::EdoReport => f.write_str("edo_report"),
             Self::OfLayout(asked, layout) => {
                 write!(f, "{}{} {layout}", asked.name(), layout.suffix())
             }
