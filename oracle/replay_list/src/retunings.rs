@@ -21,9 +21,9 @@ const ACCEPTED: [[u16; 5]; 9] = [
     [2, 31, 0, 50, 49],
     [1, 24, 3, 38, 34],
     [1, 24, 6, 38, 37],
-    [0, 16, 4, 25, 26],
-    [3, 15, 2, 24, 21],
-    [4, 34, 1, 54, 58],
+    [0, 16, 4, 25, 23],
+    [3, 15, 2, 24, 27],
+    [4, 34, 1, 54, 50],
     [5, 19, 3, 30, 36],
     [1, 311, 5, 493, 492],
 ];
@@ -121,7 +121,7 @@ pub fn moved(retuning: Retuning, letter: u16, signs: i32, stars: u16) -> Text {
 }
 
 pub fn table(retuning: Retuning) -> Text {
-    Ok(list_text(&retuning.read()?.table()))
+    Ok(list_text(retuning.read()?.table()))
 }
 
 pub fn largest(retuning: Retuning) -> Text {
