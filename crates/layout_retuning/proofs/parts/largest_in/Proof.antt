@@ -1,51 +1,44 @@
+-- The largest of the table's front, which grows by an entry with each turn.
+use Prim.Native.Nat.{_-_, _≤_}
+use mathlib.Core.Path.{_≡_}
+use native.Mathlib.Omega.{arith}
+use borrow.Author.Needs.{needs}
+use Rattle.layout_retuning.specs.Retunings.{largest}
+use Rattle.layout_retuning.specs.Parts.{tableBy}
+use Rattle.layout_retuning.proofs.Largest.{largest-start, largest-step, largest-end}
 use Rattle.layout_retuning.proofs.parts.largest_in.Statement.{statement}
 use Rattle.layout_retuning.proofs.parts.largest_in.Tie as tie
-use Rattle.layout_retuning.proofs.parts.largest_in.Reads as reads
-use Rattle.layout_retuning.proofs.parts.largest_in.Lts as lts
-use Rattle.layout_retuning.proofs.parts.entries.Reads as entries-reads
-use Rattle.layout_retuning.proofs.parts.larger.Reads as larger-reads
-use Rattle.layout_retuning.proofs.parts.spelling_at.Reads as spelling-at-reads
-use Rattle.layout_retuning.proofs.parts.steps.Reads as steps-reads
 
 abbrev Inv-loop : tie.InvT-loop
-Inv-loop tunings count most₀ entry₀ most entry = ?
+Inv-loop tunings count most₀ entry₀ most entry = (most ≡ largest (tableBy tunings entry)) × (entry ≤ count)
 
 abbrev μ-loop : tie.MeasureT-loop
-μ-loop tunings count most₀ entry₀ most entry = ?
+μ-loop tunings count most₀ entry₀ most entry = count - entry
 
--- src/parts.rt:190:9
 entries-requires : tie.Need-entries-requires Inv-loop μ-loop
-entries-requires c κs = ?
+entries-requires c κs = search needs
 
--- src/parts.rt:193:5
 loop-holds : tie.Need-loop-holds Inv-loop μ-loop
-loop-holds c = ?
+loop-holds c = (largest-start _, omega arith)
 
--- src/parts.rt:194:44
 spelling-at-requires : tie.Need-spelling-at-requires Inv-loop μ-loop
-spelling-at-requires c κs = ?
+spelling-at-requires c κs = search needs
 
--- src/parts.rt:194:29
 steps-requires : tie.Need-steps-requires Inv-loop μ-loop
 steps-requires c κs = ?
 
--- src/parts.rt:194:9
 larger-requires : tie.Need-larger-requires Inv-loop μ-loop
-larger-requires c κs = ?
+larger-requires c κs = search needs
 
--- src/parts.rt:195:9
 add-entry : tie.Need-add-entry Inv-loop μ-loop
-add-entry c = ?
+add-entry c = omega arith
 
--- src/parts.rt:193:5
 loop-less : tie.Need-loop-less Inv-loop μ-loop
-loop-less c = ?
+loop-less c = omega arith
 
--- src/parts.rt:193:5
 loop-again : tie.Need-loop-again Inv-loop μ-loop
 loop-again c = ?
 
--- src/parts.rt:186:1
 returns : tie.Need-returns Inv-loop μ-loop
 returns c = ?
 

@@ -1,38 +1,31 @@
+-- Question 16, question 21 of both tunings, then the distance.
+use Rattle.layout_retuning.proofs.Calls.{no-letter, many-stars-first, many-stars-second, move-given}
 use borrow.Author.Needs.{needs}
 use Rattle.layout_retuning.proofs.parts.moved_in.Statement.{statement}
 use Rattle.layout_retuning.proofs.parts.moved_in.Tie as tie
-use Rattle.layout_retuning.proofs.parts.moved_in.Reads as reads
-use Rattle.layout_retuning.proofs.parts.moved_in.Lts as lts
-use Rattle.layout_retuning.proofs.parts.steps.Reads as steps-reads
-use Rattle.math.proofs.gcd_u16.Reads as gcd-u16-reads
 
--- src/parts.rt:112:9
 returns : tie.Need-returns
-returns c = ?
+returns c = no-letter _ _ (c .if1 .taken)
 
--- src/parts.rt:114:8
 gcd-u16-requires : tie.Need-gcd-u16-requires
 gcd-u16-requires c κs = search needs
 
--- src/parts.rt:115:9
 returns-2 : tie.Need-returns-2
-returns-2 c = ?
+returns-2 c = many-stars-first _ _ (c .before .before .before .before .before .pre) (c .before .before .if1 .left) _ (c .before .gcd-u16 .ensures) (c .if2 .taken)
 
--- src/parts.rt:117:8
 gcd-u16-requires-2 : tie.Need-gcd-u16-requires-2
 gcd-u16-requires-2 c κs = search needs
 
--- src/parts.rt:118:9
 returns-3 : tie.Need-returns-3
-returns-3 c = ?
+returns-3 c =
+    many-stars-second _ _ (c .before .before .before .before .before .before .before .pre) (c .before .before .before .before .if1 .left) _ (c .before .gcd-u162 .ensures) (c .if3 .taken)
 
--- src/parts.rt:120:25
 steps-requires : tie.Need-steps-requires
 steps-requires c κs = search needs
 
--- src/parts.rt:106:1
 returns-4 : tie.Need-returns-4
-returns-4 c = ?
+returns-4 c =
+    move-given _ _ (c .before .before .before .before .before .before .before .before .pre) (c .before .before .before .before .before .if1 .left) _ _ (c .before .before .before .before .gcd-u16 .ensures) (c .before .before .gcd-u162 .ensures) (c .before .before .before .if2 .left) (c .before .if3 .left) _ (c .steps .ensures)
 
 pub moved-in-spec : {M : Type 1} → statement M
 moved-in-spec =

@@ -1,59 +1,56 @@
+-- What is stored is the table's front, which grows by an entry with each turn.
+use Prim.Native.Nat.{_-_, _≤_}
+use mathlib.Core.Path.{_≡_, refl}
+use lib.ListN.{length, length-set}
+use native.Mathlib.Nat.{le-antisymm}
+use native.Mathlib.Omega.{arith}
+use borrow.Author.Needs.{needs}
+use Rattle.text.specs.Writing.{Wrote}
+use Rattle.layout_retuning.specs.Parts.{tableBy}
+use Rattle.layout_retuning.proofs.Tables.{table-start, table-step}
 use Rattle.layout_retuning.proofs.parts.put_moves.Statement.{statement}
 use Rattle.layout_retuning.proofs.parts.put_moves.Tie as tie
-use Rattle.layout_retuning.proofs.parts.put_moves.Reads as reads
-use Rattle.layout_retuning.proofs.parts.put_moves.Lts as lts
-use Rattle.layout_retuning.proofs.parts.spelling_at.Reads as spelling-at-reads
-use Rattle.layout_retuning.proofs.parts.steps.Reads as steps-reads
 
 abbrev Inv-loop : tie.InvT-loop
-Inv-loop out₀ tunings count entry₀ out entry = ?
+Inv-loop out₀ tunings count entry₀ out entry =
+    Wrote out₀ 0 (tableBy tunings entry) out entry × (entry ≤ count) × (length out ≡ length out₀)
 
 abbrev μ-loop : tie.MeasureT-loop
-μ-loop out₀ tunings count entry₀ out entry = ?
+μ-loop out₀ tunings count entry₀ out entry = count - entry
 
--- src/parts.rt:157:5
 loop-holds : tie.Need-loop-holds Inv-loop μ-loop
-loop-holds c = ?
+loop-holds c = (table-start _ _, omega arith, refl)
 
--- src/parts.rt:158:46
 spelling-at-requires : tie.Need-spelling-at-requires Inv-loop μ-loop
-spelling-at-requires c κs = ?
+spelling-at-requires c κs = search needs
 
--- src/parts.rt:158:31
 steps-requires : tie.Need-steps-requires Inv-loop μ-loop
-steps-requires c κs = ?
+steps-requires c κs = c .before .before .before .before .pre .0
 
--- src/parts.rt:158:13
 cast-out : tie.Need-cast-out Inv-loop μ-loop
-cast-out c = ?
+cast-out c = omega arith
 
--- src/parts.rt:158:9
 mul-out : tie.Need-mul-out Inv-loop μ-loop
-mul-out c = ?
+mul-out c = omega arith
 
--- src/parts.rt:158:9
 slice-write-out : tie.Need-slice-write-out Inv-loop μ-loop
-slice-write-out c = ?
+slice-write-out c = omega (arith, c .before .before .before .before .before .pre .1)
 
--- src/parts.rt:159:9
 add-entry : tie.Need-add-entry Inv-loop μ-loop
-add-entry c = ?
+add-entry c = omega arith
 
--- src/parts.rt:157:5
 loop-less : tie.Need-loop-less Inv-loop μ-loop
-loop-less c = ?
+loop-less c = omega arith
 
--- src/parts.rt:157:5
 loop-again : tie.Need-loop-again Inv-loop μ-loop
-loop-again c = ?
+loop-again c =
+    (table-step _ _ _ _ (c .before .spelling-at .ensures) (c .steps .ensures) (c .before .before .before .loop .inv .0), omega arith, simp length-set (omega arith))
 
--- src/parts.rt:152:1
 same-length : tie.Need-same-length Inv-loop μ-loop
-same-length c = ?
+same-length c = omega arith
 
--- src/parts.rt:152:1
 returns : tie.Need-returns Inv-loop μ-loop
-returns c = ?
+returns c = rw (le-antisymm (c .loop-test .left) (c .before .loop .inv .1)) (c .before .loop .inv .0)
 
 pub put-moves-spec : {M : Type 1} → statement M
 put-moves-spec =
