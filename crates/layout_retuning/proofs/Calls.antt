@@ -12,7 +12,8 @@ use Rattle.answer.proofs.Questions.{ask-above, ask-below}
 use Rattle.math.specs.Gcd.{GcdOf}
 use Rattle.math.proofs.Division.{remainder-below}
 use Rattle.pergen.specs.Pergen.{cycles}
-use Rattle.pergen.specs.Spelling.{sounds, soundedKey}
+use Rattle.pergen.specs.Spelling.{signsOf, sounds, soundedKey}
+use Rattle.pergen.specs.declared.Signs.{Signs}
 use Rattle.pergen.specs.declared.Spelling.{Spelling}
 use Rattle.pergen.proofs.Calls.{cycles-found}
 use Rattle.pergen_sounding.specs.Parts.{SidesOf}
@@ -22,7 +23,7 @@ use Rattle.layout.specs.Names.{IsSpelling, keyOf}
 use Rattle.layout.specs.Answers.{getSoundedKey}
 use Rattle.layout.proofs.SoundedKeys.{spellings-have-a-key}
 use Rattle.layout_reach.specs.Reach.{distance}
-use Rattle.layout_retuning.specs.Retunings.{firstOf, secondOf, moved}
+use Rattle.layout_retuning.specs.Retunings.{firstOf, secondOf, moved, spelt}
 use Rattle.layout_retuning.specs.Answers.{movedIn, getMoved}
 use Rattle.layout_retuning.specs.Parts.{tuningsOf, getTunings, Tuned, stepsBy, movedBy}
 use Rattle.layout_retuning.specs.Theorems.{MovesAreDistances}
@@ -111,8 +112,15 @@ module _ (t : Retuning) (x : Spelling) where
   pub moved-refused : (n : ℕ) → refused n ≡ getTunings t → refused n ≡ getMoved t x
   moved-refused n e = ap (λ (o : Outcome Tunings). andThen o (λ (k : Tunings). movedBy k x)) e ∙ moved-from
 
-  pub moved-given : (k : Tunings) → given k ≡ getTunings t → (o : Outcome ℕ) → o ≡ movedBy k x → o ≡ getMoved t x
+  moved-given : (k : Tunings) → given k ≡ getTunings t → (o : Outcome ℕ) → o ≡ movedBy k x → o ≡ getMoved t x
   moved-given k e o q = q ∙ ap (λ (p : Outcome Tunings). andThen p (λ (j : Tunings). movedBy j x)) e ∙ moved-from
+
+-- .. of a spelling whose signs came as one signed number z, read as y
+pub moved-with-signs : (t : Retuning) (letter stars : ℕ) (z y : ℤ) (s : Signs) → y ≡ z → s ≡ signsOf y → (k : Tunings) → given k ≡ getTunings t
+    → (o : Outcome ℕ) → o ≡ movedBy k (record { index = letter; signs = s; stars = stars }) → o ≡ getMoved t (spelt letter z stars)
+moved-with-signs t letter stars z y s read is k e o q =
+    moved-given t (spelt letter z stars) k e o
+    (q ∙ ap (λ (g : Signs). movedBy k (record { index = letter; signs = g; stars = stars })) (is ∙ ap signsOf read))
 
 -- ---- what an answer tells of the two keys
 

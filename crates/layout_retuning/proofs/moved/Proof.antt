@@ -1,39 +1,39 @@
+-- The questions of both layouts, then those of the spelling with these signs.
+use mathlib.Core.Path.{sym, ap, _∙_}
+use mir.Syntax.{w32}
+use Rattle.math.proofs.Signed.{read-back}
+use Rattle.layout_retuning.specs.Parts.{tuningsOutcome}
+use Rattle.layout_retuning.proofs.BothLayouts.{tuned}
+use Rattle.layout_retuning.proofs.Calls.{moved-refused, moved-with-signs}
 use borrow.Author.Needs.{needs}
 use Rattle.layout_retuning.proofs.moved.Statement.{statement}
 use Rattle.layout_retuning.proofs.moved.Tie as tie
-use Rattle.layout_retuning.proofs.moved.Reads as reads
-use Rattle.layout_retuning.proofs.moved.Lts as lts
-use Rattle.layout_retuning.proofs.parts.ask.Reads as ask-reads
-use Rattle.layout_retuning.proofs.parts.moved_in.Reads as moved-in-reads
-use Rattle.pergen.proofs.Signs.from_number.Reads as from-number-reads
 
--- src/lib.rt:38:11
 ask-requires : tie.Need-ask-requires
 ask-requires c κs = search needs
 
--- src/lib.rt:39:32
 enum-known-q : tie.Need-enum-known-q
 enum-known-q c = search needs
 
--- src/lib.rt:40:30
 enum-known-tunings : tie.Need-enum-known-tunings
 enum-known-tunings c = search needs
 
--- src/lib.rt:43:24
 from-number-requires : tie.Need-from-number-requires
 from-number-requires c κs = search needs
 
--- src/lib.rt:46:13
 moved-in-requires : tie.Need-moved-in-requires
-moved-in-requires c κs = ?
+moved-in-requires c κs =
+    tuned _ _ (sym (ap tuningsOutcome (c .before .before .tunings .given .1)) ∙ c .before .before .before .before .ask .ensures)
 
--- src/lib.rt:35:1
 returns : tie.Need-returns
-returns c = ?
+returns c = moved-refused _ _ _ (sym (ap tuningsOutcome (c .before .q .given .1)) ∙ c .before .before .before .ask .ensures)
 
--- src/lib.rt:35:1
 returns-2 : tie.Need-returns-2
-returns-2 c = ?
+returns-2 c =
+    let asked = c .before .before .before .before .before in
+    let start = asked .before in
+    moved-with-signs _ _ _ (start .args .signs) _ _ (read-back w32 (start .args .signs) (start .fits .signs)) (c .before .from-number .ensures)
+    _ (sym (ap tuningsOutcome (c .before .before .before .tunings .given .1)) ∙ asked .ask .ensures) _ (c .moved-in .ensures)
 
 pub moved-spec : {M : Type 1} → statement M
 moved-spec =

@@ -37,10 +37,20 @@ returns c =
     refused-first _ _ (sym (ap foundOutcome (c .before .q .given .1)) ∙ asked .ask .ensures ∙ ap layoutOutcome (asked .before .layout-at .ensures))
 
 returns-2 : tie.Need-returns-2
-returns-2 c = ?
+returns-2 c =
+    let asked = c .before .before .before .before .before .before .before .before in
+    let again = c .before .before .before in
+    refused-second _ _
+    (sym (ap foundOutcome (c .before .before .before .before .before .before .one .given .1)) ∙ asked .ask .ensures ∙ ap layoutOutcome (asked .before .layout-at .ensures))
+    _ (sym (ap foundOutcome (c .before .q2 .given .1)) ∙ again .ask2 .ensures ∙ ap layoutOutcome (again .before .layout-at2 .ensures))
 
 returns-3 : tie.Need-returns-3
-returns-3 c = ?
+returns-3 c =
+    let asked = c .before .before .before .before .before .before .before .before in
+    let again = c .before .before .before in
+    both-found _ _
+    (sym (ap foundOutcome (c .before .before .before .before .before .before .one .given .1)) ∙ asked .ask .ensures ∙ ap layoutOutcome (asked .before .layout-at .ensures))
+    _ (sym (ap foundOutcome (c .before .other .given .1)) ∙ again .ask2 .ensures ∙ ap layoutOutcome (again .before .layout-at2 .ensures))
 
 pub ask-spec : {M : Type 1} → statement M
 ask-spec =

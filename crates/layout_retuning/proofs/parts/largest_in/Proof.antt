@@ -25,7 +25,7 @@ spelling-at-requires : tie.Need-spelling-at-requires Inv-loop μ-loop
 spelling-at-requires c κs = search needs
 
 steps-requires : tie.Need-steps-requires Inv-loop μ-loop
-steps-requires c κs = ?
+steps-requires c κs = c .before .before .before .before .pre .positive
 
 larger-requires : tie.Need-larger-requires Inv-loop μ-loop
 larger-requires c κs = search needs
@@ -37,10 +37,11 @@ loop-less : tie.Need-loop-less Inv-loop μ-loop
 loop-less c = omega arith
 
 loop-again : tie.Need-loop-again Inv-loop μ-loop
-loop-again c = ?
+loop-again c =
+    (largest-step _ _ _ _ _ _ (c .before .before .spelling-at .ensures) (c .before .steps .ensures) (c .before .before .before .before .loop .inv .0) (c .larger .ensures), omega arith)
 
 returns : tie.Need-returns Inv-loop μ-loop
-returns c = ?
+returns c = largest-end _ _ _ _ (c .loop-test .left) (c .before .loop .inv .1) (c .before .before .entries .ensures) (c .before .loop .inv .0)
 
 pub largest-in-spec : {M : Type 1} → statement M
 largest-in-spec =
