@@ -111,7 +111,8 @@ module _ (t : Retuning) where
   pub refused-first : (n : ℕ) → refused n ≡ layoutOutcome (firstOf t) → refused n ≡ getTunings t
   unfolding getTunings
   refused-first n e =
-      ap (λ (o : Outcome Layout). andThen o (λ (l : Layout). andThen (layoutOutcome (secondOf t)) (λ (m : Layout). given (tuningsOf l m)))) e
+      ap (λ (o : Outcome Layout). andThen o (λ (l : Layout). andThen (layoutOutcome (secondOf t)) (λ (m : Layout). given (tuningsOf l m))))
+      e
 
   module _ (l : Layout) (e : given l ≡ layoutOutcome (firstOf t)) where
     with-second : (o : Outcome Layout) → o ≡ layoutOutcome (secondOf t) → andThen o (λ (m : Layout). given (tuningsOf l m)) ≡ getTunings t

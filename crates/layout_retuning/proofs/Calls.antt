@@ -80,12 +80,14 @@ module _ (k : Tunings) (x : Spelling) where
     pub many-stars-first : (n : ℕ) → GcdOf (k .octave) (k .first) n → n ≤ x .stars → refused 21 ≡ movedBy k x
     unfolding movedBy
     many-stars-first n g j =
-        sym (ask-below 16 (x .index) (k .«num_letters») _ lettered ∙ not-below-first (x .stars) _ _ _ (rw (sym (cycles-are (k .first) n g)) j))
+        sym (ask-below 16 (x .index) (k .«num_letters») _ lettered
+        ∙ not-below-first (x .stars) _ _ _ (rw (sym (cycles-are (k .first) n g)) j))
 
     pub many-stars-second : (n : ℕ) → GcdOf (k .octave) (k .second) n → n ≤ x .stars → refused 21 ≡ movedBy k x
     unfolding movedBy
     many-stars-second n g j =
-        sym (ask-below 16 (x .index) (k .«num_letters») _ lettered ∙ not-below-second (x .stars) _ _ _ (rw (sym (cycles-are (k .second) n g)) j))
+        sym (ask-below 16 (x .index) (k .«num_letters») _ lettered
+        ∙ not-below-second (x .stars) _ _ _ (rw (sym (cycles-are (k .second) n g)) j))
 
     pub move-given : (n c : ℕ) → GcdOf (k .octave) (k .first) n → GcdOf (k .octave) (k .second) c → x .stars < n → x .stars < c
         → (r : ℕ) → r ≡ stepsBy k x → given r ≡ movedBy k x
@@ -102,7 +104,9 @@ module _ (t : Retuning) (x : Spelling) where
   unfolding movedBy movedIn
   same-questions l m e f =
       let s = shared t l m e f in
-      ap₂ (λ (n P : ℕ). ask 16 (ltb (x .index) (l .letters)) (ask 21 (ltb (x .stars) (cyclesIn l) && ltb (x .stars) (cycles P (m .generator))) (given n)))
+      ap₂
+      (λ (n P : ℕ). ask 16 (ltb (x .index) (l .letters))
+      (ask 21 (ltb (x .stars) (cyclesIn l) && ltb (x .stars) (cycles P (m .generator))) (given n)))
       (moved-by-numbers l m s x) (sym (s .octave))
 
   moved-from : andThen (getTunings t) (λ (k : Tunings). movedBy k x) ≡ getMoved t x
@@ -116,7 +120,8 @@ module _ (t : Retuning) (x : Spelling) where
   moved-given k e o q = q ∙ ap (λ (p : Outcome Tunings). andThen p (λ (j : Tunings). movedBy j x)) e ∙ moved-from
 
 -- .. of a spelling whose signs came as one signed number z, read as y
-pub moved-with-signs : (t : Retuning) (letter stars : ℕ) (z y : ℤ) (s : Signs) → y ≡ z → s ≡ signsOf y → (k : Tunings) → given k ≡ getTunings t
+pub moved-with-signs : (t : Retuning) (letter stars : ℕ) (z y : ℤ) (s : Signs) → y ≡ z → s ≡ signsOf y
+    → (k : Tunings) → given k ≡ getTunings t
     → (o : Outcome ℕ) → o ≡ movedBy k (record { index = letter; signs = s; stars = stars }) → o ≡ getMoved t (spelt letter z stars)
 moved-with-signs t letter stars z y s read is k e o q =
     moved-given t (spelt letter z stars) k e o

@@ -41,7 +41,8 @@ unfolding largest
 is-there x [] = List·Memᴰ·head (let z : max x 0 ≡ x = omega arith in z)
 is-there x (y ∷ ys) = by (ltb x (largest (y ∷ ys))) refl (is-there y ys)
   where
-    by : (b : Bool) → ltb x (largest (y ∷ ys)) ≡ b → List·Memᴰ (largest (y ∷ ys)) (y ∷ ys) → List·Memᴰ (max x (largest (y ∷ ys))) (x ∷ y ∷ ys)
+    by : (b : Bool) → ltb x (largest (y ∷ ys)) ≡ b → List·Memᴰ (largest (y ∷ ys)) (y ∷ ys)
+        → List·Memᴰ (max x (largest (y ∷ ys))) (x ∷ y ∷ ys)
     by true e p =
         let h = ltb-true x (largest (y ∷ ys)) e in
         let same : max x (largest (y ∷ ys)) ≡ largest (y ∷ ys) = omega arith in
@@ -110,7 +111,8 @@ module _ (t : Retuning) (n : ℕ) where
   unfolding getLargestMove getMoveTable
   in-table q = of (both-accepted t (λ (l m : Layout). given (largest (moveTable l m))) n q)
     where
-      of : (l : Layout) × (m : Layout) × Accepted (firstOf t) l × Accepted (secondOf t) m × (given (largest (moveTable l m)) ≡ given n) → InTable
+      of : (l : Layout) × (m : Layout) × Accepted (firstOf t) l × Accepted (secondOf t) m × (given (largest (moveTable l m)) ≡ given n)
+          → InTable
       of (l, m, e, f, is) =
           let some : 0 < length (moveTable l m)
           = omega (arith, length-move-table l m (shared t l m e f), some-letters t l m e f) in (

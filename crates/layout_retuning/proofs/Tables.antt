@@ -45,7 +45,8 @@ with-flats letter j h =
     with-signs letter
     (ap Flats (let q : 8 - j ≡ 7 - j + 1 = omega arith in q)
     ∙ flats-of (pos j -ℤ pos 8) (7 - j)
-    (rep-agree (rep-minus (rep-pos j) (rep-pos 8)) (rep-self (negsuc (7 - j))) (let q : j + 0 + suc (7 - j) ≡ 0 + (0 + 8) = omega arith in q)))
+    (rep-agree (rep-minus (rep-pos j) (rep-pos 8)) (rep-self (negsuc (7 - j)))
+    (let q : j + 0 + suc (7 - j) ≡ 0 + (0 + 8) = omega arith in q)))
 
 pub with-sharps : (letter j : ℕ) → 8 ≤ j → record { index = letter; signs = Sharps (j - 8); stars = 0 } ≡ tableSpelling letter j
 with-sharps letter j h =

@@ -54,7 +54,13 @@ MovesAreBounded =
 -- The same two tunings, exchanged.
 abbrev pub back : Retuning → Retuning
 back t =
-    record { genchain = t .genchain; octave = t .octave; start = t .start; «from_tritave» = t .«to_tritave»; «to_tritave» = t .«from_tritave» }
+    record {
+      genchain = t .genchain;
+      octave = t .octave;
+      start = t .start;
+      «from_tritave» = t .«to_tritave»;
+      «to_tritave» = t .«from_tritave»;
+    }
 
 pub record AsFarBack (t : Retuning) : Type 0 where
   pub moves : (x : Spelling) → getMoved (back t) x ≡ getMoved t x

@@ -5,8 +5,8 @@ ghost use Rattle.layout_retuning.specs.Answers.{getMoved, getMoveTable, getLarg
 ghost use Rattle.vetchnoon_codes.specs.Codes.{codeOf, Fills};
 ghost use Rattle.vetchnoon.specs.Written.{retuning, spelling};
 
-// By how many steps round the octave the key that a spelling sounds moves: a letter, signs (sharps above 0, flats below), stars (1, 2, 3, 4,
-// 18, of the second layout 3, 4, then 16, 21).
+// By how many steps round the octave the key that a spelling sounds moves: a letter, signs (sharps above 0, flats below), stars (1, 2, 3,
+// 4, 18, of the second layout 3, 4, then 16, 21).
 #[no_mangle]
 pub extern "C" fn vn_moved(
     chain: u16,
