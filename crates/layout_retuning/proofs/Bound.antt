@@ -9,14 +9,14 @@ use native.Mathlib.Nat.{mod-le, mul-comm, mul-add, mul-sub, add-mul, zero-mul, a
 use native.Mathlib.Omega.{arith}
 use Rattle.math.specs.Division.{remainder}
 use Rattle.math.proofs.Integers.{up, down, Rep, rep-self, rep-pos, rep-add, rep-minus, rep-mul, rep-agree}
-use Rattle.pergen.specs.Spelling.{place, sounds}
+use Rattle.pergen.specs.Spelling.{sounds}
 use Rattle.pergen.specs.declared.Spelling.{Spelling}
 use Rattle.layout.specs.Layouts.{Layout}
 use Rattle.layout.specs.Names.{placeIn, keyOf}
 use Rattle.layout_reach.specs.Reach.{distance}
 use Rattle.layout_reach.proofs.Distances.{distance-cong, remainder-again, distances-round-the-octave}
 use Rattle.layout_retuning.specs.Retunings.{moved}
-use Rattle.layout_retuning.specs.Theorems.{difference, MovesAre, MovesAreBounded}
+use Rattle.layout_retuning.specs.Theorems.{difference, MovesAreBounded}
 use Rattle.layout_retuning.proofs.BothLayouts.{Shared, shared, place-shared, second-key}
 
 -- ---- a distance is at most the difference

@@ -1,6 +1,6 @@
 -- A spelling's move: one law for each way in which the call ends, what it tells of the two keys, and the way back.
 use Prim.Native.Nat.{ℕ, _≤_, _<_}
-use mathlib.Core.Path.{_≡_, refl, sym, ap, ap₂, _∙_, subst}
+use mathlib.Core.Path.{_≡_, refl, sym, ap, ap₂, _∙_}
 use mathlib.Core.Bool.{Bool, true, false, _&&_, and-false}
 use lib.Dec.{ltb}
 use lib.IntN.{ℤ, pos, _+ℤ_, _-ℤ_, _*ℤ_}
@@ -19,7 +19,7 @@ use Rattle.pergen.proofs.Calls.{cycles-found}
 use Rattle.pergen_sounding.specs.Parts.{SidesOf}
 use Rattle.pergen_sounding.specs.declared.parts.Sides.{Sides}
 use Rattle.layout.specs.Layouts.{Layout, Accepted, cyclesIn}
-use Rattle.layout.specs.Names.{IsSpelling, keyOf}
+use Rattle.layout.specs.Names.{keyOf}
 use Rattle.layout.specs.Answers.{getSoundedKey}
 use Rattle.layout.proofs.SoundedKeys.{spellings-have-a-key}
 use Rattle.layout_reach.specs.Reach.{distance}

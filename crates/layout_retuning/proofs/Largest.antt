@@ -1,5 +1,5 @@
 -- The largest of a list that holds some number: it is there, none passes it, and the loop carries it.
-use Prim.Native.Nat.{ℕ, zero, suc, _+_, _*_, _/_, _%_, _≤_, _<_, max}
+use Prim.Native.Nat.{ℕ, _+_, _/_, _%_, _≤_, _<_, max}
 use mathlib.Core.Path.{_≡_, refl, sym, ap, ap₂, _∙_, subst}
 use mathlib.Core.Bool.{Bool, true, false}
 use mathlib.Core.Logic.{_⊎_, inl, inr}
@@ -18,7 +18,7 @@ use Rattle.layout.specs.Layouts.{Layout, Accepted}
 use Rattle.layout_retuning.specs.Retunings.{firstOf, secondOf, tableSpelling, moveTable, largest}
 use Rattle.layout_retuning.specs.Answers.{movedIn, getMoved, getMoveTable, getLargestMove}
 use Rattle.layout_retuning.specs.Parts.{getTunings, stepsBy, countOf, tableBy}
-use Rattle.layout_retuning.specs.Theorems.{IsLargest, LargestIsTheLargest, back, AsFarBack, BackIsAsFar}
+use Rattle.layout_retuning.specs.Theorems.{IsLargest, LargestIsTheLargest, back, BackIsAsFar}
 use Rattle.layout_retuning.specs.declared.Retuning.{Retuning}
 use Rattle.layout_retuning.specs.declared.parts.Tunings.{Tunings}
 use Rattle.layout_retuning.proofs.BothLayouts.{shared, some-letters, of-both, both-accepted, by-numbers}

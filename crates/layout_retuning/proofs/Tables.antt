@@ -4,10 +4,10 @@ use mathlib.Core.Path.{_≡_, refl, sym, ap, ap₂, _∙_, subst}
 use mathlib.Core.Logic.{_⊎_, inl, inr}
 use mathlib.Core.List.{List, [], _∷_, _++_}
 use lib.Arith.{digits-div, digits-mod}
-use lib.IntN.{ℤ, pos, negsuc, _-ℤ_}
+use lib.IntN.{pos, negsuc, _-ℤ_}
 use lib.ListN.{length, getD, set, List·getD-append}
 use lib.Seq.{getD-append-seam}
-use native.Mathlib.Nat.{one-mul, eq-or-lt-of-le, mul-le-mul, suc-mul}
+use native.Mathlib.Nat.{one-mul, eq-or-lt-of-le}
 use native.Mathlib.Omega.{arith}
 use Rattle.answer.specs.Outcome.{Outcome, given, refused, andThen}
 use Rattle.answer.specs.Lent.{heldIn, counted, Filled}
@@ -22,7 +22,7 @@ use Rattle.pergen.specs.declared.Signs.the-variants.{Sharps, Flats}
 use Rattle.pergen.specs.declared.Spelling.{Spelling}
 use Rattle.pergen.proofs.Inverse.{cycles-positive}
 use Rattle.pergen.proofs.SignedNumbers.{sharps-of, flats-of}
-use Rattle.layout.specs.Layouts.{Layout, Accepted, lettersOf}
+use Rattle.layout.specs.Layouts.{Layout, Accepted}
 use Rattle.layout.specs.Answers.{inRoom}
 use Rattle.layout_retuning.specs.Retunings.{firstOf, secondOf, moved, tableSpelling, letterMoves, moveTable}
 use Rattle.layout_retuning.specs.Answers.{movedIn, getMoved, getMoveTable}
