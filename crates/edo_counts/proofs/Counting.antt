@@ -26,7 +26,7 @@ unfolding countOf
 count-append p [] ys = sym (zero-add (countOf p ys))
 count-append p (x ∷ xs) ys = omega (arith, count-append p xs ys)
 
-count-none : (p : EdoLayout → Bool) → countOf p [] ≡ 0
+pub count-none : (p : EdoLayout → Bool) → countOf p [] ≡ 0
 unfolding countOf
 count-none p = refl
 
@@ -44,11 +44,11 @@ count-listed p (refused q) = omega (arith, count-none p)
 
 -- ---- of what is gathered, one list counts
 
-gathered-next : (f : ℕ → List EdoLayout) (k : ℕ) → gathered f (suc k) ≡ gathered f k ++ f k
+pub gathered-next : (f : ℕ → List EdoLayout) (k : ℕ) → gathered f (suc k) ≡ gathered f k ++ f k
 unfolding gathered
 gathered-next f k = refl
 
-gathered-none : (f : ℕ → List EdoLayout) → gathered f 0 ≡ []
+pub gathered-none : (f : ℕ → List EdoLayout) → gathered f 0 ≡ []
 unfolding gathered
 gathered-none f = refl
 
@@ -92,7 +92,7 @@ module _ (n : ℕ) where
       only-it (ofChain code side) (λ (k : ℕ). listed (chainOutcome n k)) code
       (λ k e. not-its code k side e (chainOutcome n k) refl) 6 h
 
-  its : (code : ℕ) (side : Mos → Bool) (c : EdoLayout) → given c ≡ chainOutcome n code → countOf (ofChain code side) (c ∷ []) ≡ one (side (c .pattern))
+  pub its : (code : ℕ) (side : Mos → Bool) (c : EdoLayout) → given c ≡ chainOutcome n code → countOf (ofChain code side) (c ∷ []) ≡ one (side (c .pattern))
   its code side c e =
       count-one (ofChain code side) c
       ∙ ap (λ (b : Bool). one (b && side (c .pattern))) (eq-eqb (c .layout .genchain) code (chain-is n code c e))

@@ -1,2 +1,4 @@
 pub mod Counting
+pub mod Sums
 pub mod Lines
+pub mod Examples

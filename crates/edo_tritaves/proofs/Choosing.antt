@@ -1,18 +1,19 @@
 -- The number that meets the rule is the first that does; from there to each way in which the choices end.
 use mathlib.Core.Path.{_≡_, refl, sym, ap, _∙_, subst}
 use mathlib.Core.Bool.{Bool, true, false, _&&_}
+use mathlib.Core.List.{List, [], _∷_}
 use Prim.Native.Nat.{ℕ, _+_, _*_, _-_, _≤_, _<_, _^_}
 use native.Mathlib.Nat.{pow-le-pow-right}
 use native.Mathlib.Omega.{arith}
 use lib.Dec.{T, ltb, leb}
-use borrow.Author.Tests.{lt-ltb, le-ltb, le-leb, lt-leb, ltb-true}
+use borrow.Author.Tests.{lt-ltb, le-ltb, le-leb, lt-leb, ltb-true, eq-eqb, ne-eqb}
 use Rattle.answer.specs.Outcome.{Outcome, given, refused, ask}
 use Rattle.answer.specs.Choice.{pick}
 use Rattle.answer.proofs.Asked.{and-left, and-right}
 use Rattle.pergen.specs.Pergen.{first}
 use Rattle.pergen.proofs.Inverse.{first-finds}
 use Rattle.edo_tritaves.specs.declared.Choices.{Choices}
-use Rattle.edo_tritaves.specs.Tritaves.{TritaveRule, isTritave, tritave, goesUp, goesDown, secondOf, choicesOf, isDivision, tritavesOf}
+use Rattle.edo_tritaves.specs.Tritaves.{TritaveRule, isTritave, tritave, goesUp, goesDown, secondOf, choicesOf, choiceNumbers, isDivision, tritavesOf}
 use Rattle.edo_tritaves.specs.Parts.{Sides}
 use Rattle.edo_tritaves.specs.Theorems.{OneTritave, NeverBoth}
 
@@ -101,3 +102,12 @@ module _ (n : ℕ) where
 
   pub tritaves-given : 1 ≤ n → n ≤ 400 → (t : Choices) → t ≡ choicesOf n → given t ≡ tritavesOf n
   tritaves-given l h t e = ap given e ∙ asked true (division l h)
+
+-- ---- as a list
+
+module _ (t : Choices) where
+  pub one-number : t .second ≡ 0 → t .first ∷ [] ≡ choiceNumbers t
+  one-number e = ap (λ (test : Bool). t .first ∷ pick test [] (t .second ∷ [])) (sym (eq-eqb (t .second) 0 e))
+
+  pub two-numbers : (t .second ≡ 0 → ⊥) → t .first ∷ t .second ∷ [] ≡ choiceNumbers t
+  two-numbers e = ap (λ (test : Bool). t .first ∷ pick test [] (t .second ∷ [])) (sym (ne-eqb (t .second) 0 e))

@@ -8,6 +8,7 @@
 pub mod board;
 pub mod books;
 pub mod chains;
+pub mod edo;
 pub mod layouts;
 pub mod numbers;
 pub mod patterns;
