@@ -5,8 +5,9 @@
  * What the library runs on
  *   x86-64 Linux, C calling convention, size_t of 64 bits. It needs memset and memcpy, which a C library has, and nothing
  *   else; it makes no system calls.
- *   Stack: at most 1 KiB for any call, measured (744 bytes for vn_key_table, at most 512 for any other, with the memset and
- *   memcpy of glibc); examples/check measures it again.
+ *   Stack: at most 1.25 KiB for any call, measured (1,224 bytes for vn_edo_report, 1,128 for vn_find_by_edo, 856 for
+ *   vn_tritaves, 744 for vn_key_table, at most 512 for any other, with the memset and memcpy of glibc); examples/check
+ *   measures it again.
  *
  * What a call returns
  *   0 or more: the answer, or how many elements were written to the front of the slice that was lent.
