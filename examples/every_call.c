@@ -269,6 +269,51 @@ static void call_reach(void)
     IS(vn_keys_in_reach(1, 7, 11, 7, 2, 3, numbers, 6), -VN_START);
 }
 
+/* Meantone[5], C G D A E from D, in 31 steps with 49 to the tritave and then 50: the generator goes from 18 to 19. */
+static void call_retunings(void)
+{
+    IS(vn_moved(2, 31, 2, 49, 50, 2, 0, 0), 0);
+    IS(vn_moved(2, 31, 2, 49, 50, 3, 0, 0), 1);
+    IS(vn_moved(2, 31, 2, 49, 50, 2, 4, 0), 11); /* 20 the other way round */
+    IS(vn_moved(2, 31, 2, 50, 49, 2, 4, 0), 11);
+    IS(vn_moved(2, 31, 2, 49, 50, 2, INT32_MIN, 0), 10);
+    IS(vn_moved(2, 31, 2, 49, 50, 2, INT32_MAX, 0), 5);
+    IS(vn_moved(2, 31, 0, 49, 50, 4, 0, 0), 4); /* from C */
+    IS(vn_moved(1, 24, 3, 38, 34, 3, 1, 1), 4); /* two cycles each */
+    IS(vn_moved(1, 24, 3, 38, 34, 3, 1, 2), -VN_STARS);
+    IS(vn_moved(1, 24, 3, 38, 37, 3, 1, 0), 7); /* two cycles and one */
+    IS(vn_moved(1, 24, 3, 38, 37, 3, 1, 1), -VN_STARS);
+    IS(vn_moved(1, 24, 3, 37, 38, 3, 1, 1), -VN_STARS);
+    IS(vn_moved(2, 31, 2, 49, 50, 5, 0, 1), -VN_LETTER);
+    IS(vn_moved(2, 31, 2, 49, 50, 258, 0, 0), -VN_LETTER);
+    IS(vn_moved(6, 0, 9, 0, 0, 9, 0, 9), -VN_CHAIN);
+    IS(vn_moved(2, 0, 9, 0, 0, 9, 0, 9), -VN_PERIOD);
+    IS(vn_moved(2, 4, 9, 3, 6, 9, 0, 9), -VN_GENERATOR);
+    IS(vn_moved(2, 4, 9, 6, 3, 9, 0, 9), -VN_PATTERN);
+    IS(vn_moved(2, 31, 5, 49, 30, 9, 0, 9), -VN_START);
+    IS(vn_moved(2, 31, 4, 49, 30, 9, 0, 9), -VN_GENERATOR);
+    IS(vn_moved(1, 31, 6, 49, 50, 9, 0, 9), -VN_PATTERN);
+
+    strip[85] = 4711;
+    IS(vn_move_table(2, 31, 2, 49, 50, strip, 86), 85);
+    IS(strip[85], 4711);
+    memcpy(numbers, strip + 2 * 17, 17 * sizeof *numbers); /* D, from eight flats to eight sharps */
+    NUMBERS(9, 4, 1, 6, 11, 15, 10, 5, 0, 5, 10, 15, 11, 6, 1, 4, 9);
+    memcpy(numbers, strip, 17 * sizeof *numbers); /* C */
+    NUMBERS(11, 6, 1, 4, 9, 14, 12, 7, 2, 3, 8, 13, 13, 8, 3, 2, 7);
+    IS(vn_move_table(2, 31, 2, 49, 50, strip, 85), 85);
+    strip[0] = 4712;
+    IS(vn_move_table(2, 31, 2, 49, 50, strip, 84), -VN_ROOM);
+    IS(vn_move_table(2, 31, 5, 49, 50, strip, 84), -VN_START);
+    IS(vn_move_table(1, 31, 6, 49, 50, strip, 84), -VN_PATTERN);
+    IS(strip[0], 4712);
+
+    IS(vn_largest_move(2, 31, 2, 49, 50), 15);
+    IS(vn_largest_move(2, 31, 2, 49, 49), 0);
+    IS(vn_largest_move(2, 31, 5, 49, 30), -VN_START);
+    IS(vn_largest_move(1, 31, 6, 49, 50), -VN_PATTERN);
+}
+
 /* In 24 steps the chain goes 0 14 4 .. through the even keys and then 1 15 5 .. through the odd ones. */
 static void call_orders(void)
 {
@@ -554,6 +599,7 @@ int main(void)
     call_divisions();
     call_layouts();
     call_reach();
+    call_retunings();
     call_orders();
     call_largest_orders();
     call_moves();

@@ -1,6 +1,6 @@
 /* What an instrument's firmware does with the library: it makes a layout, lights the lamps, keeps a book of names, and
- * shows the name of each key that is pressed, the nearest D, the order in which caps are filed, and the board's moves. Nothing
- * is allocated, and every refusal is shown by its number. */
+ * shows the name of each key that is pressed, the nearest D, how far a retuning moves notes, the order in which caps are
+ * filed, and the board's moves. Nothing is allocated, and every refusal is shown by its number. */
 #include <inttypes.h>
 #include <stdio.h>
 
@@ -111,6 +111,25 @@ static void show_nearest_d(int32_t key)
     printf("\n");
 }
 
+/* Shows, before a lesson, how far another tritave moves G, D and A and their sharps, and any note with up to eight signs. */
+static void show_retuning(uint16_t from, uint16_t to)
+{
+    enum { G = 2, A = 4, EACH = 17, NO_SIGN = 8 }; /* a letter's moves, from eight flats to eight sharps */
+    static uint16_t table[7 * EACH];
+    int64_t largest = vn_largest_move(CHAIN, OCTAVE, START, from, to);
+    int letter;
+
+    if (refused("retuning", vn_move_table(CHAIN, OCTAVE, START, from, to, table, 7 * EACH)))
+        return;
+    printf("from %d to %d steps a tritave, G D A move by", from, to);
+    for (letter = G; letter <= A; letter++)
+        printf(" %d", table[letter * EACH + NO_SIGN]);
+    printf(", with a sharp by");
+    for (letter = G; letter <= A; letter++)
+        printf(" %d", table[letter * EACH + NO_SIGN + 1]);
+    printf(", none by more than %" PRId64 "\n", largest);
+}
+
 /* Shows which keys' caps lie side by side where they are filed along the chain, and that they come back to their keys. */
 static void show_filed_caps(void)
 {
@@ -186,6 +205,8 @@ int main(void)
 
     show_nearest_d(12); /* D* */
     show_nearest_d(-2); /* D */
+    show_retuning(TRITAVE, 37);
+    show_retuning(TRITAVE, 30);
     show_filed_caps();
     show_moves();
 

@@ -56,6 +56,12 @@ static uint32_t found[2];
     CALL(vn_nearest_natural(1, 41699, 65527, 6, -1, 6)) \
     CALL(vn_keys_in_reach(2, 65534, 65535, 4, -1, 32766, numbers, sizeof numbers / 2)) \
     CALL(vn_keys_in_reach(1, 41699, 65527, 6, 20849, 9, numbers, sizeof numbers / 2)) \
+    CALL(vn_moved(2, 65534, 4, 65535, 65535, 4, INT32_MIN, 0)) \
+    CALL(vn_moved(1, 41699, 6, 65527, 65527, 6, INT32_MAX, 0)) \
+    CALL(vn_move_table(2, 65534, 4, 65535, 65535, numbers, sizeof numbers / 2)) \
+    CALL(vn_move_table(1, 41699, 6, 65527, 65527, numbers, sizeof numbers / 2)) \
+    CALL(vn_largest_move(2, 65534, 4, 65535, 65535)) \
+    CALL(vn_largest_move(1, 41699, 6, 65527, 65527)) \
     CALL(vn_to_chain_order(1, 41699, 65527, 6, entries, sizeof entries / 2, numbers, sizeof numbers / 2)) \
     CALL(vn_to_chain_order(2, 65534, 65535, 4, entries, sizeof entries / 2, numbers, sizeof numbers / 2)) \
     CALL(vn_to_key_order(1, 41699, 65527, 6, entries, sizeof entries / 2, numbers, sizeof numbers / 2)) \

@@ -34,7 +34,7 @@
  *   VN_LETTER       16  Is the letter's place below the chain's number of letters?
  *   VN_CODE         17  Does every code of the strip have a partner among the other width's codes?
  *   VN_START        18  Is the layout's start below the chain's number of letters?
- *   VN_STARS        21  Are the stars below the number of cycles?
+ *   VN_STARS        21  Are the stars below the number of cycles? (Of a retuning: below that of both layouts?)
  * A refusal is compared as in vn_layout(chain, octave, tritave, start, out, len) == -VN_PATTERN.
  *
  * What a key is
@@ -90,6 +90,7 @@ extern "C" {
 
 /* The version of this header. The first number changes where a call, a number above or an answer is changed or taken away,
  * the second where some are added, the third where neither is so.
+ *   7.4.0: vn_moved, vn_move_table and vn_largest_move are added.
  *   7.3.0: vn_tritaves, vn_find_by_edo and vn_edo_report are added, of which the first two ask 15, VN_DIVISION.
  *   7.2.0: vn_to_chain_order, vn_to_key_order, vn_moves and vn_walk_moves are added.
  *   7.1.0: vn_nearest_natural and vn_keys_in_reach are added.
@@ -107,7 +108,7 @@ extern "C" {
  *   2.0.0: vn_sounded_key takes signs as one number, and asks 16 and 21.
  *   1.0.0, before these numbers stood here: it took sharps and flats as two numbers, and asked 15, VN_SPELLING. */
 #define VN_VERSION_MAJOR 7
-#define VN_VERSION_MINOR 3
+#define VN_VERSION_MINOR 4
 #define VN_VERSION_PATCH 0
 
 /* The library was built for a size_t of 64 bits; with any other this line does not compile. */
@@ -247,6 +248,23 @@ int64_t vn_nearest_natural(uint16_t chain, uint16_t octave, uint16_t tritave, ui
  * octave where that is more than it has. Asks 1, 2, 3, 4, 18, 10. */
 int64_t vn_keys_in_reach(uint16_t chain, uint16_t octave, uint16_t tritave, uint16_t start, int32_t key, uint16_t distance,
                          uint16_t *out, size_t len);
+
+/* ---- retunings: two layouts of one chain, octave and start, with one tritave before and another after. A key moves round the
+ * octave, the shorter way. The first layout's questions go before the second's, of which only 3 and 4 can have the answer no. */
+
+/* How many steps the key moves that a spelling sounds: a letter, by its index along the chain from 0; signs, as many sharps as
+ * the number is above 0, or flats as it is below; and stars. Asks 1, 2, 3, 4, 18, of the second layout 3, 4, then 16, 21. */
+int64_t vn_moved(uint16_t chain, uint16_t octave, uint16_t start, uint16_t from_tritave, uint16_t to_tritave, uint16_t letter,
+                 int32_t signs, uint16_t stars);
+
+/* Writes the moves of all letters with up to eight signs, without stars, on which no move depends: letter by letter along the
+ * chain, 17 numbers each, from eight flats to eight sharps; at most 153. Asks 1, 2, 3, 4, 18, of the second layout 3, 4, then
+ * 10. */
+int64_t vn_move_table(uint16_t chain, uint16_t octave, uint16_t start, uint16_t from_tritave, uint16_t to_tritave,
+                      uint16_t *out, size_t len);
+
+/* The largest number that vn_move_table writes. Asks 1, 2, 3, 4, 18, of the second layout 3, 4. */
+int64_t vn_largest_move(uint16_t chain, uint16_t octave, uint16_t start, uint16_t from_tritave, uint16_t to_tritave);
 
 /* ---- chain order of a layout's keys, and moves on its board */
 

@@ -108,6 +108,33 @@ unsafe extern "C" {
         len: usize,
     ) -> i64;
 
+    pub fn vn_moved(
+        chain: u16,
+        octave: u16,
+        start: u16,
+        from_tritave: u16,
+        to_tritave: u16,
+        letter: u16,
+        signs: i32,
+        stars: u16,
+    ) -> i64;
+    pub fn vn_move_table(
+        chain: u16,
+        octave: u16,
+        start: u16,
+        from_tritave: u16,
+        to_tritave: u16,
+        out: *mut u16,
+        len: usize,
+    ) -> i64;
+    pub fn vn_largest_move(
+        chain: u16,
+        octave: u16,
+        start: u16,
+        from_tritave: u16,
+        to_tritave: u16,
+    ) -> i64;
+
     pub fn vn_to_chain_order(
         chain: u16,
         octave: u16,

@@ -95,6 +95,32 @@ impl Layout {
     }
 }
 
+/// Two layouts of one chain, octave and start, with one tritave before a retuning and another
+/// after it. Any five numbers may stand here: each call asks 1, 2, 3, 4 and 18 of the first
+/// layout, then 3 and 4 of the second.
+#[derive(Clone, Copy, Debug, PartialEq, Eq, Hash)]
+pub struct Retuning {
+    pub chain: u16,
+    pub octave: u16,
+    /// The index of key 0's letter among the chain's letters, from 0.
+    pub start: u16,
+    pub from_tritave: u16,
+    pub to_tritave: u16,
+}
+
+impl Retuning {
+    /// From a layout to the one that has another tritave.
+    pub fn new(layout: Layout, to_tritave: u16) -> Self {
+        Self {
+            chain: layout.chain,
+            octave: layout.octave,
+            start: layout.start,
+            from_tritave: layout.tritave,
+            to_tritave,
+        }
+    }
+}
+
 /// The kinds of layers, as [`layer_kind`] writes them.
 pub const NATURAL: u16 = 0;
 pub const SHARP: u16 = 1;
@@ -386,6 +412,80 @@ number_from_layout! {
     lamp = vn_lamp(key: i32) -> u16;
     /// How many bytes the book of a layout has (1, 2, 3, 4, 18).
     book_len = vn_book_len() -> usize;
+}
+
+/// How many steps round the octave, the shorter way, the key moves that a spelling sounds: a
+/// letter by its index along the chain, signs (sharps above 0, flats below) and stars
+/// (1, 2, 3, 4, 18, of the second layout 3, 4, then 16, 21).
+///
+/// ```
+/// use vetchnoon::{Layout, Refused, Retuning, moved};
+///
+/// // C G D A E: D is on key 0, and stays; A is a generator away.
+/// let lesson = Retuning::new(Layout::new(2, 31, 49), 50);
+/// assert_eq!(moved(lesson, 2, 0, 0), Ok(0));
+/// assert_eq!(moved(lesson, 3, 0, 0), Ok(1));
+/// assert_eq!(moved(lesson, 2, 4, 0), Ok(11));
+/// assert_eq!(moved(lesson, 2, 0, 1), Err(Refused(21)));
+/// ```
+pub fn moved(retuning: Retuning, letter: u16, signs: i32, stars: u16) -> Result<u16, Refused> {
+    let Retuning {
+        chain,
+        octave,
+        start,
+        from_tritave,
+        to_tritave,
+    } = retuning;
+    value(unsafe {
+        c::vn_moved(
+            chain,
+            octave,
+            start,
+            from_tritave,
+            to_tritave,
+            letter,
+            signs,
+            stars,
+        )
+    })
+}
+
+/// The moves of all letters with up to eight signs, without stars, on which no move depends:
+/// letter by letter along the chain, 17 numbers each, from eight flats to eight sharps
+/// (1, 2, 3, 4, 18, of the second layout 3, 4, then 10).
+///
+/// ```
+/// use vetchnoon::{Layout, Retuning, largest_move, move_table};
+///
+/// let lesson = Retuning::new(Layout::new(2, 31, 49), 50);
+/// let mut table = [0; 9 * 17];
+/// assert_eq!(move_table(lesson, &mut table), Ok(5 * 17));
+/// let d = &table[2 * 17..3 * 17];
+/// assert_eq!(d, [9, 4, 1, 6, 11, 15, 10, 5, 0, 5, 10, 15, 11, 6, 1, 4, 9]);
+/// assert_eq!(largest_move(lesson), Ok(15));
+/// ```
+pub fn move_table(retuning: Retuning, out: &mut [u16]) -> Result<usize, Refused> {
+    let Retuning {
+        chain,
+        octave,
+        start,
+        from_tritave,
+        to_tritave,
+    } = retuning;
+    let (table, len) = (out.as_mut_ptr(), out.len());
+    value(unsafe { c::vn_move_table(chain, octave, start, from_tritave, to_tritave, table, len) })
+}
+
+/// The largest number that [`move_table`] writes (1, 2, 3, 4, 18, of the second layout 3, 4).
+pub fn largest_move(retuning: Retuning) -> Result<u16, Refused> {
+    let Retuning {
+        chain,
+        octave,
+        start,
+        from_tritave,
+        to_tritave,
+    } = retuning;
+    value(unsafe { c::vn_largest_move(chain, octave, start, from_tritave, to_tritave) })
 }
 
 /// Declares functions that put the entries of the octave's keys in another order, into `out`.

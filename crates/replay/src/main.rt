@@ -17,6 +17,7 @@ mod patterns;
 mod pergens;
 mod print;
 mod reach;
+mod retunings;
 mod strips;
 mod tables;
 mod words;
@@ -149,7 +150,10 @@ fn answered_other(kind: usize, line: &[u8], end: usize, room: u16) -> bool {
     if kind <= names::WALK_MOVES {
         return moves::answer(kind, line, end, room);
     }
-    edo::answer(line, end, room)
+    if edo::answer(line, end, room) {
+        return true;
+    }
+    retunings::answer(line, end, room)
 }
 
 fn answer_line(line: &[u8]) {

@@ -28,6 +28,7 @@ use tune::layout::Layer;
 use tune::pergen::Mos;
 use tune::temperament::Val;
 use vetchnoon::Pattern;
+use vetchnoon::Retuning;
 
 use crate::timing::Work;
 
@@ -84,6 +85,7 @@ pub fn of_the_original() -> Vec<Row> {
         accidentals(what, n, octave_below_0(n), made_anew(n))
     }));
     rows.extend([SMALL, MIDDLE, LARGE].map(nearest));
+    rows.extend([(Numbers(2, 31, 49), 50), (MIDDLE, 492)].map(|(n, to)| move_table(n, to)));
     rows.extend(SIZES.map(chain_order));
     rows.extend(SIZES.map(key_order));
     rows.extend(SIZES.map(book));
@@ -338,6 +340,42 @@ fn nearest(n: Numbers) -> Row {
             letters.iter().map(nearest).sum()
         },
     )
+}
+
+/// The table of moves to another tritave. The original has no such call: its caller multiplies
+/// each place by both layouts' generators.
+fn move_table(n: Numbers, to: u16) -> Row {
+    let given = Retuning::new(n.layout(), to);
+    let (before, after) = (made_anew(n), made_anew(Numbers(n.0, n.1, to)));
+    let chain = chains::chain(n.0).expect("a chain");
+    let (count, start) = (chain.count() as i32, chain.start as i32);
+    let octave = i32::from(n.1);
+    let mut table = [0; 9 * 17];
+    Row::new(
+        "a table of moves; by the original's generators",
+        format!("{} to {to}", n.words()),
+        (17 * count as usize, "move"),
+        move || {
+            let written = vetchnoon::move_table(given, &mut table).unwrap();
+            table[..written].iter().copied().map(usize::from).sum()
+        },
+        move || {
+            let generators = [&before, &after].map(|layout| generator(&layout()));
+            let moved = |place: i32| {
+                let [one, other] = generators.map(|step| (step * place).rem_euclid(octave));
+                let away = one.abs_diff(other);
+                away.min(octave.unsigned_abs() - away) as usize
+            };
+            let letters = (0..count).flat_map(|letter| (-8..=8).map(move |signs| (letter, signs)));
+            letters
+                .map(|(letter, signs)| moved(letter + count * signs - start))
+                .sum()
+        },
+    )
+}
+
+fn generator(layout: &IsomorphicLayout) -> i32 {
+    layout.pergen().generator().into()
 }
 
 /// A list of the octave's entries in the order of the chain. The original has no such call:

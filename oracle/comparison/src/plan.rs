@@ -10,6 +10,7 @@ mod orders;
 mod patterns;
 mod pergens;
 mod reach;
+mod retunings;
 mod strips;
 mod tables;
 
@@ -55,6 +56,7 @@ pub fn tasks(mode: Mode, seed: u64) -> Vec<Task> {
     // The longest first, so that no thread is left alone with one at the end.
     layouts::plan(&mut tasks, mode, seed);
     reach::plan(&mut tasks, mode, seed);
+    retunings::plan(&mut tasks, mode, seed);
     orders::plan(&mut tasks, mode, seed);
     moves::plan(&mut tasks, mode, seed);
     patterns::plan(&mut tasks, mode, seed);

@@ -12,5 +12,6 @@ pub mod orders;
 pub mod patterns;
 pub mod pergens;
 pub mod reach;
+pub mod retunings;
 pub mod strips;
 pub mod tables;

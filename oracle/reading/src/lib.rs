@@ -22,6 +22,7 @@ pub mod patterns;
 pub mod pergens;
 pub mod powers;
 pub mod reach;
+pub mod retunings;
 pub mod tables;
 
 /// A whole number, wide enough for every sum and product here.

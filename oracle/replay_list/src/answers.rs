@@ -38,6 +38,7 @@ use crate::questions::Layout;
 use crate::questions::OfLayout;
 use crate::questions::OfPattern;
 use crate::questions::Question;
+use crate::retunings;
 
 /// Why there is no answer.
 pub enum Absent {
@@ -105,6 +106,7 @@ fn elements(question: &Question, text: &str) -> usize {
             text.split(' ').count()
         }
         Question::Reach(..)
+        | Question::MoveTable(_)
         | Question::ToChainOrder(..)
         | Question::ToKeyOrder(..)
         | Question::WriteMoves(_)
@@ -170,6 +172,11 @@ fn text(question: &Question) -> Text {
             chains::chain(*code)?;
             Ok(original_chain(*code).to_string())
         }
+        Question::Moved(retuning, letter, signs, stars) => {
+            retunings::moved(*retuning, *letter, *signs, *stars)
+        }
+        Question::MoveTable(retuning) => retunings::table(*retuning),
+        Question::LargestMove(retuning) => retunings::largest(*retuning),
         Question::Tritaves(n) => edo::tritaves(*n),
         Question::FindByEdo(n) => edo::layouts(*n),
         Question::FindChainByEdo(n, code) => edo::layout_of_chain(*n, *code),

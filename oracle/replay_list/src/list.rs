@@ -1,7 +1,7 @@
 //! The list of questions: the bench examples of document 01, small numbers
 //! densely, limits, and numbers of every size at random; then keys below 0, other letters
-//! on key 0, strips of two octaves, stored strips, distances between keys, lists in the order
-//! of the chain, and moves.
+//! on key 0, strips of two octaves, stored strips, distances between keys, retunings, lists in
+//! the order of the chain, and moves.
 
 use std::collections::HashSet;
 use std::iter;
@@ -24,6 +24,7 @@ use crate::questions::OfPattern;
 use crate::questions::Question;
 use crate::random::Random;
 use crate::reach;
+use crate::retunings;
 use crate::starts;
 use crate::strips;
 
@@ -54,6 +55,7 @@ pub fn all() -> Vec<Question> {
     questions.extend(strips::all());
     questions.extend(conversions::all());
     questions.extend(reach::all());
+    questions.extend(retunings::all());
     questions.extend(orders::all());
     questions.extend(moves::all());
 

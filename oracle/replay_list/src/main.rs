@@ -13,6 +13,7 @@ mod orders;
 mod questions;
 mod random;
 mod reach;
+mod retunings;
 mod starts;
 mod strips;
 

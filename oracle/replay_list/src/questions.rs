@@ -10,6 +10,7 @@ use judge::words::words;
 use reading::Outcome;
 use reading::layouts;
 use reading::pergens::Pergen;
+use reading::retunings;
 
 /// A chain code, the step counts of octave and tritave, and a start, where it is not to be
 /// the chain's own.
@@ -19,6 +20,16 @@ pub struct Layout {
     pub octave: u16,
     pub tritave: u16,
     pub start: Option<u16>,
+}
+
+/// A chain code, an octave and a start, and the tritaves before a retuning and after it.
+#[derive(Clone, Copy, Debug, PartialEq, Eq)]
+pub struct Retuning {
+    pub code: u16,
+    pub octave: u16,
+    pub start: u16,
+    pub from: u16,
+    pub to: u16,
 }
 
 /// A free period and generator.
@@ -49,6 +60,20 @@ impl Layout {
             None => "",
             Some(_) => "_from",
         }
+    }
+}
+
+impl Retuning {
+    /// What document 02 makes of it.
+    pub fn read(self) -> Outcome<retunings::Retuning> {
+        let Self {
+            code,
+            octave,
+            start,
+            from,
+            to,
+        } = self;
+        retunings::Retuning::new(code, octave, start, from, to)
     }
 }
 
@@ -167,6 +192,11 @@ pub enum Question {
     /// A key and a letter's place, and a key and a distance; the layout has a start.
     Nearest(Layout, i32, u16),
     Reach(Layout, i32, u16),
+    /// How far a spelling moves: a letter's place, signs and stars; the table of moves, and the
+    /// largest in it.
+    Moved(Retuning, u16, i32, u16),
+    MoveTable(Retuning),
+    LargestMove(Retuning),
     /// A list in the order of the chain, and in that of keys; the layout has a start.
     ToChainOrder(Layout, Vec<u16>),
     ToKeyOrder(Layout, Vec<u16>),
@@ -195,6 +225,19 @@ impl Display for Layout {
             None => Ok(()),
             Some(start) => write!(f, " {start}"),
         }
+    }
+}
+
+impl Display for Retuning {
+    fn fmt(&self, f: &mut Formatter<'_>) -> fmt::Result {
+        let Self {
+            code,
+            octave,
+            start,
+            from,
+            to,
+        } = self;
+        write!(f, "{code} {octave} {start} {from} {to}")
     }
 }
 
@@ -249,6 +292,11 @@ impl Display for Question {
             Self::FindIn(key, book) => write!(f, "find_in {key}{}", listed(book)),
             Self::Nearest(layout, key, letter) => write!(f, "nearest {layout} {key} {letter}"),
             Self::Reach(layout, key, distance) => write!(f, "reach {layout} {key} {distance}"),
+            Self::Moved(retuning, letter, signs, stars) => {
+                write!(f, "moved {retuning} {letter} {signs} {stars}")
+            }
+            Self::MoveTable(retuning) => write!(f, "move_table {retuning}"),
+            Self::LargestMove(retuning) => write!(f, "largest_move {retuning}"),
             Self::ToChainOrder(layout, list) => {
                 write!(f, "to_chain_order {layout}{}", listed(list))
             }
