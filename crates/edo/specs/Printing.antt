@@ -1,5 +1,5 @@
--- What is printed: the output for the whole line, at once. Where written bytes go no contract of the kit's library can say. So what is handed
--- to the one function that writes is held to be the output.
+-- What is printed: the output for the whole line, at once. Where written bytes go no contract of the kit's library can say. So what is
+-- handed to the one function that writes is held to be the output.
 use Prim.Native.Nat.{ℕ}
 use mathlib.Core.List.{List}
 use mathlib.Core.Path.{_≡_}

@@ -1,5 +1,6 @@
-// The program for schools: reads a line with a number of steps to the octave, as "31", and prints a line for each layout: chain code, octave,
-// tritave, chain name, scale name. Or it prints the number of a refusal: 14, no number of 1 to 5 digits at most 65,535; 15, not 1 to 400.
+// The program for schools: reads a line with a number of steps to the octave, as "31", and prints a line for each layout: chain code,
+// octave, tritave, chain name, scale name. Or it prints the number of a refusal: 14, no number of 1 to 5 digits at most 65,535; 15, not 1
+// to 400.
 //
 // What is printed is `output` of the whole line that was read, made by `edo_lines`; this program reads and writes, and no more.
 // specs/: Printing states what is printed. Which bytes a read hands over, and where written bytes go, rests on the kit's library.

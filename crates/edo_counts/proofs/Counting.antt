@@ -5,9 +5,8 @@ use native.Mathlib.Numerals.{add-one}
 use native.Mathlib.Omega.{arith}
 use mathlib.Core.Bool.{Bool, true, false, _&&_}
 use mathlib.Core.Logic.{_⊎_, inl, inr}
-use mathlib.Core.Path.{_≡_, refl, sym, ap, _∙_, subst}
+use mathlib.Core.Path.{_≡_, refl, sym, ap, _∙_}
 use mathlib.Core.List.{List, [], _∷_, _++_}
-use lib.Dec.{eqb, ltb}
 use borrow.Author.Tests.{eq-eqb, ne-eqb, lt-ltb, le-ltb}
 use Rattle.answer.specs.Outcome.{Outcome, given, refused}
 use Rattle.mos.specs.declared.Mos.{Mos}
@@ -117,7 +116,10 @@ module _ (code n : ℕ) where
   pub counts-none : (past : Tally) (q : ℕ) → refused q ≡ chainOutcome n code → past ≡ plus past got
   unfolding tallyOf
   counts-none past q e =
-      same (nothing (ofChain code isAbove) (past .above)) (nothing (ofChain code isBelow) (past .below)) (nothing (ofChain code isEqual) (past .equal))
+      same
+      (nothing (ofChain code isAbove) (past .above))
+      (nothing (ofChain code isBelow) (past .below))
+      (nothing (ofChain code isEqual) (past .equal))
     where
       nothing : (p : EdoLayout → Bool) (k : ℕ) → k ≡ k + countOf p (listed (chainOutcome n code))
       nothing p k =
@@ -175,7 +177,10 @@ count-all-none p = ap (countOf p) all-none ∙ count-none p
 pub tally-none : (code : ℕ) → none ≡ tallyOf code (allLayouts 0)
 unfolding tallyOf
 tally-none code =
-    same (sym (count-all-none (ofChain code isAbove))) (sym (count-all-none (ofChain code isBelow))) (sym (count-all-none (ofChain code isEqual)))
+    same
+    (sym (count-all-none (ofChain code isAbove)))
+    (sym (count-all-none (ofChain code isBelow)))
+    (sym (count-all-none (ofChain code isEqual)))
 
 module _ (code : ℕ) (h : code < 6) where
   -- one division more: its layouts count as the chain's one does

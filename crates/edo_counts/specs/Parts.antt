@@ -1,5 +1,5 @@
 -- What the parts behind the report promise.
-use Prim.Native.Nat.{ℕ, _+_, _<_}
+use Prim.Native.Nat.{_+_, _<_}
 use Rattle.mos.specs.declared.Mos.{Mos}
 use Rattle.edo_layouts.specs.Layouts.{one}
 use Rattle.edo_counts.specs.declared.parts.Tally.{Tally}

@@ -1,7 +1,7 @@
 // How many layouts the octave divisions have, chain by chain (document 02, W-202).
 //
-// Holds the report over all 400 divisions: a line for each chain code, with the number of its layouts with sharpness above 0, below 0 and at
-// 0. The layouts are those of `edo_layouts`.
+// Holds the report over all 400 divisions: a line for each chain code, with the number of its layouts with sharpness above 0, below 0 and
+// at 0. The layouts are those of `edo_layouts`.
 // specs/: Counts defines the report, Theorems states that it counts each layout once, Examples has small counts.
 // The entry point answers every input; `parts` asks for more, as its head says. Nothing is assumed.
 pub mod parts;

@@ -3,16 +3,15 @@ use Prim.Native.Nat.{ℕ}
 use native.Mathlib.Omega.{arith}
 use mathlib.Core.Bool.{Bool, true, false}
 use mathlib.Core.Logic.{_⊎_, inl, inr}
-use mathlib.Core.Path.{_≡_, refl, sym, ap, _∙_, subst}
+use mathlib.Core.Path.{_≡_, refl, sym, _∙_, subst}
 use lib.Dec.{eqb}
 use Rattle.answer.specs.Outcome.{Outcome, given, refused, ask, andThen}
 use Rattle.answer.specs.Choice.{pick}
-use Rattle.answer.proofs.Asked.{given-same, asked-rest}
+use Rattle.answer.proofs.Asked.{given-same}
 use Rattle.layout.specs.Layouts.{Layout, layoutOutcome, defaultLayout}
-use Rattle.edo_tritaves.specs.declared.Choices.{Choices}
 use Rattle.edo_tritaves.specs.Tritaves.{tritave, secondOf, choicesOf, isDivision, tritavesOf}
 use Rattle.edo_layouts.specs.declared.EdoLayout.{EdoLayout}
-use Rattle.edo_layouts.specs.Layouts.{tried, orElse, chainServed, chainOutcome}
+use Rattle.edo_layouts.specs.Layouts.{edoLayout, tried, orElse, chainServed, chainOutcome}
 use Rattle.edo_layouts.specs.Theorems.{NoFirst, Chosen, LayoutsAreChosen}
 
 no-both : {A : Type 0} {a : A} {q : ℕ} → refused q ≡ given a → ⊥
@@ -23,14 +22,14 @@ no-both e = let z : _≡_ {A = ℕ} 0 1 = cc in omega arith
 record Tried (n code k : ℕ) (second : Bool) (c : EdoLayout) : Type 0 where
   layout : Layout
   found : layoutOutcome (defaultLayout code n k) ≡ given layout
-  is : c ≡ record { layout = defaultLayout code n k; second = second; pattern = layout .pattern }
+  is : c ≡ edoLayout (defaultLayout code n k) second (layout .pattern)
 
 made : (n code k : ℕ) (second : Bool) (c : EdoLayout) → tried n code k second ≡ given c → Tried n code k second c
 unfolding tried
 made n code k second c e = by (layoutOutcome (defaultLayout code n k)) refl e
   where
     by : (o : Outcome Layout) → layoutOutcome (defaultLayout code n k) ≡ o
-        → andThen {B = EdoLayout} o (λ (l : Layout). given (record { layout = defaultLayout code n k; second = second; pattern = l .pattern })) ≡ given c
+        → andThen o (λ (l : Layout). given (edoLayout (defaultLayout code n k) second (l .pattern))) ≡ given c
         → Tried n code k second c
     by (given l) f g = record { layout = l; found = f; is = sym (given-same g) }
     by (refused q) f g = absurd (no-both g)
@@ -41,7 +40,7 @@ unfolding tried
 untried n code k second q e = by (layoutOutcome (defaultLayout code n k)) refl e
   where
     by : (o : Outcome Layout) → layoutOutcome (defaultLayout code n k) ≡ o
-        → andThen {B = EdoLayout} o (λ (l : Layout). given (record { layout = defaultLayout code n k; second = second; pattern = l .pattern })) ≡ refused q
+        → andThen o (λ (l : Layout). given (edoLayout (defaultLayout code n k) second (l .pattern))) ≡ refused q
         → (p : ℕ) × (layoutOutcome (defaultLayout code n k) ≡ refused p)
     by (given l) f g = absurd (no-both (sym g))
     by (refused p) f g = (p, f)
@@ -58,8 +57,8 @@ module _ (n code : ℕ) (c : EdoLayout) where
   first-chosen : tried n code (tritave n) false ≡ given c → Chosen n code c
   first-chosen e = chosen n code c (tritave n) false (made n code (tritave n) false c e) (inl (refl, refl))
 
-  served : (a b : Outcome EdoLayout) → tried n code (tritave n) false ≡ a → tried n code (secondOf n (tritave n)) true ≡ b → orElse a b ≡ given c
-      → Chosen n code c
+  served : (a b : Outcome EdoLayout) → tried n code (tritave n) false ≡ a → tried n code (secondOf n (tritave n)) true ≡ b
+      → orElse a b ≡ given c → Chosen n code c
   served (given x) b e f g = first-chosen (e ∙ g)
   served (refused q) (given x) e f g =
       let no = untried n code (tritave n) false q e in
@@ -72,7 +71,9 @@ module _ (n code : ℕ) (c : EdoLayout) where
   by-choices e = by (eqb (secondOf n (tritave n)) 0) e
     where
       by : (test : Bool)
-          → pick test (tried n code (tritave n) false) (orElse (tried n code (tritave n) false) (tried n code (secondOf n (tritave n)) true)) ≡ given c
+          → pick test (tried n code (tritave n) false)
+          (orElse (tried n code (tritave n) false) (tried n code (secondOf n (tritave n)) true))
+          ≡ given c
           → Chosen n code c
       by true f = first-chosen f
       by false f = served (tried n code (tritave n) false) (tried n code (secondOf n (tritave n)) true) refl refl f

@@ -67,15 +67,16 @@ module _ (n : ℕ) (t : Choices) (code : ℕ) where
 pub three-stored : (xs : List ℕ) (at : ℕ) (c : EdoLayout) (second : ℕ) → second ≡ one (c .second)
     → Wrote xs at (numbersOf c) (set (set (set xs at (c .layout .genchain)) (at + 1) (c .layout .tritave)) (at + 2) second) (at + 3)
 three-stored xs at c second e =
-    let a = set xs at (c .layout .genchain) in
-    let b = set a (at + 1) (c .layout .tritave) in
-    let two : Wrote xs at (c .layout .genchain ∷ c .layout .tritave ∷ []) b (at + 1 + 1)
-    = then (wrote-one xs at (c .layout .genchain)) (wrote-one a (at + 1) (c .layout .tritave)) in
-    let three : Wrote xs at (c .layout .genchain ∷ c .layout .tritave ∷ second ∷ []) (set b (at + 1 + 1) second) (at + 1 + 1 + 1)
-    = then two (wrote-one b (at + 1 + 1) second) in
-    let there : Wrote xs at (c .layout .genchain ∷ c .layout .tritave ∷ second ∷ []) (set b (at + 2) second) (at + 2 + 1)
-    = subst (λ (k : ℕ). Wrote xs at (c .layout .genchain ∷ c .layout .tritave ∷ second ∷ []) (set b k second) (k + 1)) (let q : at + 1 + 1 ≡ at + 2 = omega arith in q) three in
-    wrote-as (ap (λ (n : ℕ). c .layout .genchain ∷ c .layout .tritave ∷ n ∷ []) e) (record { content = there .content; end = refl })
+    let g = c .layout .genchain in
+    let k = c .layout .tritave in
+    let a = set xs at g in
+    let b = set a (at + 1) k in
+    let two : Wrote xs at (g ∷ k ∷ []) b (at + 1 + 1) = then (wrote-one xs at g) (wrote-one a (at + 1) k) in
+    let three : Wrote xs at (g ∷ k ∷ second ∷ []) (set b (at + 1 + 1) second) (at + 1 + 1 + 1) = then two (wrote-one b (at + 1 + 1) second) in
+    let place : at + 1 + 1 ≡ at + 2 = omega arith in
+    let there : Wrote xs at (g ∷ k ∷ second ∷ []) (set b (at + 2) second) (at + 2 + 1)
+    = subst (λ (o : ℕ). Wrote xs at (g ∷ k ∷ second ∷ []) (set b o second) (o + 1)) place three in
+    wrote-as (ap (λ (n : ℕ). g ∷ k ∷ n ∷ []) e) (record { content = there .content; end = refl })
 
 -- ---- of all chains
 
@@ -87,17 +88,19 @@ few-joined n t (suc k) =
     omega (arith, length-append (joined (chainNumbers n t) k) (chainNumbers n t k), few-joined n t k, few-numbers n t k)
 
 -- they stand at the front of a slice of 18
-module _ (n : ℕ) (t : Choices) {xs ys : List ℕ} {next : ℕ} (long : length xs ≡ 18) (w : Wrote xs 0 (joined (chainNumbers n t) 6) ys next) where
-  fits : length (joined (chainNumbers n t) 6) ≤ length xs
-  fits = omega (arith, few-joined n t 6)
+module _ (n : ℕ) (t : Choices) {xs ys : List ℕ} {next : ℕ} (long : length xs ≡ 18)
+    (w : Wrote xs 0 (joined (chainNumbers n t) 6) ys next)
+  where
+    fits : length (joined (chainNumbers n t) 6) ≤ length xs
+    fits = omega (arith, few-joined n t 6)
 
-  pub all-there : (next ≤ length ys) × (take next ys ≡ joined (chainNumbers n t) 6)
-  all-there =
-      let text = joined (chainNumbers n t) 6 in
-      let is : next ≡ length text = w .end ∙ zero-add (length text) in (
-        omega (arith, is, fits, wrote-length w),
-        ap (λ (k : ℕ). take k ys) is ∙ ap (take (length text)) (wrote-front fits w) ∙ take-append-seam text (drop (length text) xs),
-      )
+    pub all-there : (next ≤ length ys) × (take next ys ≡ joined (chainNumbers n t) 6)
+    all-there =
+        let text = joined (chainNumbers n t) 6 in
+        let is : next ≡ length text = w .end ∙ zero-add (length text) in (
+          omega (arith, is, fits, wrote-length w),
+          ap (λ (k : ℕ). take k ys) is ∙ ap (take (length text)) (wrote-front fits w) ∙ take-append-seam text (drop (length text) xs),
+        )
 
 module _ (n : ℕ) where
   pub find-refused : (q : ℕ) → refused q ≡ tritavesOf n → refused q ≡ findByEdo n

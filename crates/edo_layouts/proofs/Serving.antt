@@ -13,7 +13,7 @@ use Rattle.layout.specs.declared.IsomorphicLayout.{IsomorphicLayout}
 use Rattle.edo_tritaves.specs.declared.Choices.{Choices}
 use Rattle.edo_tritaves.specs.Tritaves.{tritavesOf}
 use Rattle.edo_layouts.specs.declared.EdoLayout.{EdoLayout}
-use Rattle.edo_layouts.specs.Layouts.{tried, orElse, chainServed, chainOutcome}
+use Rattle.edo_layouts.specs.Layouts.{edoLayout, tried, orElse, chainServed, chainOutcome}
 
 -- ---- one tritave
 
@@ -21,15 +21,15 @@ module _ (n code tritave : ℕ) (second : Bool) (r : IsomorphicLayout) (is : r �
   pub tried-refused : (q : ℕ) → refused q ≡ layoutOutcome r → refused q ≡ tried n code tritave second
   unfolding tried
   tried-refused q e =
-      ap (λ (o : Outcome Layout). andThen o (λ (l : Layout). given (record { layout = defaultLayout code n tritave; second = second; pattern = l .pattern })))
+      ap (λ (o : Outcome Layout). andThen o (λ (l : Layout). given (edoLayout (defaultLayout code n tritave) second (l .pattern))))
       (e ∙ ap layoutOutcome is)
 
   pub tried-given : (l : Layout) → given l ≡ layoutOutcome r
-      → given (record { layout = r; second = second; pattern = l .pattern }) ≡ tried n code tritave second
+      → given (edoLayout r second (l .pattern)) ≡ tried n code tritave second
   unfolding tried
   tried-given l e =
-      ap (λ (x : IsomorphicLayout). given (record { layout = x; second = second; pattern = l .pattern })) is
-      ∙ ap (λ (o : Outcome Layout). andThen o (λ (k : Layout). given (record { layout = defaultLayout code n tritave; second = second; pattern = k .pattern })))
+      ap (λ (x : IsomorphicLayout). given (edoLayout x second (l .pattern))) is
+      ∙ ap (λ (o : Outcome Layout). andThen o (λ (k : Layout). given (edoLayout (defaultLayout code n tritave) second (k .pattern))))
       (e ∙ ap layoutOutcome is)
 
 -- ---- the second alone, behind a refusal
@@ -86,7 +86,7 @@ unfolding tried
 tried-chain n code tritave second c e = by (layoutOutcome (defaultLayout code n tritave)) e
   where
     by : (o : Outcome Layout)
-        → given c ≡ andThen o (λ (l : Layout). given (record { layout = defaultLayout code n tritave; second = second; pattern = l .pattern }))
+        → given c ≡ andThen o (λ (l : Layout). given (edoLayout (defaultLayout code n tritave) second (l .pattern)))
         → c .layout .genchain ≡ code
     by (given l) f = ap (λ (x : EdoLayout). x .layout .genchain) (given-same f)
     by (refused q) f = absurd (let z : _≡_ {A = ℕ} 0 1 = cc in omega arith)
@@ -104,7 +104,8 @@ module _ (n code : ℕ) (c : EdoLayout) where
     where
       by : (test : Bool) → given c ≡ pick test (first n code t) (orElse (first n code t) (next n code t)) → c .layout .genchain ≡ code
       by true f = tried-chain n code (t .first) false c f
-      by false f = else-chain (first n code t) (next n code t) (tried-chain n code (t .first) false c) (tried-chain n code (t .second) true c) f
+      by false f =
+          else-chain (first n code t) (next n code t) (tried-chain n code (t .first) false c) (tried-chain n code (t .second) true c) f
 
   pub chain-is : given c ≡ chainOutcome n code → c .layout .genchain ≡ code
   unfolding chainOutcome

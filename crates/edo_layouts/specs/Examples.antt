@@ -7,7 +7,7 @@ use Rattle.answer.specs.Outcome.{Outcome, given, refused}
 use Rattle.mos.specs.declared.Mos.{Mos}
 use Rattle.mos.specs.Patterns.{mos}
 use Rattle.edo_layouts.specs.declared.EdoLayout.{EdoLayout}
-use Rattle.edo_layouts.specs.Layouts.{chainOutcome, findByEdo}
+use Rattle.edo_layouts.specs.Layouts.{edoLayout, chainOutcome, findByEdo}
 
 pub record ListExample : Type 0 where
   pub steps : ℕ
@@ -19,7 +19,7 @@ listExamples =
     -- 12 gives Meantone[7] and Meantone[5] with 19; 31 with 49
     record { steps = 12; layouts = given (1 ∷ 19 ∷ 0 ∷ 2 ∷ 19 ∷ 0 ∷ []) }
     ∷ record { steps = 31; layouts = given (1 ∷ 49 ∷ 0 ∷ 2 ∷ 49 ∷ 0 ∷ []) }
-    -- the second choice serves two chains of 13, and one of 16; Meantone[5] would have a layout with 13 and 20 too, but the first serves it
+    -- the second choice serves two chains of 13, and one of 16
     ∷ record { steps = 13; layouts = given (0 ∷ 20 ∷ 1 ∷ 1 ∷ 20 ∷ 1 ∷ 2 ∷ 21 ∷ 0 ∷ 4 ∷ 21 ∷ 0 ∷ []) }
     ∷ record { steps = 16; layouts = given (0 ∷ 25 ∷ 0 ∷ 1 ∷ 25 ∷ 0 ∷ 2 ∷ 25 ∷ 0 ∷ 3 ∷ 26 ∷ 1 ∷ []) }
     -- no chain has a layout
@@ -35,7 +35,7 @@ pub record ChainExample : Type 0 where
 
 abbrev pub of : (code octave tritave start : ℕ) → Bool → Mos → Outcome EdoLayout
 of code octave tritave start second pattern =
-    given (record { layout = record { genchain = code; octave = octave; tritave = tritave; start = start }; second = second; pattern = pattern })
+    given (edoLayout (record { genchain = code; octave = octave; tritave = tritave; start = start }) second pattern)
 
 abbrev pub chainExamples : List ChainExample
 chainExamples =
@@ -54,5 +54,6 @@ chainExamples =
 
 -- Theorem.
 pub record ExamplesHold : Type 0 where
-  pub chains : map (λ (e : ChainExample). chainOutcome (e .steps) (e .chain)) chainExamples ≡ map (λ (e : ChainExample). e .layout) chainExamples
+  pub chains : map (λ (e : ChainExample). chainOutcome (e .steps) (e .chain)) chainExamples
+      ≡ map (λ (e : ChainExample). e .layout) chainExamples
   pub lists : map (λ (e : ListExample). findByEdo (e .steps)) listExamples ≡ map (λ (e : ListExample). e .layouts) listExamples

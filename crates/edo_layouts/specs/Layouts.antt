@@ -6,7 +6,9 @@ use lib.Dec.{eqb}
 use Rattle.answer.specs.Outcome.{Outcome, given, refused, ask, andThen}
 use Rattle.answer.specs.Refusals.{numberOf}
 use Rattle.answer.specs.Choice.{pick}
+use Rattle.layout.specs.declared.IsomorphicLayout.{IsomorphicLayout}
 use Rattle.layout.specs.Layouts.{Layout, layoutOutcome, defaultLayout}
+use Rattle.mos.specs.declared.Mos.{Mos}
 use Rattle.edo_tritaves.specs.declared.Choices.{Choices}
 use Rattle.edo_tritaves.specs.Tritaves.{isDivision, tritavesOf}
 use Rattle.edo_layouts.specs.declared.EdoLayout.{EdoLayout}
@@ -15,12 +17,16 @@ use Rattle.edo_layouts.specs.declared.EdoAnswer.the-variants as Answer
 
 -- ---- one chain
 
--- The layout with so many steps to the tritave, at document 01's start; `second` says whether that is the second choice.
+-- A layout, whether its tritave is the second choice, and its pattern.
+abbrev pub edoLayout : IsomorphicLayout → Bool → Mos → EdoLayout
+edoLayout r second pattern = record { layout = r; second = second; pattern = pattern }
+
+-- The layout with so many steps to the tritave, at document 01's start.
 unfoldable pub tried : (n code tritave : ℕ) (second : Bool) → Outcome EdoLayout
 unfolding layoutOutcome
 tried n code tritave second =
     andThen (layoutOutcome (defaultLayout code n tritave))
-    (λ (l : Layout). given (record { layout = defaultLayout code n tritave; second = second; pattern = l .pattern }))
+    (λ (l : Layout). given (edoLayout (defaultLayout code n tritave) second (l .pattern)))
 
 -- "It serves a chain only where k gives no layout": the second is looked at where the first is refused. Where it is refused too, the
 -- first's refusal stays.

@@ -1,8 +1,7 @@
 -- A layout's line, by the places of its two names in the table, and how long it can be.
-use Prim.Native.Nat.{ℕ, zero, suc, _+_, _*_, _≤_, _<_}
-use native.Mathlib.Numerals.{add-one}
+use Prim.Native.Nat.{ℕ, _+_, _*_, _≤_, _<_}
 use native.Mathlib.Omega.{arith}
-use mathlib.Core.Path.{_≡_, refl, sym, ap, ap₂, _∙_}
+use mathlib.Core.Path.{_≡_, sym, ap, ap₂, _∙_}
 use mathlib.Core.List.{List, [], _∷_, _++_}
 use lib.ListN.{length, length-append}
 use Rattle.answer.specs.Outcome.{Outcome, given, refused}
@@ -10,7 +9,6 @@ use Rattle.genchain.specs.Chains.{chainOf}
 use Rattle.genchain_names.specs.Texts.{textAt, PlaceOf}
 use Rattle.genchain_names.proofs.TextTable.{texts-at, text-small}
 use Rattle.layout.specs.ScaleNames.{scaleName}
-use Rattle.line.specs.Lines.{space, lineFeed}
 use Rattle.text.specs.Decimal.{digits}
 use Rattle.text.proofs.Digits.{digits-length}
 use Rattle.edo_tritaves.specs.declared.Choices.{Choices}
@@ -33,13 +31,16 @@ module _ (n : ℕ) (t : Choices) (code : ℕ) where
   unfolding chainLine
   no-line q e = sym (flat-none layoutLine) ∙ ap (λ (o : Outcome EdoLayout). flat layoutLine (listed o)) e
 
-  module _ (h : code < 6) (c : EdoLayout) (e : given c ≡ chainServed n code t) (scale : ℕ) (p : PlaceOf (scaleName code (c .pattern)) scale) where
-    line-of : lineWith code (c .layout .octave) (c .layout .tritave) (textAt (1 + 3 * code)) (textAt scale) ≡ layoutLine c
-    unfolding layoutLine
-    line-of =
-        ap₂ (λ (x y : List ℕ). lineWith code (c .layout .octave) (c .layout .tritave) x y) (texts-at code h .name) (p .is)
-        ∙ ap (λ (k : ℕ). lineWith k (c .layout .octave) (c .layout .tritave) (chainOf k .name) (scaleName k (c .pattern))) (sym (served-chain n code c t e))
+  module _ (h : code < 6) (c : EdoLayout) (e : given c ≡ chainServed n code t) (scale : ℕ)
+      (p : PlaceOf (scaleName code (c .pattern)) scale)
+    where
+      line-of : lineWith code (c .layout .octave) (c .layout .tritave) (textAt (1 + 3 * code)) (textAt scale) ≡ layoutLine c
+      unfolding layoutLine
+      line-of =
+          ap₂ (λ (x y : List ℕ). lineWith code (c .layout .octave) (c .layout .tritave) x y) (texts-at code h .name) (p .is)
+          ∙ ap (λ (k : ℕ). lineWith k (c .layout .octave) (c .layout .tritave) (chainOf k .name) (scaleName k (c .pattern)))
+          (sym (served-chain n code c t e))
 
-    pub line-is : lineWith code (c .layout .octave) (c .layout .tritave) (textAt (1 + 3 * code)) (textAt scale) ≡ chainLine n t code
-    unfolding chainLine
-    line-is = line-of ∙ sym (flat-one layoutLine c) ∙ ap (λ (o : Outcome EdoLayout). flat layoutLine (listed o)) e
+      pub line-is : lineWith code (c .layout .octave) (c .layout .tritave) (textAt (1 + 3 * code)) (textAt scale) ≡ chainLine n t code
+      unfolding chainLine
+      line-is = line-of ∙ sym (flat-one layoutLine c) ∙ ap (λ (o : Outcome EdoLayout). flat layoutLine (listed o)) e

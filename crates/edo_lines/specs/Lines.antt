@@ -11,14 +11,18 @@ use Rattle.edo_layouts.specs.declared.EdoLayout.{EdoLayout}
 use Rattle.edo_layouts.specs.Layouts.{layoutsOf, flat}
 use Rattle.edo_tritaves.specs.Tritaves.{isDivision}
 
+-- Three numbers, each with a space behind it.
+abbrev pub numbersPart : ℕ → ℕ → ℕ → List ℕ
+numbersPart a b c = (digits a ++ (space ∷ [])) ++ (digits b ++ (space ∷ [])) ++ (digits c ++ (space ∷ []))
+
+-- Two names, a space between and a line feed behind.
+abbrev pub namesPart : List ℕ → List ℕ → List ℕ
+namesPart chain scale = chain ++ (space ∷ []) ++ scale ++ (lineFeed ∷ [])
+
 -- Chain code, octave, tritave, and two names, one space between.
 unfoldable pub lineWith : (code octave tritave : ℕ) (chain scale : List ℕ) → List ℕ
 unfolding digits
-lineWith code octave tritave chain scale =
-    (digits code ++ (space ∷ []))
-    ++ (digits octave ++ (space ∷ []))
-    ++ (digits tritave ++ (space ∷ []))
-    ++ (chain ++ (space ∷ []) ++ scale ++ (lineFeed ∷ []))
+lineWith code octave tritave chain scale = numbersPart code octave tritave ++ namesPart chain scale
 
 -- A layout's line: "1 31 49 Meantone[7] diatonic".
 unfoldable pub layoutLine : EdoLayout → List ℕ

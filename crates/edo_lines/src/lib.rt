@@ -1,8 +1,8 @@
 // What the program `edo` prints for a line with a number of steps to the octave (document 02, W-202).
 //
 // Holds the text: a line for each layout, with chain code, octave, tritave, chain name and scale name, or the line of a refusal.
-// Parts, and no entry points: `put_output` asks for a slice of 264 bytes, which holds any such text: six lines of at most 44, with two names
-// of at most 12 bytes and three numbers of at most five digits.
+// Parts, and no entry points: `put_output` asks for a slice of 264 bytes, which holds any such text: six lines of at most 44, with two
+// names of at most 12 bytes and three numbers of at most five digits.
 // specs/: Lines defines the text, Theorems states which bytes of a line matter, Examples has some lines.
 // Nothing is assumed.
 use answer::NumberAnswer;
@@ -13,20 +13,17 @@ use genchain_names::texts;
 use text::decimal;
 use text::writer::put_byte;
 ghost use Prim.Native.Nat.{_+_, _*_, _≤_, _<_};
-ghost use mathlib.Core.List.{[], _∷_, _++_};
 ghost use lib.ListN.{length};
 ghost use Rattle.genchain_names.specs.Texts.{textAt};
 ghost use Rattle.layout_table.specs.Tables.{outputOf};
-ghost use Rattle.line.specs.Lines.{space, lineFeed};
-ghost use Rattle.text.specs.Decimal.{digits};
 ghost use Rattle.text.specs.Writing.{Wrote, joined};
-ghost use Rattle.edo_lines.specs.Lines.{lineWith, divisionLines, output};
+ghost use Rattle.edo_lines.specs.Lines.{numbersPart, namesPart, lineWith, divisionLines, output};
 ghost use Rattle.edo_lines.specs.Parts.{chainLine};
 
 // Three numbers, with a space behind each; the place after them.
 fn put_numbers(out: &mut [u8], at: usize, genchain: u16, octave: u16, tritave: u16) -> usize
     requires { ⌜ at + 18 ≤ length (now out) ⌝ }
-    ensures { λ r. ⌜ Wrote (now (out .entry)) at ((digits genchain ++ (space ∷ [])) ++ (digits octave ++ (space ∷ [])) ++ (digits tritave ++ (space ∷ []))) (now (out .exit)) r × (r ≤ at + 18) ⌝ }
+    ensures { λ r. ⌜ Wrote (now (out .entry)) at (numbersPart genchain octave tritave) (now (out .exit)) r × (r ≤ at + 18) ⌝ }
 {
     let first = decimal::put_number_then(out, at, genchain, b' ');
     let second = decimal::put_number_then(out, first, octave, b' ');
@@ -36,7 +33,7 @@ fn put_numbers(out: &mut [u8], at: usize, genchain: u16, octave: u16, tritave: u
 // Two names by their places in the table, a space between and a line feed behind; the place after it.
 fn put_names(out: &mut [u8], at: usize, chain: u16, scale: u16) -> usize
     requires { ⌜ (chain < 19) × (scale < 19) × (at + 26 ≤ length (now out)) ⌝ }
-    ensures { λ r. ⌜ Wrote (now (out .entry)) at (textAt chain ++ (space ∷ []) ++ textAt scale ++ (lineFeed ∷ [])) (now (out .exit)) r × (r ≤ at + 26) ⌝ }
+    ensures { λ r. ⌜ Wrote (now (out .entry)) at (namesPart (textAt chain) (textAt scale)) (now (out .exit)) r × (r ≤ at + 26) ⌝ }
 {
     let named = texts::put(out, at, chain);
     let between = put_byte(out, named, b' ');

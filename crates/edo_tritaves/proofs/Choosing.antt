@@ -1,13 +1,13 @@
 -- The number that meets the rule is the first that does; from there to each way in which the choices end.
 use mathlib.Core.Path.{_≡_, refl, sym, ap, _∙_, subst}
-use mathlib.Core.Bool.{Bool, true, false, _&&_}
-use mathlib.Core.List.{List, [], _∷_}
+use mathlib.Core.Bool.{Bool, true, false}
+use mathlib.Core.List.{[], _∷_}
 use Prim.Native.Nat.{ℕ, _+_, _*_, _-_, _≤_, _<_, _^_}
 use native.Mathlib.Nat.{pow-le-pow-right}
 use native.Mathlib.Omega.{arith}
-use lib.Dec.{T, ltb, leb}
+use lib.Dec.{T, ltb}
 use borrow.Author.Tests.{lt-ltb, le-ltb, le-leb, lt-leb, ltb-true, eq-eqb, ne-eqb}
-use Rattle.answer.specs.Outcome.{Outcome, given, refused, ask}
+use Rattle.answer.specs.Outcome.{given, refused, ask}
 use Rattle.answer.specs.Choice.{pick}
 use Rattle.answer.proofs.Asked.{and-left, and-right}
 use Rattle.pergen.specs.Pergen.{first}

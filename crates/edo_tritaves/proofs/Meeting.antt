@@ -1,6 +1,6 @@
 -- Some number meets the rule, whatever n from 1 on is: 3 to the power 2n is odd, so it is no power of 2, and going up by two powers at a
 -- time one passes it.
-use mathlib.Core.Path.{_≡_, refl, sym, ap, _∙_, subst}
+use mathlib.Core.Path.{_≡_, refl, ap, _∙_, subst}
 use mathlib.Core.Bool.{Bool, true, false}
 use Prim.Native.Nat.{ℕ, zero, suc, _+_, _*_, _-_, _≤_, _<_, _^_}
 use native.Mathlib.Nat.{pow-suc, pow-zero}
@@ -9,7 +9,7 @@ use lib.Dec.{leb}
 use borrow.Author.Tests.{leb-true, leb-false}
 use Rattle.answer.specs.Choice.{pick}
 use Rattle.edo_tritaves.specs.Tritaves.{TritaveRule, tritave, goesUp, goesDown, secondOf}
-use Rattle.edo_tritaves.specs.Theorems.{TableIsTheRule, EveryDivisionMeetsTheRule}
+use Rattle.edo_tritaves.specs.Theorems.{EveryDivisionMeetsTheRule}
 use Rattle.edo_tritaves.proofs.Choosing.{tritave-is, one-tritave, never-both}
 
 -- ---- powers of 3 and of 2

@@ -1,6 +1,6 @@
 -- Worked examples, and one theorem that the definitions give them.
 use Prim.Native.Nat.{ℕ}
-use mathlib.Core.List.{List, [], _∷_, map}
+use mathlib.Core.List.{[], _∷_, map}
 use mathlib.Core.Path.{_≡_}
 use Rattle.answer.specs.Outcome.{Outcome, given, refused}
 use Rattle.edo_tritaves.specs.declared.Choices.{Choices}

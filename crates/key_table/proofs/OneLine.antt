@@ -1,10 +1,10 @@
 -- A line's first 18 bytes say what is printed, and so does the first line of any bytes.
 use Prim.Native.Nat.{ℕ}
 use mathlib.Core.Path.{_≡_, ap}
-use mathlib.Core.List.{List, [], _∷_, _++_}
+use mathlib.Core.List.{List}
 use Rattle.answer.specs.Outcome.{Outcome, andThen}
 use Rattle.line.specs.declared.Line.{Line}
-use Rattle.line.specs.Lines.{lineFeed, lineOutcome}
+use Rattle.line.specs.Lines.{lineOutcome}
 use Rattle.line.proofs.Enough.{later-bytes-ignored}
 use Rattle.line_input.proofs.Enough.{first-line-is-enough}
 use Rattle.layout_table.specs.Tables.{layoutOn, getTable, outputOf, output}

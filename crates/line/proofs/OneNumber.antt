@@ -3,7 +3,7 @@ use Prim.Native.Nat.{ℕ}
 use mathlib.Core.Bool.{Bool, true, false}
 use mathlib.Core.Path.{_≡_, refl, sym, ap, _∙_}
 use mathlib.Core.List.{List}
-use Rattle.answer.specs.Outcome.{Outcome, given, refused, ask}
+use Rattle.answer.specs.Outcome.{given, refused, ask}
 use Rattle.text.specs.Decimal.{valueAt}
 use Rattle.text.specs.declared.decimal.Reading.{Reading}
 use Rattle.text.specs.declared.decimal.Reading.the-variants.{Number, Nothing}

@@ -6,7 +6,7 @@ use mathlib.Core.List.{List, [], _∷_, _++_, append-nil}
 use lib.Seq.{append-snoc}
 use lib.Dec.{eqb}
 use borrow.Author.Tests.{ne-eqb}
-use Rattle.line.specs.Lines.{lineFeed, lineOutcome}
+use Rattle.line.specs.Lines.{lineFeed}
 use Rattle.line_input.specs.Reading.{firstLine}
 
 pub first-feed : (rest : List ℕ) → firstLine (lineFeed ∷ rest) ≡ lineFeed ∷ []

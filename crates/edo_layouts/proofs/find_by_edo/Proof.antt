@@ -21,13 +21,23 @@ write-layouts-requires : tie.Need-write-layouts-requires
 write-layouts-requires c κs = search needs
 
 returns : tie.Need-returns
-returns c = filled-refused _ _ (refused-in-room _ _ _ (find-refused _ _ (sym (ap tritavesOutcome (c .before .q .given .1)) ∙ c .before .before .before .tritaves .ensures))) refl
+returns c =
+    filled-refused _ _
+    (refused-in-room _ _ _
+    (find-refused _ _ (sym (ap tritavesOutcome (c .before .q .given .1)) ∙ c .before .before .before .tritaves .ensures)))
+    refl
 
 same-length : tie.Need-same-length
 same-length c = search needs
 
 returns-2 : tie.Need-returns-2
-returns-2 c = filled-as (find-in-room _ _ (sym (ap tritavesOutcome (c .before .before .before .before .before .choices .given .1)) ∙ c .before .before .before .before .before .before .before .tritaves .ensures) _) (c .before .before .write-layouts .ensures)
+returns-2 c =
+    filled-as
+    (find-in-room _ _
+    (sym (ap tritavesOutcome (c .before .before .before .before .before .choices .given .1))
+    ∙ c .before .before .before .before .before .before .before .tritaves .ensures)
+    _)
+    (c .before .before .write-layouts .ensures)
 
 pub find-by-edo-spec : {M : Type 1} → statement M
 find-by-edo-spec =

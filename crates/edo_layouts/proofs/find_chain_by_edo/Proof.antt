@@ -22,7 +22,10 @@ returns : tie.Need-returns
 returns c = chain-refused _ _ _ (sym (ap tritavesOutcome (c .before .q .given .1)) ∙ c .before .before .before .tritaves .ensures)
 
 returns-2 : tie.Need-returns-2
-returns-2 c = c .serve .ensures ∙ chain-served _ _ _ (sym (ap tritavesOutcome (c .before .before .choices .given .1)) ∙ c .before .before .before .before .tritaves .ensures)
+returns-2 c =
+    c .serve .ensures
+    ∙ chain-served _ _ _
+    (sym (ap tritavesOutcome (c .before .before .choices .given .1)) ∙ c .before .before .before .before .tritaves .ensures)
 
 pub find-chain-by-edo-spec : {M : Type 1} → statement M
 find-chain-by-edo-spec =

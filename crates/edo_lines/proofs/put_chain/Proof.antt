@@ -24,7 +24,12 @@ put-line-requires : tie.Need-put-line-requires
 put-line-requires c κs = search needs
 
 returns : tie.Need-returns
-returns c = (wrote-as (no-line _ _ _ _ (sym (ap edoOutcome (c .enum-told .given .1)) ∙ c .before .before .serve .ensures)) (wrote-none _ _), omega arith)
+returns c = (
+  wrote-as
+      (no-line _ _ _ _ (sym (ap edoOutcome (c .enum-told .given .1)) ∙ c .before .before .serve .ensures))
+      (wrote-none _ _),
+  omega arith,
+)
 
 same-length : tie.Need-same-length
 same-length c = search needs

@@ -49,8 +49,14 @@ same-length-2 c = search needs
 
 returns-2 : tie.Need-returns-2
 returns-2 c =
-    let w = c .before .before .put-chains .ensures in
-    (wrote-as (division-given _ _ (sym (ap tritavesOutcome (c .before .before .before .before .before .choices .given .1)) ∙ c .before .before .before .before .before .before .before .tritaves .ensures)) (w .0), w .1)
+    let w = c .before .before .put-chains .ensures in (
+      wrote-as
+          (division-given _ _
+          (sym (ap tritavesOutcome (c .before .before .before .before .before .choices .given .1))
+          ∙ c .before .before .before .before .before .before .before .tritaves .ensures))
+          (w .0),
+      w .1,
+    )
 
 pub put-division-spec : {M : Type 1} → statement M
 put-division-spec =

@@ -1,6 +1,6 @@
 -- The numbers, then the names.
 use native.Mathlib.Omega.{arith}
-use Rattle.text.proofs.Writing.{then, wrote-length}
+use Rattle.text.proofs.Writing.{then}
 use Rattle.edo_lines.specs.Lines.{lineWith}
 use borrow.Author.Needs.{needs}
 use Rattle.edo_lines.proofs.put_line.Statement.{statement}

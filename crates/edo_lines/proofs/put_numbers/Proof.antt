@@ -42,7 +42,15 @@ returns c =
     let e = d .before .before .before .before in
     let f = e .before .before .before .before in (
       then (then (f .put-number-then .ensures) (e .put-number-then2 .ensures)) (d .put-number-then3 .ensures),
-      omega (arith, f .put-number-then .ensures .end, e .put-number-then2 .ensures .end, d .put-number-then3 .ensures .end, short (s .args .genchain) space h0, short (s .args .octave) space h1, short (s .args .tritave) space h2),
+      omega (
+        arith,
+        f .put-number-then .ensures .end,
+        e .put-number-then2 .ensures .end,
+        d .put-number-then3 .ensures .end,
+        short (s .args .genchain) space h0,
+        short (s .args .octave) space h1,
+        short (s .args .tritave) space h2,
+      ),
     )
 
 pub put-numbers-spec : {M : Type 1} → statement M

@@ -49,8 +49,14 @@ same-length-2 c = search needs
 
 returns-2 : tie.Need-returns-2
 returns-2 c =
-    let w = c .before .before .put-division .ensures in
-    (wrote-as (output-given _ _ (sym (ap numberOutcome (c .before .before .before .before .before .n .given .1)) ∙ c .before .before .before .before .before .before .before .parse-number .ensures)) (w .0), w .1)
+    let w = c .before .before .put-division .ensures in (
+      wrote-as
+          (output-given _ _
+          (sym (ap numberOutcome (c .before .before .before .before .before .n .given .1))
+          ∙ c .before .before .before .before .before .before .before .parse-number .ensures))
+          (w .0),
+      w .1,
+    )
 
 pub put-output-spec : {M : Type 1} → statement M
 put-output-spec =

@@ -22,7 +22,11 @@ returns : tie.Need-returns
 returns c = counts-none _ _ _ _ (sym (ap edoOutcome (c .enum-told .given .1)) ∙ c .before .before .find-chain-by-edo .ensures)
 
 returns-2 : tie.Need-returns-2
-returns-2 c = counts-one _ _ _ _ _ (sym (ap edoOutcome (c .before .before .before .found .given .1)) ∙ c .before .before .before .before .before .find-chain-by-edo .ensures) (c .count-pattern .ensures)
+returns-2 c =
+    counts-one _ _ _ _ _
+    (sym (ap edoOutcome (c .before .before .before .found .given .1))
+    ∙ c .before .before .before .before .before .find-chain-by-edo .ensures)
+    (c .count-pattern .ensures)
 
 pub count-chain-spec : {M : Type 1} → statement M
 count-chain-spec =

@@ -14,13 +14,22 @@ add-t5 : tie.Need-add-t5
 add-t5 c = search needs
 
 returns-2 : tie.Need-returns-2
-returns-2 c = side-below (c .before .before .before .before .before .args .past) (c .before .before .before .before .before .args .pattern) (c .before .if2 .taken)
+returns-2 c =
+    side-below
+    (c .before .before .before .before .before .args .past)
+    (c .before .before .before .before .before .args .pattern)
+    (c .before .if2 .taken)
 
 add-t6 : tie.Need-add-t6
 add-t6 c = search needs
 
 returns-3 : tie.Need-returns-3
-returns-3 c = side-equal (c .before .before .before .before .before .args .past) (c .before .before .before .before .before .args .pattern) (c .before .before .before .if1 .left) (c .before .if2 .left)
+returns-3 c =
+    side-equal
+    (c .before .before .before .before .before .args .past)
+    (c .before .before .before .before .before .args .pattern)
+    (c .before .before .before .if1 .left)
+    (c .before .if2 .left)
 
 pub count-pattern-spec : {M : Type 1} → statement M
 count-pattern-spec = tie.close (tie.spec add-t4 returns add-t5 returns-2 add-t6 returns-3)

@@ -49,7 +49,9 @@ returns c =
     let e = d .before .before .before .before in
     let f = e .before .before .before .before in
     let g = f .before .before .before .before in
-    then (then (then (g .put-number-then .ensures) (f .put-number-then2 .ensures)) (e .put-number-then3 .ensures)) (d .put-number-then4 .ensures)
+    then
+    (then (then (g .put-number-then .ensures) (f .put-number-then2 .ensures)) (e .put-number-then3 .ensures))
+    (d .put-number-then4 .ensures)
 
 pub put-line-spec : {M : Type 1} → statement M
 put-line-spec =

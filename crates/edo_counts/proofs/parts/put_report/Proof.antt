@@ -1,5 +1,5 @@
 -- What is written is the lines of the chains so far.
-use Prim.Native.Nat.{ℕ, _*_, _≤_, _-_}
+use Prim.Native.Nat.{_*_, _≤_, _-_}
 use mathlib.Core.Path.{_≡_, refl, ap, _∙_}
 use native.Mathlib.Omega.{arith}
 use native.Mathlib.Nat.{le-antisymm}
@@ -48,7 +48,8 @@ same-length : tie.Need-same-length Inv-loop μ-loop
 same-length c = omega arith
 
 returns : tie.Need-returns Inv-loop μ-loop
-returns c = wrote-as (ap (joined chainLine) (le-antisymm (c .before .loop .inv .2) (c .loop-test .left)) ∙ report-is) (c .before .loop .inv .0)
+returns c =
+    wrote-as (ap (joined chainLine) (le-antisymm (c .before .loop .inv .2) (c .loop-test .left)) ∙ report-is) (c .before .loop .inv .0)
 
 pub put-report-spec : {M : Type 1} → statement M
 put-report-spec =

@@ -21,7 +21,8 @@ add-count-chain : tie.Need-add-count-chain Inv-loop μ-loop
 add-count-chain c = omega arith
 
 count-chain-requires : tie.Need-count-chain-requires Inv-loop μ-loop
-count-chain-requires c κs = tally-small _ (c .before .before .pre) (c .before .loop .before) _ (c .before .loop .inv .0) (c .loop-test .taken)
+count-chain-requires c κs =
+    tally-small _ (c .before .before .pre) (c .before .loop .before) _ (c .before .loop .inv .0) (c .loop-test .taken)
 
 add-before : tie.Need-add-before Inv-loop μ-loop
 add-before c = omega arith
@@ -30,10 +31,15 @@ loop-less : tie.Need-loop-less Inv-loop μ-loop
 loop-less c = omega arith
 
 loop-again : tie.Need-loop-again Inv-loop μ-loop
-loop-again c = (tally-more _ (c .before .before .before .pre) _ _ _ (c .before .before .loop .inv .0) (c .count-chain .ensures), omega arith)
+loop-again c =
+    (tally-more _ (c .before .before .before .pre) _ _ _ (c .before .before .loop .inv .0) (c .count-chain .ensures), omega arith)
 
 returns : tie.Need-returns Inv-loop μ-loop
-returns c = c .before .loop .inv .0 ∙ ap (λ (k : ℕ). tallyOf (c .before .before .args .genchain) (allLayouts k)) (le-antisymm (c .before .loop .inv .1) (c .loop-test .left))
+returns c =
+    c .before .loop .inv .0
+    ∙ ap
+    (λ (k : ℕ). tallyOf (c .before .before .args .genchain) (allLayouts k))
+    (le-antisymm (c .before .loop .inv .1) (c .loop-test .left))
 
 pub tally-chain-spec : {M : Type 1} → statement M
 tally-chain-spec =

@@ -16,7 +16,10 @@ enum-known-q : tie.Need-enum-known-q
 enum-known-q c = search needs
 
 returns : tie.Need-returns
-returns c = no-second _ _ _ _ (sym (ap edoOutcome (c .before .before .before .q .given .1)) ∙ c .before .before .before .before .before .try-tritave .ensures) (c .if1 .taken)
+returns c =
+    no-second _ _ _ _
+    (sym (ap edoOutcome (c .before .before .before .q .given .1)) ∙ c .before .before .before .before .before .try-tritave .ensures)
+    (c .if1 .taken)
 
 try-second-requires : tie.Need-try-second-requires
 try-second-requires c κs = search needs
@@ -25,7 +28,11 @@ returns-2 : tie.Need-returns-2
 returns-2 c = served-first _ _ _ _ (sym (ap edoOutcome (c .before .found .given .1)) ∙ c .before .before .before .try-tritave .ensures)
 
 returns-3 : tie.Need-returns-3
-returns-3 c = served-second _ _ _ _ _ (sym (ap edoOutcome (c .before .before .before .before .q .given .1)) ∙ c .before .before .before .before .before .before .try-tritave .ensures) (c .before .if1 .left) (c .try-second .ensures)
+returns-3 c =
+    served-second _ _ _ _ _
+    (sym (ap edoOutcome (c .before .before .before .before .q .given .1))
+    ∙ c .before .before .before .before .before .before .try-tritave .ensures)
+    (c .before .if1 .left) (c .try-second .ensures)
 
 pub serve-spec : {M : Type 1} → statement M
 serve-spec =

@@ -19,10 +19,18 @@ enum-known-found : tie.Need-enum-known-found
 enum-known-found c = search needs
 
 returns : tie.Need-returns
-returns c = tried-refused _ _ _ _ _ (c .before .before .before .before .default-layout .ensures) _ (sym (ap foundOutcome (c .before .q .given .1)) ∙ c .before .before .before .ask .ensures)
+returns c =
+    tried-refused _ _ _ _ _
+    (c .before .before .before .before .default-layout .ensures)
+    _
+    (sym (ap foundOutcome (c .before .q .given .1)) ∙ c .before .before .before .ask .ensures)
 
 returns-2 : tie.Need-returns-2
-returns-2 c = tried-given _ _ _ _ _ (c .before .before .before .before .before .default-layout .ensures) _ (sym (ap foundOutcome (c .before .before .found .given .1)) ∙ c .before .before .before .before .ask .ensures)
+returns-2 c =
+    tried-given _ _ _ _ _
+    (c .before .before .before .before .before .default-layout .ensures)
+    _
+    (sym (ap foundOutcome (c .before .before .found .given .1)) ∙ c .before .before .before .before .ask .ensures)
 
 pub try-tritave-spec : {M : Type 1} → statement M
 try-tritave-spec =

@@ -1,7 +1,5 @@
 -- At most 18 numbers are made; then comes question 10.
-use Prim.Native.Nat.{_≤_}
 use mathlib.Core.Path.{refl, sym, ap}
-use native.Mathlib.Omega.{arith}
 use lib.Seq.{length-take-le}
 use Rattle.answer.specs.Lent.{heldIn}
 use Rattle.layout.proofs.Calls.{filled-as}
@@ -30,7 +28,9 @@ same-length c = search needs
 
 returns : tie.Need-returns
 returns c =
-    filled-as (ap (heldIn _) (all-there _ _ refl (c .before .before .before .before .before .before .put-chains .ensures) .1)) (c .before .before .fill .ensures)
+    filled-as
+    (ap (heldIn _) (all-there _ _ refl (c .before .before .before .before .before .before .put-chains .ensures) .1))
+    (c .before .before .fill .ensures)
 
 pub write-layouts-spec : {M : Type 1} → statement M
 write-layouts-spec =

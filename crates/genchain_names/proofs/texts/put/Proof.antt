@@ -4,7 +4,7 @@ use native.Mathlib.Omega.{arith}
 use lib.ListN.{length}
 use lib.Seq.{length-take-le}
 use Rattle.text.proofs.Writing.{wrote-as}
-use Rattle.genchain_names.proofs.TextTable.{row-count, row-small, row-size, row-text}
+use Rattle.genchain_names.proofs.TextTable.{row-small, row-size, row-text}
 use borrow.Author.Needs.{needs}
 use Rattle.genchain_names.proofs.texts.put.Statement.{statement}
 use Rattle.genchain_names.proofs.texts.put.Tie as tie

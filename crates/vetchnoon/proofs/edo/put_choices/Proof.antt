@@ -17,7 +17,14 @@ same-length : tie.Need-same-length
 same-length c = search needs
 
 returns : tie.Need-returns
-returns c = fills-as (ap given (one-number (c .before .before .before .before .before .before .before .before .args .choices) (c .before .before .before .before .before .if1 .taken))) (c .before .before .put .ok) (c .before .before .put .ensures)
+returns c =
+    fills-as
+    (ap given
+    (one-number
+    (c .before .before .before .before .before .before .before .before .args .choices)
+    (c .before .before .before .before .before .if1 .taken)))
+    (c .before .before .put .ok)
+    (c .before .before .put .ensures)
 
 slice-aggregate-put-2 : tie.Need-slice-aggregate-put-2
 slice-aggregate-put-2 c = search needs
@@ -29,7 +36,14 @@ same-length-2 : tie.Need-same-length-2
 same-length-2 c = search needs
 
 returns-2 : tie.Need-returns-2
-returns-2 c = fills-as (ap given (two-numbers (c .before .before .before .before .before .before .before .before .args .choices) (c .before .before .before .before .before .if1 .left))) (c .before .before .put2 .ok) (c .before .before .put2 .ensures)
+returns-2 c =
+    fills-as
+    (ap given
+    (two-numbers
+    (c .before .before .before .before .before .before .before .before .args .choices)
+    (c .before .before .before .before .before .if1 .left)))
+    (c .before .before .put2 .ok)
+    (c .before .before .put2 .ensures)
 
 pub put-choices-spec : {M : Type 1} → statement M
 put-choices-spec =

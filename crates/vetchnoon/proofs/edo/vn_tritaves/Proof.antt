@@ -25,13 +25,25 @@ put-choices-requires : tie.Need-put-choices-requires
 put-choices-requires c κs = search needs
 
 returns : tie.Need-returns
-returns c = fills-refused _ _ (ap (λ (o : Outcome Choices). asNumbers choiceNumbers o) (sym (ap tritavesOutcome (c .before .before .q .given .1)) ∙ c .before .before .before .before .tritaves .ensures)) (coded (c .refused .ok) (c .refused .ensures))
+returns c =
+    fills-refused _ _
+    (ap
+    (λ (o : Outcome Choices). asNumbers choiceNumbers o)
+    (sym (ap tritavesOutcome (c .before .before .q .given .1)) ∙ c .before .before .before .before .tritaves .ensures))
+    (coded (c .refused .ok) (c .refused .ensures))
 
 same-length : tie.Need-same-length
 same-length c = search needs
 
 returns-2 : tie.Need-returns-2
-returns-2 c = fills-as (ap (λ (o : Outcome Choices). asNumbers choiceNumbers o) (sym (ap tritavesOutcome (c .before .before .before .before .before .choices .given .1)) ∙ c .before .before .before .before .before .before .before .tritaves .ensures)) (c .before .before .put-choices .ok) (c .before .before .put-choices .ensures)
+returns-2 c =
+    fills-as
+    (ap
+    (λ (o : Outcome Choices). asNumbers choiceNumbers o)
+    (sym (ap tritavesOutcome (c .before .before .before .before .before .choices .given .1))
+    ∙ c .before .before .before .before .before .before .before .tritaves .ensures))
+    (c .before .before .put-choices .ok)
+    (c .before .before .put-choices .ensures)
 
 pub vn-tritaves-spec : {M : Type 1} → statement M
 vn-tritaves-spec =
