@@ -183,6 +183,17 @@ macro_rules! filling_from_layout {
     )*};
 }
 
+/// Declares functions that pass a retuning's five numbers on, then others, and give a number.
+macro_rules! number_from_retuning {
+    ($($(#[$doc:meta])* $name:ident = $call:ident($($number:ident: $type:ty),*);)*) => {$(
+        $(#[$doc])*
+        pub fn $name(retuning: Retuning, $($number: $type),*) -> Result<u16, Refused> {
+            let Retuning { chain, octave, start, from_tritave, to_tritave } = retuning;
+            value(unsafe { c::$call(chain, octave, start, from_tritave, to_tritave, $($number),*) })
+        }
+    )*};
+}
+
 /// Declares functions that pass a layout's four numbers on, then others, and give a number.
 macro_rules! number_from_layout {
     ($($(#[$doc:meta])* $name:ident = $call:ident($($number:ident: $type:ty),*) -> $answer:ty;)*) => {$(
@@ -414,40 +425,24 @@ number_from_layout! {
     book_len = vn_book_len() -> usize;
 }
 
-/// How many steps round the octave, the shorter way, the key moves that a spelling sounds: a
-/// letter by its index along the chain, signs (sharps above 0, flats below) and stars
-/// (1, 2, 3, 4, 18, of the second layout 3, 4, then 16, 21).
-///
-/// ```
-/// use vetchnoon::{Layout, Refused, Retuning, moved};
-///
-/// // C G D A E: D is on key 0, and stays; A is a generator away.
-/// let lesson = Retuning::new(Layout::new(2, 31, 49), 50);
-/// assert_eq!(moved(lesson, 2, 0, 0), Ok(0));
-/// assert_eq!(moved(lesson, 3, 0, 0), Ok(1));
-/// assert_eq!(moved(lesson, 2, 4, 0), Ok(11));
-/// assert_eq!(moved(lesson, 2, 0, 1), Err(Refused(21)));
-/// ```
-pub fn moved(retuning: Retuning, letter: u16, signs: i32, stars: u16) -> Result<u16, Refused> {
-    let Retuning {
-        chain,
-        octave,
-        start,
-        from_tritave,
-        to_tritave,
-    } = retuning;
-    value(unsafe {
-        c::vn_moved(
-            chain,
-            octave,
-            start,
-            from_tritave,
-            to_tritave,
-            letter,
-            signs,
-            stars,
-        )
-    })
+number_from_retuning! {
+    /// How many steps round the octave, the shorter way, the key moves that a spelling sounds: a
+    /// letter by its index along the chain, signs (sharps above 0, flats below) and stars
+    /// (1, 2, 3, 4, 18, of the second layout 3, 4, then 16, 21).
+    ///
+    /// ```
+    /// use vetchnoon::{Layout, Refused, Retuning, moved};
+    ///
+    /// // C G D A E: D is on key 0, and stays; A is a generator away.
+    /// let lesson = Retuning::new(Layout::new(2, 31, 49), 50);
+    /// assert_eq!(moved(lesson, 2, 0, 0), Ok(0));
+    /// assert_eq!(moved(lesson, 3, 0, 0), Ok(1));
+    /// assert_eq!(moved(lesson, 2, 4, 0), Ok(11));
+    /// assert_eq!(moved(lesson, 2, 0, 1), Err(Refused(21)));
+    /// ```
+    moved = vn_moved(letter: u16, signs: i32, stars: u16);
+    /// The largest number that [`move_table`] writes (1, 2, 3, 4, 18, of the second layout 3, 4).
+    largest_move = vn_largest_move();
 }
 
 /// The moves of all letters with up to eight signs, without stars, on which no move depends:
@@ -474,18 +469,6 @@ pub fn move_table(retuning: Retuning, out: &mut [u16]) -> Result<usize, Refused>
     } = retuning;
     let (table, len) = (out.as_mut_ptr(), out.len());
     value(unsafe { c::vn_move_table(chain, octave, start, from_tritave, to_tritave, table, len) })
-}
-
-/// The largest number that [`move_table`] writes (1, 2, 3, 4, 18, of the second layout 3, 4).
-pub fn largest_move(retuning: Retuning) -> Result<u16, Refused> {
-    let Retuning {
-        chain,
-        octave,
-        start,
-        from_tritave,
-        to_tritave,
-    } = retuning;
-    value(unsafe { c::vn_largest_move(chain, octave, start, from_tritave, to_tritave) })
 }
 
 /// Declares functions that put the entries of the octave's keys in another order, into `out`.

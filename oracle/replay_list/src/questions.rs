@@ -230,14 +230,8 @@ impl Display for Layout {
 
 impl Display for Retuning {
     fn fmt(&self, f: &mut Formatter<'_>) -> fmt::Result {
-        let Self {
-            code,
-            octave,
-            start,
-            from,
-            to,
-        } = self;
-        write!(f, "{code} {octave} {start} {from} {to}")
+        let numbers = [self.code, self.octave, self.start, self.from, self.to];
+        f.write_str(&words(numbers))
     }
 }
 
