@@ -7,10 +7,10 @@ use lib.ListN.{length, take, replicate, length-replicate}
 use Rattle.answer.specs.Outcome.{Outcome, given, refused, andThen}
 use Rattle.line.specs.declared.Line.{Line}
 use Rattle.line.specs.Lines.{lineOutcome}
+use Rattle.line.proofs.Enough.{later-bytes-ignored}
 use Rattle.line_input.specs.declared.Input.{Input}
 use Rattle.line_input.specs.Reading.{longest, LineRead}
-use Rattle.line_input.proofs.OneLine.{first-line-is-enough}
-use Rattle.line_input.proofs.Keeping.{kept-begins}
+use Rattle.line_input.proofs.Enough.{first-line-is-enough, kept-output}
 use Rattle.layout.specs.Layouts.{Layout, layoutOutcome}
 use Rattle.layout_table.specs.Tables.{layoutOn, lineLayout, refusalLine, outputOf}
 use Rattle.layout_table.proofs.Calls.{line-laid}
@@ -28,13 +28,15 @@ unfolding kbmOutput
 output-by x y e = ap (λ (o : Outcome Line). outputOf (andThen o (λ (a : Line). getKbm (layoutOn a)))) e
 
 pub line-is-enough : LineIsEnough
-line-is-enough = record {
-  eighteen = λ (line : List ℕ). output-by _ _ (first-line-is-enough .eighteen line);
-  one-line = λ (bytes : List ℕ). output-by _ _ (first-line-is-enough .one-line bytes);
-}
+line-is-enough =
+    record {
+      eighteen = λ (line : List ℕ). output-by _ _ (later-bytes-ignored .eighteen line);
+      one-line = first-line-is-enough kbmOutput (λ line after. output-by _ _ (later-bytes-ignored .line-feed line after));
+    }
 
 by-layout : (o : Outcome Line)
-    → andThen o (λ (a : Line). getKbm (layoutOn a)) ≡ andThen (andThen o (λ (a : Line). layoutOutcome (layoutOn a))) (λ (l : Layout). given (mappingIn l))
+    → andThen o (λ (a : Line). getKbm (layoutOn a))
+    ≡ andThen (andThen o (λ (a : Line). layoutOutcome (layoutOn a))) (λ (l : Layout). given (mappingIn l))
 unfolding getKbm
 by-layout (given a) = refl
 by-layout (refused n) = refl
@@ -54,18 +56,18 @@ module _ (line : List ℕ) where
 -- ---- what is kept of a line
 
 module _ (buffer : List ℕ) (input : Input) (kept : ℕ) (read : LineRead buffer input) (few : kept ≡ min longest (input .taken)) where
-  kept-output : kbmOutput (take kept buffer) ≡ kbmOutput (read .line)
-  kept-output = ap kbmOutput (kept-begins buffer input kept read few) ∙ line-is-enough .eighteen (read .line)
+  same-output : kbmOutput (take kept buffer) ≡ kbmOutput (read .line)
+  same-output = kept-output buffer input kept read few kbmOutput (line-is-enough .eighteen)
 
   pub refusing : (k n : ℕ) → k ≡ n → refused n ≡ lineLayout (take kept buffer) → Refusing buffer input k
-  refusing k n i e = record { read = read; is-output = output-refused (take kept buffer) k n i e ∙ kept-output }
+  refusing k n i e = record { read = read; is-output = output-refused (take kept buffer) k n i e ∙ same-output }
 
   pub ready : (l : Layout) → given l ≡ lineLayout (take kept buffer) → (m : Mapping) → MappingOf l m → Ready buffer input m
   ready l e m w =
       record {
         read = read;
         sound = w .sound;
-        is-output = w .file-is ∙ output-given (take kept buffer) l e ∙ kept-output;
+        is-output = w .file-is ∙ output-given (take kept buffer) l e ∙ same-output;
         few = omega (arith, line-laid (take kept buffer) l e .few-keys, w .octave-is);
       }
 

@@ -1,14 +1,16 @@
 // The key table program: reads a line, and prints the table of the layout that it asks for, or the number of a refusal.
 //
-// What is printed is `output` of the whole line that was read, made by `layout_table::parts`; `line_input` reads the line, and this program
-// writes, and no more. It keeps 18 bytes of a line: a longer one is refused whatever follows (`LineIsEnough`). It prints a table in parts, 78
-// lines at a time (`TablesFit` of `layout_table` bounds a line), so it runs with a small stack. specs/: Reading states that what is kept is
-// enough, Printing what is printed. Which bytes a read hands over, and where written bytes go, rests on the kit's library.
+// What is printed is `output` of the whole line that was read, made by `layout_table::parts`; this program reads and writes, and no more. It
+// reads one line, of which `line_input` keeps 18 bytes: a longer line is refused whatever follows (`LineIsEnough`). It prints a table in
+// parts, 78 lines at a time (`TablesFit` of `layout_table` bounds a line), so it runs with a small stack. specs/: Printing states what is
+// printed. Which bytes a read hands over, and where written bytes go, rests on the kit's library.
 use layout::parts::FoundAnswer;
 use layout_table::parts::Table;
 use libc::STDERR_FILENO;
 use libc::STDOUT_FILENO;
 use line_input::Input;
+use line_input::kept;
+use line_input::read_line;
 ghost use mathlib.Core.Path.{_≡_};
 ghost use Prim.Native.Nat.{_≤_, _<_};
 ghost use lib.ListN.{length};
@@ -100,7 +102,7 @@ fn print(line: &[u8], input: Input) -> Output
     requires { ⌜ LineRead (now line) input ⌝ }
     ensures { λ r. ⌜ Printed (now (line .entry)) input r ⌝ }
 {
-    match layout_table::parts::ask_line(&line[..line_input::kept(input)]) {
+    match layout_table::parts::ask_line(&line[..kept(input)]) {
         FoundAnswer::Refused(q) => print_refusal(line, input, q.number() as u16),
         FoundAnswer::Given(found) => {
             let mut out = [0u8; 65536];
@@ -119,7 +121,7 @@ fn say_not_written() {
 
 fn main() {
     let mut line = [0u8; 18];
-    let input = line_input::read_line(&mut line);
+    let input = read_line(&mut line);
     let done = print(&line, input);
     if !done.taken {
         say_not_written();

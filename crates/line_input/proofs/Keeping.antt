@@ -5,11 +5,10 @@ use mathlib.Core.Bool.{Bool, true, false}
 use mathlib.Core.Path.{_≡_, refl, sym, ap, _∙_, subst}
 use mathlib.Core.List.{List, [], _∷_, _++_}
 use lib.ListN.{length, take, set, length-append, length-set, length-take}
-use lib.Seq.{take-all, take-append-le, take-suc-set, length-take-le}
+use lib.Seq.{take-all, take-append-le, take-suc-set}
 use lib.Dec.{ltb}
 use borrow.Author.Tests.{ltb-true, ltb-false, lt-ltb, le-ltb}
-use Rattle.line_input.specs.Reading.{longest, keptIn, Begins, LineRead}
-use Rattle.line_input.specs.declared.Input.{Input}
+use Rattle.line_input.specs.Reading.{longest, keptIn, Begins}
 
 by-test : (at : ℕ) {G : Type 0} (test : Bool) → ltb at longest ≡ test → (at < longest → G) → (longest ≤ at → G) → G
 by-test at true e below past = below (ltb-true at longest e)
@@ -63,17 +62,6 @@ module _ (buffer line : List ℕ) (byte : ℕ) (room : longest ≤ length buffer
   keeps = below-or-past (length line) keeps-below keeps-past
 
 -- the buffer holds what it begins with
-kept-inside : (buffer line : List ℕ) → Begins buffer line → min longest (length line) ≤ length buffer
+pub kept-inside : (buffer line : List ℕ) → Begins buffer line → min longest (length line) ≤ length buffer
 kept-inside buffer line begins =
     omega (arith, ap length begins, length-take (min longest (length line)) buffer, length-take longest line)
-
--- as many bytes as are kept
-module _ (buffer : List ℕ) (input : Input) (kept : ℕ) (read : LineRead buffer input) (few : kept ≡ min longest (input .taken)) where
-  kept-is : kept ≡ min longest (length (read .line))
-  kept-is = few ∙ ap (min longest) (sym (read .handed .count))
-
-  pub kept-there : kept ≡ length (take kept buffer)
-  kept-there = sym (length-take-le kept buffer (omega (arith, kept-is, kept-inside buffer (read .line) (read .begins))))
-
-  pub kept-begins : take kept buffer ≡ take longest (read .line)
-  kept-begins = ap (λ (n : ℕ). take n buffer) kept-is ∙ read .begins

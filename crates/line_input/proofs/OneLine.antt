@@ -1,25 +1,24 @@
--- One line: while no line feed came, what follows is still of the line; and its first 18 bytes say what it asks for.
+-- One line: while no line feed came, what follows is still of the line.
 use Prim.Native.Nat.{ℕ}
 use mathlib.Core.Bool.{Bool, true, false}
 use mathlib.Core.Path.{_≡_, refl, sym, ap, _∙_, subst}
 use mathlib.Core.List.{List, [], _∷_, _++_, append-nil}
 use lib.Seq.{append-snoc}
 use lib.Dec.{eqb}
-use borrow.Author.Tests.{eqb-true, ne-eqb}
-use Rattle.line.specs.Lines.{lineFeed, lineOutcome}
-use Rattle.line.proofs.Enough.{later-bytes-ignored}
-use Rattle.line_input.specs.Reading.{firstLine, FirstLineIsEnough}
+use borrow.Author.Tests.{ne-eqb}
+use Rattle.line.specs.Lines.{lineFeed}
+use Rattle.line_input.specs.Reading.{firstLine}
 
-first-feed : (rest : List ℕ) → firstLine (lineFeed ∷ rest) ≡ lineFeed ∷ []
+pub first-feed : (rest : List ℕ) → firstLine (lineFeed ∷ rest) ≡ lineFeed ∷ []
 unfolding firstLine
 first-feed rest = refl
 
-first-other : (byte : ℕ) (rest : List ℕ) → eqb byte lineFeed ≡ false → firstLine (byte ∷ rest) ≡ byte ∷ firstLine rest
+pub first-other : (byte : ℕ) (rest : List ℕ) → eqb byte lineFeed ≡ false → firstLine (byte ∷ rest) ≡ byte ∷ firstLine rest
 unfolding firstLine
 first-other byte rest e =
     subst (λ (test : Bool). byte ∷ elim test [ true ↦ [] | false ↦ firstLine rest ] ≡ byte ∷ firstLine rest) (sym e) refl
 
-first-none : firstLine [] ≡ []
+pub first-none : firstLine [] ≡ []
 unfolding firstLine
 first-none = refl
 
@@ -44,28 +43,3 @@ open-ended bytes byte e none =
     ∙ ap (λ (b : ℕ). bytes ++ firstLine (b ∷ [])) e
     ∙ ap (λ (r : List ℕ). bytes ++ r) (first-feed [])
     ∙ ap (λ (b : ℕ). bytes ++ b ∷ []) (sym e)
-
--- ---- what is asked for
-
-module _ (before rest : List ℕ) (byte : ℕ) where
-  by-test : (test : Bool) → eqb byte lineFeed ≡ test
-      → lineOutcome (before ++ (byte ∷ []) ++ firstLine rest) ≡ lineOutcome (before ++ (byte ∷ []) ++ rest)
-      → lineOutcome (before ++ firstLine (byte ∷ rest)) ≡ lineOutcome (before ++ byte ∷ rest)
-  by-test true t ih =
-      let e = eqb-true byte lineFeed t in
-      ap (λ (b : ℕ). lineOutcome (before ++ firstLine (b ∷ rest))) e
-      ∙ ap (λ (r : List ℕ). lineOutcome (before ++ r)) (first-feed rest)
-      ∙ sym (later-bytes-ignored .line-feed before rest)
-      ∙ ap (λ (b : ℕ). lineOutcome (before ++ b ∷ rest)) (sym e)
-  by-test false t ih =
-      ap (λ (r : List ℕ). lineOutcome (before ++ r)) (first-other byte rest t)
-      ∙ ap lineOutcome (sym (append-snoc before byte (firstLine rest)))
-      ∙ ih
-      ∙ ap lineOutcome (append-snoc before byte rest)
-
-first-asks : (before bytes : List ℕ) → lineOutcome (before ++ firstLine bytes) ≡ lineOutcome (before ++ bytes)
-first-asks before [] = ap (λ (r : List ℕ). lineOutcome (before ++ r)) first-none
-first-asks before (byte ∷ rest) = by-test before rest byte (eqb byte lineFeed) refl (first-asks (before ++ (byte ∷ [])) rest)
-
-pub first-line-is-enough : FirstLineIsEnough
-first-line-is-enough = record { eighteen = later-bytes-ignored .eighteen; one-line = λ (bytes : List ℕ). first-asks [] bytes }

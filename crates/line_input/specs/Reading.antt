@@ -1,13 +1,13 @@
--- "The key table program reads one line, ignores bytes after it" (document 01): which bytes are taken from standard input, and what the
--- buffer then holds. Which bytes a read hands over no contract of the kit's library can say. So they are
--- named here as a list, which the counts and tests of `Input` hold to what each read told.
+-- "reads one line, ignores bytes after it" (document 01): which bytes are taken from standard input, and what the program's buffer then
+-- holds. Which bytes a read hands over no contract of the kit's library can say. So they are named here as a list, which the counts and
+-- tests of `Input` hold to what each read told.
 use Prim.Native.Nat.{ℕ, _+_, _-_, _<_, min}
 use mathlib.Core.Bool.{Bool, true, false}
-use mathlib.Core.List.{List, [], _∷_}
+use mathlib.Core.List.{List, [], _∷_, _++_}
 use mathlib.Core.Path.{_≡_}
 use lib.ListN.{length, getD, take, set}
 use lib.Dec.{eqb, ltb}
-use Rattle.line.specs.Lines.{lineFeed, lineOutcome}
+use Rattle.line.specs.Lines.{lineFeed}
 use Rattle.line_input.specs.declared.Input.{Input}
 
 -- "one line": the bytes up to and with the first line feed, or all where none comes.
@@ -50,7 +50,8 @@ pub record LineRead (buffer : List ℕ) (input : Input) : Type 0 where
   pub to-its-end : input .«at_end» ≡ false → input .taken < 18446744073709551615 → input .last ≡ lineFeed
   pub begins : Begins buffer line
 
--- Theorem: 18 bytes of a line say what it asks for, and the first line of any bytes what they ask for.
-pub record FirstLineIsEnough : Type 0 where
-  pub eighteen : (line : List ℕ) → lineOutcome (take longest line) ≡ lineOutcome line
-  pub one-line : (bytes : List ℕ) → lineOutcome (firstLine bytes) ≡ lineOutcome bytes
+-- Theorem: an output that goes by nothing past a line feed is, for any bytes, that of their first line.
+abbrev pub FirstLineIsEnough : Type 0
+FirstLineIsEnough =
+    (output : List ℕ → List ℕ) → ((line after : List ℕ) → output (line ++ lineFeed ∷ after) ≡ output (line ++ lineFeed ∷ []))
+    → (bytes : List ℕ) → output (firstLine bytes) ≡ output bytes

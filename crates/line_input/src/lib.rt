@@ -1,9 +1,9 @@
-// The line that a program reads from standard input: byte by byte to the line feed, so that whoever reads on finds the bytes after it, and
-// a person at a terminal is answered as soon as the line is typed.
+// The line that a program reads from standard input.
 //
-// For programs that answer one line of `line` (document 01, question 14): `key_table` and `kbm`. Parts, and no entry points: `read_line`
-// asks for a buffer of 18 bytes, which hold the longest good line. specs/: Reading states what is read, and that what is kept is enough.
-// Which bytes a read hands over rests on the kit's library.
+// Holds the reading of one line, byte by byte to its line feed, so that whoever reads on finds the bytes after it, and a person at a
+// terminal is answered as soon as the line is typed. It keeps the first 18 bytes, which are enough for every line of `line`.
+// Parts of programs, and no entry points: `read_line` asks for a buffer of 18 bytes.
+// specs/: Reading states what is read. Which bytes a read hands over rests on the kit's library.
 use libc::STDIN_FILENO;
 ghost use mathlib.Core.Path.{_≡_};
 ghost use Prim.Native.Nat.{_≤_, _<_, min};

@@ -1,3 +1,4 @@
 pub mod Outputs
 pub mod Pairs
+pub mod Boards
 pub mod Examples

@@ -2,7 +2,7 @@
 use mathlib.Core.Path.{sym, ap, _∙_}
 use Rattle.layout.specs.Parts.{foundOutcome}
 use Rattle.layout_table.proofs.Calls.{line-laid}
-use Rattle.line_input.proofs.Keeping.{kept-there}
+use Rattle.line_input.proofs.Enough.{kept-there}
 use Rattle.kbm.proofs.Printing.{refusing, ready}
 use borrow.Author.Needs.{needs}
 use Rattle.kbm.proofs.print.Statement.{statement}
@@ -29,19 +29,24 @@ cast-print-refusal c = search needs
 print-refusal-requires : tie.Need-print-refusal-requires
 print-refusal-requires c κs =
     let q = c .before .before in
-    refusing _ _ _ (c .before .before .before .before .before .before .before .before .pre) (c .before .before .before .before .before .before .kept .ensures) _ _ (c .number .ensures) (sym (ap foundOutcome (q .q .given .1)) ∙ q .before .before .ask-line .ensures)
+    let kept = c .before .before .before .before .before .before in
+    let e = sym (ap foundOutcome (q .q .given .1)) ∙ q .before .before .ask-line .ensures in
+    refusing _ _ _ (kept .before .before .pre) (kept .kept .ensures) _ _ (c .number .ensures) e
 
 enum-known-found : tie.Need-enum-known-found
 enum-known-found c = search needs
 
 mapping-of-requires : tie.Need-mapping-of-requires
-mapping-of-requires c κs = line-laid _ _ (sym (ap foundOutcome (c .before .found .given .1)) ∙ c .before .before .before .ask-line .ensures) .is-laid
+mapping-of-requires c κs =
+    let e = sym (ap foundOutcome (c .before .found .given .1)) ∙ c .before .before .before .ask-line .ensures in
+    line-laid _ _ e .is-laid
 
 print-mapping-requires : tie.Need-print-mapping-requires
 print-mapping-requires c κs =
     let found = c .before .before in
     let e = sym (ap foundOutcome (found .found .given .1)) ∙ found .before .before .ask-line .ensures in
-    ready _ _ _ (c .before .before .before .before .before .before .before .before .pre) (c .before .before .before .before .before .before .kept .ensures) _ e _ (c .mapping-of .ensures)
+    let kept = c .before .before .before .before .before .before in
+    ready _ _ _ (kept .before .before .pre) (kept .kept .ensures) _ e _ (c .mapping-of .ensures)
 
 returns : tie.Need-returns
 returns c = search needs
