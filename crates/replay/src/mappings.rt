@@ -61,7 +61,11 @@ fn read_front(n: Values, text: &[u8], count: usize) {
 fn read_into(n: Values, text: &[u8]) {
     let mut out = print::list_room();
     let end = n.room as usize;
-    put_keys(layouts::layout_of(names::LAYOUT_FROM, n), text, &mut out[..end]);
+    put_keys(
+        layouts::layout_of(names::LAYOUT_FROM, n),
+        text,
+        &mut out[..end],
+    );
 }
 
 fn put_keys(layout: IsomorphicLayout, text: &[u8], out: &mut [u16]) {
