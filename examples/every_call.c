@@ -526,7 +526,7 @@ static void call_mappings(void)
     TEXT("12\n0\n127\n60\n69\n440.000000\n12\n0\nx\n2\nx\n4\n5\nx\n7\nx\n9\nx\n11\n");
     IS(vn_kbm_len(1, 12, 19, 7), -VN_START);
     IS(vn_kbm_len(3, 12, 19, 9), -VN_GENERATOR);
-    IS(vn_kbm_len(2, 65534, 65535, 4), 131103);
+    IS(vn_kbm_len(2, 65534, 65535, 4), 131119);
 
     numbers[7] = 4711;
     IS(vn_kbm_read(1, 12, 19, 3, (const uint8_t *)file, len, numbers, 8), 7);

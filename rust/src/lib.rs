@@ -370,10 +370,10 @@ filling_from_layout! {
     /// mapped (1, 2, 3, 4, 18, 10). It has at most 6 × octave + 35 bytes.
     ///
     /// ```
-    /// let five = vetchnoon::Layout::new(2, 5, 8);
-    /// let mut file = vec![0; vetchnoon::kbm_len(five).unwrap()];
-    /// vetchnoon::kbm(five, &mut file).unwrap();
-    /// assert_eq!(file, b"5\n0\n127\n60\n69\n440.000000\n5\n0\n1\n2\n3\n4\n");
+    /// let seven = vetchnoon::Layout::new(2, 7, 11); // D E G A C
+    /// let mut file = vec![0; vetchnoon::kbm_len(seven).unwrap()];
+    /// vetchnoon::kbm(seven, &mut file).unwrap();
+    /// assert_eq!(file, b"7\n0\n127\n60\n69\n440.000000\n7\n0\n1\nx\n3\n4\nx\n6\n");
     /// ```
     kbm = vn_kbm(; u8);
     /// The book of all names of the octave (1, 2, 3, 4, 18, 10).
