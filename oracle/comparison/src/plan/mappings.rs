@@ -198,7 +198,10 @@ fn every_choice(tally: &mut Tally, layout: (u16, u16, u16)) {
 fn large(tally: &mut Tally, mut randoms: Randoms) {
     let layout = accepted_at_random(&mut randoms);
     layout.compare_mapping(tally);
-    let file = file_of(&layout);
+    // The layout was accepted; its start may be none.
+    let Ok(file) = layout.read(mappings::file) else {
+        return;
+    };
     for _ in 0..4 {
         let keys = 0..layout.given.octave;
         let mapped: Vec<bool> = keys.map(|_| randoms.below(2) == 0).collect();
