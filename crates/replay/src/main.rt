@@ -9,6 +9,7 @@
 mod books;
 mod edo;
 mod layouts;
+mod mappings;
 mod moves;
 mod names;
 mod numbers;
@@ -153,7 +154,10 @@ fn answered_other(kind: usize, line: &[u8], end: usize, room: u16) -> bool {
     if edo::answer(line, end, room) {
         return true;
     }
-    retunings::answer(line, end, room)
+    if retunings::answer(line, end, room) {
+        return true;
+    }
+    mappings::answer(line, end, room)
 }
 
 fn answer_line(line: &[u8]) {
