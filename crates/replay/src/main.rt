@@ -18,6 +18,7 @@ mod pergens;
 mod print;
 mod reach;
 mod retunings;
+mod sheets;
 mod strips;
 mod tables;
 mod words;
@@ -153,7 +154,10 @@ fn answered_other(kind: usize, line: &[u8], end: usize, room: u16) -> bool {
     if edo::answer(line, end, room) {
         return true;
     }
-    retunings::answer(line, end, room)
+    if retunings::answer(line, end, room) {
+        return true;
+    }
+    sheets::answer(line, end)
 }
 
 fn answer_line(line: &[u8]) {

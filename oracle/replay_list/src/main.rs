@@ -14,6 +14,7 @@ mod questions;
 mod random;
 mod reach;
 mod retunings;
+mod sheets;
 mod starts;
 mod strips;
 
