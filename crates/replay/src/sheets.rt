@@ -1,9 +1,9 @@
 // Questions on sheets. LAYOUT is a chain code, the step counts of octave and tritave, and a start. Their name stands here, and not among
 // the others.
 //
-//     sheet LAYOUT KEY KEY KEY KEY     how many of four records were filled, or the refusal; then, behind `,`, each record with its key
+//     sheet LAYOUT KEY KEY KEY KEY     how many records were filled, or the refusal; then the four records, a comma before each
 //
-// Before the call a record holds 9 8 7 6 5 4 behind its key, so that what is left untouched is seen.
+// Before the call a record holds 9 8 7 6 5 4 behind its key, so that it is seen where one is left untouched.
 use crate::names;
 use crate::print;
 use crate::words;
@@ -16,7 +16,7 @@ ghost use Rattle.layout_sheet.specs.Answers.{getSheet, SheetFilled};
 
 const SHEET: usize = 0;
 
-// Four records by value, and what the library answered. Covered code cannot lend a list of records.
+// What the library answered, and the records.
 pub(crate) struct Page {
     pub(crate) answer: CountAnswer,
     pub(crate) records: [Record; 4],
@@ -59,7 +59,10 @@ fn answer_rest(line: &[u8], at: usize, layout: IsomorphicLayout, first: i32, sec
         return false;
     };
     if words::is_at(line, end, b'\n') {
-        put(page(layout, [asked(first), asked(second), asked(third), asked(fourth)]));
+        put(fill_page(
+            layout,
+            [asked(first), asked(second), asked(third), asked(fourth)],
+        ));
         return true;
     }
     false
@@ -78,8 +81,8 @@ fn asked(key: i32) -> Record {
     }
 }
 
-// The array is lent for the call alone.
-fn page(layout: IsomorphicLayout, records: [Record; 4]) -> Page
+// The array is lent for the call alone. Covered code cannot lend a list of records, so this is proved by hand.
+fn fill_page(layout: IsomorphicLayout, records: [Record; 4]) -> Page
     ensures { λ r. ⌜ SheetFilled (getSheet layout records) (countOutcome (r .answer)) records (r .records) ⌝ }
 {
     let mut sheet = records;
@@ -91,7 +94,8 @@ fn page(layout: IsomorphicLayout, records: [Record; 4]) -> Page
 }
 
 fn put(page: Page) {
-    put_count(page.answer);
+    let answer = page.answer;
+    put_count(answer);
     let records = page.records;
     put_record(records[0]);
     put_record(records[1]);

@@ -31,7 +31,10 @@ pub fn all() -> Vec<Question> {
         questions.extend(of_octaves(with_own_start(accepted)));
         let start = random.up_to(letters(accepted.code) - 1);
         let other = from(start, accepted);
-        questions.extend([Question::Sheet(other, ENDS), of_any_keys(&mut random, other)]);
+        questions.extend([
+            Question::Sheet(other, ENDS),
+            of_any_keys(&mut random, other),
+        ]);
     }
     questions.extend(of_large_layouts(&mut random));
     questions.extend(refused());
@@ -100,7 +103,10 @@ pub fn text(layout: Layout, keys: &[i32; 4]) -> Text {
         Ok(records) => Ok(format!("{}{}", records.len(), records_text(records))),
         Err(Absent::Refused(number)) => {
             let untouched = keys.map(untouched);
-            Ok(format!("refused {number}{}", records_text(untouched.into())))
+            Ok(format!(
+                "refused {number}{}",
+                records_text(untouched.into())
+            ))
         }
         Err(overflow) => Err(overflow),
     }

@@ -61,10 +61,7 @@ impl GivenLayout {
 
 /// What the library makes of a sheet, whatever its records held before, and the same by its single
 /// calls; or what it did that no call may do.
-fn filled_alike(
-    layout: Layout,
-    keys: &[i32],
-) -> Result<Outcome<Vec<sheets::Record>>, String> {
+fn filled_alike(layout: Layout, keys: &[i32]) -> Result<Outcome<Vec<sheets::Record>>, String> {
     let sheet = filled(layout, keys, Round::Pattern)?;
     let again = filled(layout, keys, Round::Inverse)?;
     if again != sheet {
@@ -163,11 +160,7 @@ fn by_single_calls(layout: Layout, keys: &[i32]) -> Outcome<Vec<sheets::Record>>
         .collect()
 }
 
-fn single(
-    layout: Layout,
-    generator: u16,
-    key: i32,
-) -> Result<sheets::Record, vetchnoon::Refused> {
+fn single(layout: Layout, generator: u16, key: i32) -> Result<sheets::Record, vetchnoon::Refused> {
     let mut spelt = [0; 4];
     let mut generation = [0; 3];
     vetchnoon::layout_accidentals(layout, key, &mut spelt)?;
