@@ -511,6 +511,48 @@ static void call_stored_strips(void)
     holds(__LINE__, text, "\1\377\0", 3);
 }
 
+/* The natural keys of Meantone[7] in twelve steps, as a .kbm file; then what other files map. */
+static void call_mappings(void)
+{
+    static const char file[] = "12\n0\n127\n60\n69\n440.000000\n12\n0\nx\n2\n3\nx\n5\nx\n7\nx\n9\n10\nx\n";
+    static const char commented[] = "!\n5\n0\n127\n60\n69\n440.000000\n00005\nx\n!2\n1\nx\n3\nx\n!end\n";
+    static const char another_size[] = "4\n0\n127\n60\n69\n440.000000\n5\nx\n1\nx\n3\nx\n";
+    static const char another_key[] = "5\n0\n127\n60\n69\n440.000000\n5\nx\n1\n1\n3\nx\n";
+    static const char both[] = "4\n0\n127\n60\n69\n440.000000\n5\nx\n1\nx\n3\nX\n";
+    const size_t len = sizeof file - 1;
+
+    IS(vn_kbm_len(1, 12, 19, 3), (int64_t)len);
+    text[len] = 42;
+    IS(vn_kbm(1, 12, 19, 3, text, len + 1), (int64_t)len);
+    TEXT(file);
+    IS(text[len], 42);
+    IS(vn_kbm(1, 12, 19, 1, text, len), (int64_t)len); /* from C; two of its numbers change places with marks */
+    TEXT("12\n0\n127\n60\n69\n440.000000\n12\n0\nx\n2\nx\n4\n5\nx\n7\nx\n9\nx\n11\n");
+    IS(vn_kbm(1, 12, 19, 3, text, len - 1), -VN_ROOM);
+    IS(vn_kbm(1, 12, 19, 7, text, 0), -VN_START);
+    IS(vn_kbm(0, 12, 19, 9, text, 0), -VN_PATTERN);
+    TEXT("12\n0\n127\n60\n69\n440.000000\n12\n0\nx\n2\nx\n4\n5\nx\n7\nx\n9\nx\n11\n");
+    IS(vn_kbm_len(1, 12, 19, 7), -VN_START);
+    IS(vn_kbm_len(3, 12, 19, 9), -VN_GENERATOR);
+    IS(vn_kbm_len(2, 65534, 65535, 4), 131119);
+
+    numbers[7] = 4711;
+    IS(vn_kbm_read(1, 12, 19, 3, (const uint8_t *)file, len, numbers, 8), 7);
+    NUMBERS(0, 2, 3, 5, 7, 9, 10, 4711);
+    IS(vn_kbm_read(2, 5, 8, 2, (const uint8_t *)commented, sizeof commented - 1, numbers, 2), 2);
+    NUMBERS(1, 3, 3, 5);
+    IS(vn_kbm_read(2, 5, 8, 2, (const uint8_t *)commented, sizeof commented - 1, numbers, 1), -VN_ROOM);
+    IS(vn_kbm_read(2, 5, 8, 2, (const uint8_t *)commented, sizeof commented - 2, numbers, 1), -VN_KBM_LINES);
+    IS(vn_kbm_read(2, 5, 8, 2, (const uint8_t *)both, sizeof both - 1, numbers, 1), -VN_KBM_LINES);
+    IS(vn_kbm_read(2, 5, 8, 2, (const uint8_t *)file, len, numbers, 1), -VN_KBM_LINES);
+    IS(vn_kbm_read(2, 5, 8, 2, (const uint8_t *)file, 0, numbers, 1), -VN_KBM_LINES);
+    IS(vn_kbm_read(2, 5, 8, 2, (const uint8_t *)another_size, sizeof another_size - 1, numbers, 1), -VN_KBM_NUMBERS);
+    IS(vn_kbm_read(2, 5, 8, 2, (const uint8_t *)another_key, sizeof another_key - 1, numbers, 1), -VN_KBM_NUMBERS);
+    IS(vn_kbm_read(2, 5, 8, 5, (const uint8_t *)file, 0, numbers, 0), -VN_START);
+    IS(vn_kbm_read(0, 12, 19, 9, (const uint8_t *)file, 0, numbers, 0), -VN_PATTERN);
+    NUMBERS(1, 3, 3, 5);
+}
+
 /* Records that ask for these keys, and hold something else behind them. */
 static void ask(const int32_t *keys, size_t count)
 {
@@ -683,6 +725,7 @@ int main(void)
     call_layers();
     call_lamps();
     call_stored_strips();
+    call_mappings();
     call_sheets();
     call_books();
     call_starts();

@@ -1,6 +1,7 @@
 /* What an instrument's firmware does with the library: it makes a layout, lights the lamps, keeps a book of names, and
  * shows the name of each key that is pressed, the nearest D, how far a retuning moves notes, the order in which caps are
- * filed, the board's moves, and a sheet for the engraver. Nothing is allocated, and every refusal is shown by its number. */
+ * filed, the board's moves, which keys a synthesizer's mapping has, and a sheet for the engraver. Nothing is allocated, and
+ * every refusal is shown by its number. */
 #include <inttypes.h>
 #include <stdio.h>
 
@@ -187,6 +188,39 @@ static void light(int32_t from, int32_t to)
     printf("\n");
 }
 
+/* Shows which keys a .kbm file maps, of those that go to and come from a synthesizer. */
+static void show_mapped(const uint8_t *file, size_t length)
+{
+    uint16_t keys[OCTAVE];
+    int64_t count = vn_kbm_read(CHAIN, OCTAVE, TRITAVE, START, file, length, keys, OCTAVE), i;
+
+    if (refused("mapping", count))
+        return;
+    printf("mapped keys:");
+    for (i = 0; i < count; i++)
+        printf(" %d", keys[i]);
+    printf("\n");
+}
+
+/* Hands the mapping of the natural keys to a synthesizer; a player then leaves key 0 out, names it wrongly, and cuts the file. */
+static void show_mapping(void)
+{
+    static uint8_t file[6 * OCTAVE + 35];
+    int64_t length = vn_kbm(CHAIN, OCTAVE, TRITAVE, START, file, sizeof file);
+    size_t end;
+
+    if (refused("mapping", length))
+        return;
+    end = (size_t)length;
+    printf("mapping of %d bytes, ", (int)length);
+    show_mapped(file, end);
+    file[29] = 'x'; /* key 0 */
+    show_mapped(file, end);
+    file[29] = '1';
+    show_mapped(file, end);
+    show_mapped(file, end - 1);
+}
+
 int main(void)
 {
     uint16_t layout[8]; /* generator, cycles, reduced period, inverse, counts, steps */
@@ -224,6 +258,7 @@ int main(void)
     show_retuning(TRITAVE, 30);
     show_filed_caps();
     show_moves();
+    show_mapping();
     show_sheet(START);
     show_sheet(FROM_NOTHING);
 

@@ -34,6 +34,8 @@
  *   VN_LETTER       16  Is the letter's place below the chain's number of letters?
  *   VN_CODE         17  Does every code of the strip have a partner among the other width's codes?
  *   VN_START        18  Is the layout's start below the chain's number of letters?
+ *   VN_KBM_LINES    19  Has a keyboard mapping its lines, none missing and none left over, each of a form that may stand there?
+ *   VN_KBM_NUMBERS  20  Are its numbers those of the layout?
  *   VN_STARS        21  Are the stars below the number of cycles? (Of a retuning: below that of both layouts?)
  * A refusal is compared as in vn_layout(chain, octave, tritave, start, out, len) == -VN_PATTERN.
  *
@@ -80,6 +82,8 @@ extern "C" {
 #define VN_LETTER 16
 #define VN_CODE 17
 #define VN_START 18
+#define VN_KBM_LINES 19
+#define VN_KBM_NUMBERS 20
 #define VN_STARS 21
 
 /* The kinds of layers, which vn_layer_kind tells. */
@@ -91,6 +95,7 @@ extern "C" {
 /* The version of this header. The first number changes where a call, a number above or an answer is changed or taken away,
  * the second where some are added, the third where neither is so.
  *   7.6.0: vn_sheet and struct vn_record are added.
+ *   7.5.0: vn_kbm_len, vn_kbm and vn_kbm_read are added, of which the last asks 19 and 20.
  *   7.4.0: vn_moved, vn_move_table and vn_largest_move are added.
  *   7.3.0: vn_tritaves, vn_find_by_edo and vn_edo_report are added, of which the first two ask 15, VN_DIVISION.
  *   7.2.0: vn_to_chain_order, vn_to_key_order, vn_moves and vn_walk_moves are added.
@@ -325,6 +330,26 @@ int64_t vn_widen_strip(const uint8_t *strip, size_t strip_len, uint16_t *out, si
 /* Writes the strip that vn_widen_strip makes these codes of, a byte for each code. 17 has the answer no where there is none:
  * where a code is from 202 to 65,534. Asks 17, 10. */
 int64_t vn_narrow_strip(const uint16_t *strip, size_t strip_len, uint8_t *out, size_t len);
+
+/* ---- Scala keyboard mappings (.kbm files) of a layout, for other synthesizers. Seven lines come first: size, first and last
+ * note, middle note, reference note, frequency and octave degree. Then an entry for each key of the octave, rising: its number
+ * where it is mapped, else x. Each line ends with a line feed. In vn_kbm, size and octave degree are the octave; the notes are 0,
+ * 127, 60 and 69; the frequency is 440.000000; and the keys of the natural layer are mapped, of two octaves those of the first. */
+
+/* How many bytes the mapping of a layout has: at most 6 x octave + 35. Asks 1, 2, 3, 4, 18. */
+int64_t vn_kbm_len(uint16_t chain, uint16_t octave, uint16_t tritave, uint16_t start);
+
+/* Writes the mapping of a layout in ASCII, without a 0 at the end. Asks 1, 2, 3, 4, 18, 10. */
+int64_t vn_kbm(uint16_t chain, uint16_t octave, uint16_t tritave, uint16_t start, uint8_t *out, size_t len);
+
+/* Writes the keys that a mapping for a layout maps, rising: any choice of keys, at most as many as the octave has. Of what vn_kbm
+ * writes they are the natural keys. Any bytes are answered, in a time that grows with their number. Lines that begin with ! are
+ * skipped. 19 has the answer no where the others are not seven and one for each key of the octave, whatever the size line says;
+ * where the last byte is no line feed; or where a line is not a number of 1 to 5 digits, the frequency 440.000000 in its place,
+ * or, among the entries, x. 20 has it where a number is not the one that vn_kbm writes there, or would for a mapped key. Asks
+ * 1, 2, 3, 4, 18, 19, 20, 10. */
+int64_t vn_kbm_read(uint16_t chain, uint16_t octave, uint16_t tritave, uint16_t start, const uint8_t *text, size_t text_len,
+                    uint16_t *out, size_t len);
 
 /* ---- sheets: a list of records, each of which is filled from its own key */
 

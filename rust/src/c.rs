@@ -188,6 +188,25 @@ unsafe extern "C" {
     pub fn vn_lamp(chain: u16, octave: u16, tritave: u16, start: u16, key: i32) -> i64;
     pub fn vn_widen_strip(strip: *const u8, strip_len: usize, out: *mut u16, len: usize) -> i64;
     pub fn vn_narrow_strip(strip: *const u16, strip_len: usize, out: *mut u8, len: usize) -> i64;
+    pub fn vn_kbm_len(chain: u16, octave: u16, tritave: u16, start: u16) -> i64;
+    pub fn vn_kbm(
+        chain: u16,
+        octave: u16,
+        tritave: u16,
+        start: u16,
+        out: *mut u8,
+        len: usize,
+    ) -> i64;
+    pub fn vn_kbm_read(
+        chain: u16,
+        octave: u16,
+        tritave: u16,
+        start: u16,
+        text: *const u8,
+        text_len: usize,
+        out: *mut u16,
+        len: usize,
+    ) -> i64;
 
     pub fn vn_sheet(
         chain: u16,

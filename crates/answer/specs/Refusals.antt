@@ -1,4 +1,4 @@
--- The number of each refusal, and what the shared answers mean (document 01, "Questions before an answer"; 15 to 18 and 21 of document 02).
+-- The number of each refusal, and what the shared answers mean (document 01, "Questions before an answer"; 15 to 21 of document 02).
 use Prim.Native.Nat.{ℕ}
 use Rattle.answer.specs.Outcome.{Outcome, given, refused}
 use Rattle.answer.specs.declared.Refusal.{Refusal}
@@ -20,6 +20,8 @@ use Rattle.answer.specs.declared.Refusal.the-variants.{
   Letter,
   Code,
   Start,
+  MappingLines,
+  MappingNumbers,
   Stars,
 }
 use Rattle.answer.specs.declared.NumberAnswer.{NumberAnswer}
@@ -47,6 +49,8 @@ numberOf Division = 15
 numberOf Letter = 16
 numberOf Code = 17
 numberOf Start = 18
+numberOf MappingLines = 19
+numberOf MappingNumbers = 20
 numberOf Stars = 21
 
 -- A number that was given, or the number of the question.

@@ -9,6 +9,7 @@
 mod books;
 mod edo;
 mod layouts;
+mod mappings;
 mod moves;
 mod names;
 mod numbers;
@@ -155,6 +156,9 @@ fn answered_other(kind: usize, line: &[u8], end: usize, room: u16) -> bool {
         return true;
     }
     if retunings::answer(line, end, room) {
+        return true;
+    }
+    if mappings::answer(line, end, room) {
         return true;
     }
     sheets::answer(line, end)

@@ -1,6 +1,6 @@
 // The C interface of the library: `include/vetchnoon.h` declares what stands here.
 //
-// Holds one function for each call of the header, in `numbers`, `patterns`, `chains`, `edo`, `layouts`, `reach`, `retuning`, `board`,
+// Holds one function for each call of the header, in `numbers`, `patterns`, `chains`, `edo`, `layouts`, `reach`, `retuning`, `board`, `kbm`,
 // `sheets`, `strips` and `books`, over the library's calls and the parts of `vetchnoon_codes`. A call answers a signed number: a value or
 // the number of elements that it wrote, or minus the number of the question that was answered with no (`codeOf` and `Fills` in the specs of
 // `vetchnoon_codes`).
@@ -11,6 +11,7 @@ pub mod board;
 pub mod books;
 pub mod chains;
 pub mod edo;
+pub mod kbm;
 pub mod layouts;
 pub mod numbers;
 pub mod patterns;

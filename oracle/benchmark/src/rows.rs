@@ -6,6 +6,7 @@
 //! every call, since a call takes the four numbers.
 
 mod edo;
+mod mappings;
 
 use std::borrow::Borrow;
 use std::cell::RefCell;
@@ -95,6 +96,7 @@ pub fn of_the_original() -> Vec<Row> {
     rows.extend(with_strip.map(strip));
     rows.extend(SIZES.map(sheet));
     rows.extend(with_table.map(key_table));
+    rows.extend(mappings::rows());
     rows.extend(walks());
     rows.extend(walks_of_moves());
     rows

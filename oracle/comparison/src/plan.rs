@@ -5,6 +5,7 @@ mod chains;
 mod edo;
 mod known;
 mod layouts;
+mod mappings;
 mod moves;
 mod orders;
 mod patterns;
@@ -63,6 +64,7 @@ pub fn tasks(mode: Mode, seed: u64) -> Vec<Task> {
     moves::plan(&mut tasks, mode, seed);
     patterns::plan(&mut tasks, mode, seed);
     pergens::plan(&mut tasks, mode, seed);
+    mappings::plan(&mut tasks, mode, seed);
     books::plan(&mut tasks, mode, seed);
     tables::plan(&mut tasks, mode, seed);
     strips::plan(&mut tasks, mode, seed);

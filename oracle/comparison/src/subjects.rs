@@ -6,6 +6,7 @@ pub mod chains;
 pub mod edo;
 pub mod keys;
 pub mod layouts;
+pub mod mappings;
 pub mod moves;
 pub mod numbers;
 pub mod orders;

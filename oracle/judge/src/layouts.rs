@@ -8,6 +8,7 @@ use reading::former;
 use reading::layers::Kind;
 use reading::layouts::lamps_of;
 use reading::layouts::repeated;
+use reading::mappings;
 use reading::reach;
 use reading::sheets::Record;
 use tune::layout;
@@ -102,6 +103,15 @@ pub fn former_strip(layout: &IsomorphicLayout) -> Answer<Outcome<Vec<u8>>> {
 fn lamps(layout: &IsomorphicLayout) -> Answer<Vec<Lamp>> {
     let kinds: Vec<Kind> = layers(layout)?.into_iter().map(kind_of).collect();
     Ok(lamps_of(layout.pergen().period().into(), &kinds))
+}
+
+/// The Scala keyboard mapping of the keys whose layer in the first octave is natural. The
+/// original has no such files (W-210).
+pub fn mapping(layout: &IsomorphicLayout) -> Answer<Vec<u8>> {
+    let octave = layout.pergen().period().into();
+    let layers = layers(layout)?.into_iter().take(octave);
+    let natural: Vec<bool> = layers.map(|layer| layer == Layer::Natural).collect();
+    Ok(mappings::written(&natural))
 }
 
 /// A sheet of keys. The original has no such call (W-208); it is asked for each key by itself,

@@ -14,6 +14,7 @@ pub mod edo;
 pub mod former;
 pub mod layers;
 pub mod layouts;
+pub mod mappings;
 pub mod moves;
 pub mod names;
 pub mod numbers;

@@ -33,6 +33,7 @@ use tune::pergen::Mos;
 use tune::pergen::PerGen;
 
 use crate::edo;
+use crate::mappings;
 use crate::questions::FreePergen;
 use crate::questions::Layout;
 use crate::questions::OfLayout;
@@ -106,7 +107,10 @@ fn elements(question: &Question, text: &str) -> usize {
         Question::OfPattern(..) | Question::OfLayout(..) | Question::Book(_) if text != "-" => {
             text.split(' ').count()
         }
+        Question::ReadKbm(..) if text == "-" => 0,
         Question::Reach(..)
+        | Question::Kbm(_)
+        | Question::ReadKbm(..)
         | Question::MoveTable(_)
         | Question::ToChainOrder(..)
         | Question::ToKeyOrder(..)
@@ -173,6 +177,9 @@ fn text(question: &Question) -> Text {
             chains::chain(*code)?;
             Ok(original_chain(*code).to_string())
         }
+        Question::KbmLength(layout) => mappings::length(*layout),
+        Question::Kbm(layout) => mappings::file(*layout),
+        Question::ReadKbm(layout, text) => mappings::keys(*layout, text),
         Question::Moved(retuning, letter, signs, stars) => {
             retunings::moved(*retuning, *letter, *signs, *stars)
         }

@@ -8,6 +8,7 @@ mod conversions;
 mod edo;
 mod keys;
 mod list;
+mod mappings;
 mod moves;
 mod orders;
 mod questions;
