@@ -94,6 +94,7 @@ extern "C" {
 
 /* The version of this header. The first number changes where a call, a number above or an answer is changed or taken away,
  * the second where some are added, the third where neither is so.
+ *   7.6.0: vn_sheet and struct vn_record are added.
  *   7.5.0: vn_kbm_len, vn_kbm and vn_kbm_read are added, of which the last asks 19 and 20.
  *   7.4.0: vn_moved, vn_move_table and vn_largest_move are added.
  *   7.3.0: vn_tritaves, vn_find_by_edo and vn_edo_report are added, of which the first two ask 15, VN_DIVISION.
@@ -113,7 +114,7 @@ extern "C" {
  *   2.0.0: vn_sounded_key takes signs as one number, and asks 16 and 21.
  *   1.0.0, before these numbers stood here: it took sharps and flats as two numbers, and asked 15, VN_SPELLING. */
 #define VN_VERSION_MAJOR 7
-#define VN_VERSION_MINOR 5
+#define VN_VERSION_MINOR 6
 #define VN_VERSION_PATCH 0
 
 /* The library was built for a size_t of 64 bits; with any other this line does not compile. */
@@ -349,6 +350,28 @@ int64_t vn_kbm(uint16_t chain, uint16_t octave, uint16_t tritave, uint16_t start
  * 1, 2, 3, 4, 18, 19, 20, 10. */
 int64_t vn_kbm_read(uint16_t chain, uint16_t octave, uint16_t tritave, uint16_t start, const uint8_t *text, size_t text_len,
                     uint16_t *out, size_t len);
+
+/* ---- sheets: a list of records, each of which is filled from its own key */
+
+/* One key of a sheet. The caller sets the key, and the call writes what stands behind it. */
+struct vn_record {
+    int32_t key;          /* any key; it stays as it is */
+    uint16_t sharp_index; /* the letter of the sharp spelling, counted along the chain's letters from 0 */
+    uint16_t sharp_count; /* how many sharps it has */
+    uint16_t flat_index;  /* the letter of the flat spelling */
+    uint16_t flat_count;  /* how many flats it has */
+    uint16_t stars;       /* how many stars both spellings have: the cycle's number, 0 where there is one cycle */
+    uint16_t lamp;        /* the lamp code */
+};
+
+/* The library has a record in 16 bytes; with any other number this line does not compile. */
+typedef char vn_record_has_16_bytes[sizeof(struct vn_record) == 16 ? 1 : -1];
+
+/* Fills each record from its key, in list order, with what single calls give for that key: the 4 numbers of
+ * vn_layout_accidentals, the cycle of vn_generation for the octave and the layout's generator, and the code of vn_lamp. What a
+ * record held behind its key does not matter, and a key may stand in several records. Returns the number of records, which may
+ * be 0; where the layout is refused, no record is touched. Asks 1, 2, 3, 4, 18. */
+int64_t vn_sheet(uint16_t chain, uint16_t octave, uint16_t tritave, uint16_t start, struct vn_record *records, size_t len);
 
 /* ---- books of key names, and key tables */
 

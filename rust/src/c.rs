@@ -1,5 +1,7 @@
 //! The C interface, as `include/vetchnoon.h` declares it.
 
+use crate::Record;
+
 unsafe extern "C" {
     pub fn vn_gcd(x: u16, y: u16) -> i64;
     pub fn vn_rem(numer: i32, denom: u16) -> i64;
@@ -203,6 +205,15 @@ unsafe extern "C" {
         text: *const u8,
         text_len: usize,
         out: *mut u16,
+        len: usize,
+    ) -> i64;
+
+    pub fn vn_sheet(
+        chain: u16,
+        octave: u16,
+        tritave: u16,
+        start: u16,
+        records: *mut Record,
         len: usize,
     ) -> i64;
 

@@ -121,6 +121,34 @@ impl Retuning {
     }
 }
 
+/// One key of a sheet, as C has it: the key, which a caller sets, and behind it what [`sheet`]
+/// writes.
+#[repr(C)]
+#[derive(Clone, Copy, Debug, Default, PartialEq, Eq, Hash)]
+pub struct Record {
+    pub key: i32,
+    /// The letter of the sharp spelling, by its index among the chain's letters, from 0.
+    pub sharp_index: u16,
+    pub sharp_count: u16,
+    /// The letter of the flat spelling.
+    pub flat_index: u16,
+    pub flat_count: u16,
+    /// The stars of both spellings: the cycle's number, 0 where there is one cycle.
+    pub stars: u16,
+    /// The lamp code.
+    pub lamp: u16,
+}
+
+impl Record {
+    /// A record that asks for a key.
+    pub fn new(key: i32) -> Self {
+        Self {
+            key,
+            ..Self::default()
+        }
+    }
+}
+
 /// The kinds of layers, as [`layer_kind`] writes them.
 pub const NATURAL: u16 = 0;
 pub const SHARP: u16 = 1;
@@ -601,6 +629,45 @@ pub fn kbm_read(layout: Layout, text: &[u8], out: &mut [u16]) -> Result<usize, R
     let (bytes, count) = (text.as_ptr(), text.len());
     let (keys, len) = (out.as_mut_ptr(), out.len());
     value(unsafe { c::vn_kbm_read(chain, octave, tritave, start, bytes, count, keys, len) })
+}
+
+/// Fills each record from its key, in list order, with what [`layout_accidentals`], [`generation`]
+/// and [`lamp`] give for that key; tells how many records there are (1, 2, 3, 4, 18). Where the
+/// layout is refused, no record is touched.
+///
+/// ```
+/// use vetchnoon::{Layout, Record, Refused, sheet};
+///
+/// // F C G D A E B: key 3 is D#* or Eb*, twice.
+/// let quarter_tones = Layout::new(1, 24, 38);
+/// let mut records = [3, -1, 3].map(Record::new);
+/// assert_eq!(sheet(quarter_tones, &mut records), Ok(3));
+/// let d_sharp = Record {
+///     key: 3,
+///     sharp_index: 3,
+///     sharp_count: 1,
+///     flat_index: 5,
+///     flat_count: 1,
+///     stars: 1,
+///     lamp: 3,
+/// };
+/// assert_eq!(records[0], d_sharp);
+/// assert_eq!((records[1].key, records[1].sharp_index), (-1, 1));
+/// assert_eq!(records[2], d_sharp);
+///
+/// assert_eq!(sheet(quarter_tones, &mut []), Ok(0));
+/// assert_eq!(sheet(Layout::new(0, 12, 19), &mut records), Err(Refused(4)));
+/// assert_eq!(records[0], d_sharp);
+/// ```
+pub fn sheet(layout: Layout, records: &mut [Record]) -> Result<usize, Refused> {
+    let Layout {
+        chain,
+        octave,
+        tritave,
+        start,
+    } = layout;
+    let (list, len) = (records.as_mut_ptr(), records.len());
+    value(unsafe { c::vn_sheet(chain, octave, tritave, start, list, len) })
 }
 
 /// The part of a book, which may be any bytes, that holds a key's name (11, 12, 13). A book's

@@ -19,6 +19,7 @@ mod pergens;
 mod print;
 mod reach;
 mod retunings;
+mod sheets;
 mod strips;
 mod tables;
 mod words;
@@ -157,7 +158,10 @@ fn answered_other(kind: usize, line: &[u8], end: usize, room: u16) -> bool {
     if retunings::answer(line, end, room) {
         return true;
     }
-    mappings::answer(line, end, room)
+    if mappings::answer(line, end, room) {
+        return true;
+    }
+    sheets::answer(line, end)
 }
 
 fn answer_line(line: &[u8]) {

@@ -12,6 +12,7 @@ mod patterns;
 mod pergens;
 mod reach;
 mod retunings;
+mod sheets;
 mod strips;
 mod tables;
 
@@ -58,6 +59,7 @@ pub fn tasks(mode: Mode, seed: u64) -> Vec<Task> {
     layouts::plan(&mut tasks, mode, seed);
     reach::plan(&mut tasks, mode, seed);
     retunings::plan(&mut tasks, mode, seed);
+    sheets::plan(&mut tasks, mode, seed);
     orders::plan(&mut tasks, mode, seed);
     moves::plan(&mut tasks, mode, seed);
     patterns::plan(&mut tasks, mode, seed);

@@ -51,6 +51,7 @@ pub enum Call {
     KbmLen,
     Kbm,
     KbmRead,
+    Sheet,
     BookLen,
     Book,
     BookFind,
@@ -106,6 +107,7 @@ impl Call {
             Self::KbmLen => "vn_kbm_len",
             Self::Kbm => "vn_kbm",
             Self::KbmRead => "vn_kbm_read",
+            Self::Sheet => "vn_sheet",
             Self::BookLen => "vn_book_len",
             Self::Book => "vn_book",
             Self::BookFind => "vn_book_find",
@@ -115,8 +117,9 @@ impl Call {
 }
 
 /// A call with its arguments, in order. Bytes are arguments as well, and so are the codes
-/// of a strip and the entries of a list that is lent; those of a lookup are the key and then
-/// the book, those of a mapping that is read the layout and then the text. Questions are put by the million, so one borrows its arguments; only those that
+/// of a strip, the entries of a list that is lent and the keys of a sheet; those of a lookup are
+/// the key and then the book, those of a mapping that is read the layout and then the text.
+/// Questions are put by the million, so one borrows its arguments; only those that
 /// are reported are kept.
 #[derive(Clone, Copy, Debug)]
 pub struct Question<'a> {

@@ -14,5 +14,6 @@ pub mod patterns;
 pub mod pergens;
 pub mod reach;
 pub mod retunings;
+pub mod sheets;
 pub mod strips;
 pub mod tables;

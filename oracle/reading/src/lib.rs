@@ -24,6 +24,7 @@ pub mod pergens;
 pub mod powers;
 pub mod reach;
 pub mod retunings;
+pub mod sheets;
 pub mod tables;
 
 /// A whole number, wide enough for every sum and product here.

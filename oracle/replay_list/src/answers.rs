@@ -40,6 +40,7 @@ use crate::questions::OfLayout;
 use crate::questions::OfPattern;
 use crate::questions::Question;
 use crate::retunings;
+use crate::sheets;
 
 /// Why there is no answer.
 pub enum Absent {
@@ -245,6 +246,7 @@ fn text(question: &Question) -> Text {
             let (walk, created) = (walk(*pergen)?, created(*pergen)?);
             Ok(words(walk.into_iter().flat_map(|mos| moves(mos, &created))))
         }
+        Question::Sheet(layout, keys) => sheets::text(*layout, keys),
         Question::Widen(strip) => Ok(list_text(codes::widened(strip)?)),
         Question::Narrow(strip) => Ok(list_text(codes::narrowed(strip)?)),
         Question::BookLength(layout) => Ok(book(*layout)?.len().to_string()),

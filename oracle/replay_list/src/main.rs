@@ -15,6 +15,7 @@ mod questions;
 mod random;
 mod reach;
 mod retunings;
+mod sheets;
 mod starts;
 mod strips;
 

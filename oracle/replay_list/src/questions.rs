@@ -212,6 +212,8 @@ pub enum Question {
     KbmLength(Layout),
     Kbm(Layout),
     ReadKbm(Layout, Vec<u8>),
+    /// A sheet of four keys; the layout has a start.
+    Sheet(Layout, [i32; 4]),
     /// Stored codes of one byte, and the way back.
     Widen(Vec<u8>),
     Narrow(Vec<u16>),
@@ -296,6 +298,7 @@ impl Display for Question {
             }
             Self::MoveTable(retuning) => write!(f, "move_table {retuning}"),
             Self::LargestMove(retuning) => write!(f, "largest_move {retuning}"),
+            Self::Sheet(layout, keys) => write!(f, "sheet {layout} {}", words(keys)),
             Self::ToChainOrder(layout, list) => {
                 write!(f, "to_chain_order {layout}{}", listed(list))
             }
