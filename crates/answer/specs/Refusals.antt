@@ -1,4 +1,5 @@
--- The number of each refusal, and what the shared answers mean (document 01, "Questions before an answer"; 16, 17, 18 and 21 of document 02).
+-- The number of each refusal, and what the shared answers mean (document 01, "Questions before an answer"; 16, 17, 18, 21 and 22 of
+-- document 02).
 use Prim.Native.Nat.{ℕ}
 use Rattle.answer.specs.Outcome.{Outcome, given, refused}
 use Rattle.answer.specs.declared.Refusal.{Refusal}
@@ -20,6 +21,7 @@ use Rattle.answer.specs.declared.Refusal.the-variants.{
   Code,
   Start,
   Stars,
+  FractionalGenerator,
 }
 use Rattle.answer.specs.declared.NumberAnswer.{NumberAnswer}
 use Rattle.answer.specs.declared.NumberAnswer.the-variants as Number
@@ -46,6 +48,7 @@ numberOf Letter = 16
 numberOf Code = 17
 numberOf Start = 18
 numberOf Stars = 21
+numberOf FractionalGenerator = 22
 
 -- A number that was given, or the number of the question.
 abbrev pub numberOutcome : NumberAnswer → Outcome ℕ

@@ -1,7 +1,7 @@
 // What every entry point answers: a value, or the number of the first question that it says no to.
 //
-// Holds thirteen questions of document 01 ("Questions before an answer") and four of document 02 as one enum with their numbers,
-// and the answers that several crates share. Number 9 stays reserved: its answer is always yes since lamp codes have two bytes
+// Holds thirteen questions of document 01 ("Questions before an answer") and those of document 02 that are asked as one enum with their
+// numbers, and the answers that several crates share. Number 9 stays reserved: its answer is always yes since lamp codes have two bytes
 // (document 02, W-207), so no call asks it.
 // specs/: an outcome and how questions are asked (Outcome), the numbers (Refusals), what a lent slice holds
 // after an answer (Lent). Nothing is assumed.
@@ -44,6 +44,8 @@ pub enum Refusal {
     Start,
     // 21: are the stars below the cycles? (document 02)
     Stars,
+    // 22: is the fractional generator a number, and not infinite? (document 02)
+    FractionalGenerator,
 }
 
 impl Refusal {
@@ -69,6 +71,7 @@ impl Refusal {
             Refusal::Code => 17,
             Refusal::Start => 18,
             Refusal::Stars => 21,
+            Refusal::FractionalGenerator => 22,
         }
     }
 }

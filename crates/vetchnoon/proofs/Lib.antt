@@ -1,3 +1,4 @@
 pub mod Outputs
 pub mod Pairs
 pub mod Examples
+pub mod FractionalCalls
