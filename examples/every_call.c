@@ -30,7 +30,14 @@ static void holds(int line, const void *slice, const void *wanted, size_t bytes)
         holds(__LINE__, numbers, wanted, sizeof wanted); \
     } while (0)
 
+#define MOVES(...) \
+    do { \
+        const int32_t wanted[] = {__VA_ARGS__}; \
+        holds(__LINE__, moves, wanted, sizeof wanted); \
+    } while (0)
+
 static uint16_t numbers[64];
+static int32_t moves[4 * 65535];
 static uint16_t strip[2400];
 static uint8_t text[512];
 
@@ -101,6 +108,86 @@ static void call_chains(void)
     IS(vn_chain_name(3, text, 11), -VN_ROOM);
     IS(vn_start(0), 4);
     IS(vn_start(256), -VN_CHAIN);
+}
+
+/* What a slice holds where nothing may be written. */
+static void fill(void)
+{
+    memset(numbers, 0x5A, sizeof numbers);
+    memset(text, 0x5A, sizeof text);
+}
+
+/* The elements of numbers from a place on are untouched. */
+static void untouched(int line, size_t from)
+{
+    static uint8_t filled[sizeof numbers];
+    memset(filled, 0x5A, sizeof filled);
+    holds(line, numbers + from, filled, sizeof numbers - from * sizeof numbers[0]);
+}
+
+/* 15 is asked before 10. 257 would be 1 in eight bits. */
+static void call_tritaves(void)
+{
+    fill();
+    IS(vn_tritaves(0, numbers, 2), -VN_DIVISION);
+    IS(vn_tritaves(401, numbers, 2), -VN_DIVISION);
+    IS(vn_tritaves(65535, numbers, 0), -VN_DIVISION);
+    IS(vn_tritaves(12, numbers, 0), -VN_ROOM);
+    IS(vn_tritaves(13, numbers, 1), -VN_ROOM);
+    untouched(__LINE__, 0);
+    IS(vn_tritaves(12, numbers, 64), 1);
+    NUMBERS(19);
+    untouched(__LINE__, 1);
+    IS(vn_tritaves(13, numbers, 2), 2);
+    NUMBERS(21, 20);
+    IS(vn_tritaves(16, numbers, 64), 2);
+    NUMBERS(25, 26);
+    untouched(__LINE__, 2);
+    IS(vn_tritaves(1, numbers, 2), 2);
+    NUMBERS(2, 1);
+    IS(vn_tritaves(400, numbers, 1), 1);
+    NUMBERS(634);
+    /* Nearest to half a step, and to a third of one on both sides. */
+    IS(vn_tritaves(153, numbers, 2), 2);
+    NUMBERS(242, 243);
+    IS(vn_tritaves(102, numbers, 2), 2);
+    NUMBERS(162, 161);
+    IS(vn_tritaves(204, numbers, 2), 1);
+    NUMBERS(323);
+    IS(vn_tritaves(257, numbers, 2), 2);
+    NUMBERS(407, 408);
+}
+
+static void call_divisions(void)
+{
+    fill();
+    IS(vn_find_by_edo(0, numbers, 18), -VN_DIVISION);
+    IS(vn_find_by_edo(401, numbers, 0), -VN_DIVISION);
+    IS(vn_find_by_edo(65535, numbers, 18), -VN_DIVISION);
+    IS(vn_find_by_edo(12, numbers, 5), -VN_ROOM);
+    IS(vn_find_by_edo(12, numbers, 0), -VN_ROOM);
+    IS(vn_find_by_edo(4, numbers, 0), 0);
+    IS(vn_find_by_edo(4, numbers, 18), 0);
+    IS(vn_find_by_edo(6, numbers, 18), 0);
+    untouched(__LINE__, 0);
+    IS(vn_find_by_edo(12, numbers, 64), 6);
+    NUMBERS(1, 19, 0, 2, 19, 0);
+    untouched(__LINE__, 6);
+    IS(vn_find_by_edo(7, numbers, 9), 9);
+    NUMBERS(1, 11, 0, 2, 11, 0, 4, 11, 0);
+    IS(vn_find_by_edo(13, numbers, 12), 12);
+    NUMBERS(0, 20, 1, 1, 20, 1, 2, 21, 0, 4, 21, 0);
+    IS(vn_find_by_edo(16, numbers, 12), 12);
+    NUMBERS(0, 25, 0, 1, 25, 0, 2, 25, 0, 3, 26, 1);
+    IS(vn_find_by_edo(400, numbers, 6), 6);
+    NUMBERS(1, 634, 0, 2, 634, 0);
+
+    fill();
+    IS(vn_edo_report(text, 56), -VN_ROOM);
+    IS(vn_edo_report(text, 0), -VN_ROOM);
+    holds(__LINE__, text, "ZZZZ", 4);
+    IS(vn_edo_report(text, sizeof text), 57);
+    TEXT("0 5 2 2\n1 377 8 5\n2 3 386 6\n3 166 0 2\n4 124 0 7\n5 84 0 0\nZ");
 }
 
 static void call_layouts(void)
@@ -180,6 +267,153 @@ static void call_reach(void)
     NUMBERS(0, 1, 2, 3, 4, 5, 6);
     IS(vn_keys_in_reach(1, 7, 11, 3, 2, 3, numbers, 6), -VN_ROOM);
     IS(vn_keys_in_reach(1, 7, 11, 7, 2, 3, numbers, 6), -VN_START);
+}
+
+/* Meantone[5], C G D A E from D, in 31 steps with 49 to the tritave and then 50: the generator goes from 18 to 19. */
+static void call_retunings(void)
+{
+    IS(vn_moved(2, 31, 2, 49, 50, 2, 0, 0), 0);
+    IS(vn_moved(2, 31, 2, 49, 50, 3, 0, 0), 1);
+    IS(vn_moved(2, 31, 2, 49, 50, 2, 4, 0), 11); /* 20 the other way round */
+    IS(vn_moved(2, 31, 2, 50, 49, 2, 4, 0), 11);
+    IS(vn_moved(2, 31, 2, 49, 50, 2, INT32_MIN, 0), 10);
+    IS(vn_moved(2, 31, 2, 49, 50, 2, INT32_MAX, 0), 5);
+    IS(vn_moved(2, 31, 0, 49, 50, 4, 0, 0), 4); /* from C */
+    IS(vn_moved(1, 24, 3, 38, 34, 3, 1, 1), 4); /* two cycles each */
+    IS(vn_moved(1, 24, 3, 38, 34, 3, 1, 2), -VN_STARS);
+    IS(vn_moved(1, 24, 3, 38, 37, 3, 1, 0), 7); /* two cycles and one */
+    IS(vn_moved(1, 24, 3, 38, 37, 3, 1, 1), -VN_STARS);
+    IS(vn_moved(1, 24, 3, 37, 38, 3, 1, 1), -VN_STARS);
+    IS(vn_moved(2, 31, 2, 49, 50, 5, 0, 1), -VN_LETTER);
+    IS(vn_moved(2, 31, 2, 49, 50, 258, 0, 0), -VN_LETTER);
+    IS(vn_moved(6, 0, 9, 0, 0, 9, 0, 9), -VN_CHAIN);
+    IS(vn_moved(2, 0, 9, 0, 0, 9, 0, 9), -VN_PERIOD);
+    IS(vn_moved(2, 4, 9, 3, 6, 9, 0, 9), -VN_GENERATOR);
+    IS(vn_moved(2, 4, 9, 6, 3, 9, 0, 9), -VN_PATTERN);
+    IS(vn_moved(2, 31, 5, 49, 30, 9, 0, 9), -VN_START);
+    IS(vn_moved(2, 31, 4, 49, 30, 9, 0, 9), -VN_GENERATOR);
+    IS(vn_moved(1, 31, 6, 49, 50, 9, 0, 9), -VN_PATTERN);
+
+    strip[85] = 4711;
+    IS(vn_move_table(2, 31, 2, 49, 50, strip, 86), 85);
+    IS(strip[85], 4711);
+    memcpy(numbers, strip + 2 * 17, 17 * sizeof *numbers); /* D, from eight flats to eight sharps */
+    NUMBERS(9, 4, 1, 6, 11, 15, 10, 5, 0, 5, 10, 15, 11, 6, 1, 4, 9);
+    memcpy(numbers, strip, 17 * sizeof *numbers); /* C */
+    NUMBERS(11, 6, 1, 4, 9, 14, 12, 7, 2, 3, 8, 13, 13, 8, 3, 2, 7);
+    IS(vn_move_table(2, 31, 2, 49, 50, strip, 85), 85);
+    strip[0] = 4712;
+    IS(vn_move_table(2, 31, 2, 49, 50, strip, 84), -VN_ROOM);
+    IS(vn_move_table(2, 31, 5, 49, 50, strip, 84), -VN_START);
+    IS(vn_move_table(1, 31, 6, 49, 50, strip, 84), -VN_PATTERN);
+    IS(strip[0], 4712);
+
+    IS(vn_largest_move(2, 31, 2, 49, 50), 15);
+    IS(vn_largest_move(2, 31, 2, 49, 49), 0);
+    IS(vn_largest_move(2, 31, 5, 49, 30), -VN_START);
+    IS(vn_largest_move(1, 31, 6, 49, 50), -VN_PATTERN);
+}
+
+/* In 24 steps the chain goes 0 14 4 .. through the even keys and then 1 15 5 .. through the odd ones. */
+static void call_orders(void)
+{
+    uint16_t keys[26], i;
+    for (i = 0; i < 26; i++)
+        keys[i] = (uint16_t)(65535 - i); /* no entry is a key */
+
+    IS(vn_to_chain_order(1, 24, 38, 3, keys, 24, numbers, 24), 24);
+    for (i = 0; i < 24; i++)
+        numbers[i] = (uint16_t)(65535 - numbers[i]);
+    NUMBERS(0, 14, 4, 18, 8, 22, 12, 2, 16, 6, 20, 10, 1, 15, 5, 19, 9, 23, 13, 3, 17, 7, 21, 11);
+    IS(vn_to_key_order(1, 24, 38, 3, keys, 24, numbers, 24), 24);
+    for (i = 0; i < 24; i++)
+        numbers[i] = (uint16_t)(65535 - numbers[i]);
+    NUMBERS(0, 12, 7, 19, 2, 14, 9, 21, 4, 16, 11, 23, 6, 18, 1, 13, 8, 20, 3, 15, 10, 22, 5, 17);
+
+    /* Each undoes the other. */
+    IS(vn_to_chain_order(1, 24, 38, 3, keys, 24, numbers, 24), 24);
+    IS(vn_to_key_order(1, 24, 38, 3, numbers, 24, strip, 24), 24);
+    holds(__LINE__, strip, keys, 48);
+    IS(vn_to_key_order(1, 24, 38, 3, keys, 24, numbers, 24), 24);
+    IS(vn_to_chain_order(1, 24, 38, 3, numbers, 24, strip, 24), 24);
+    holds(__LINE__, strip, keys, 48);
+
+    /* The letter on key 0 moves no key. Longer lists: what lies past the octave is not read, and kept. */
+    numbers[7] = numbers[8] = 4711;
+    IS(vn_to_chain_order(1, 7, 11, 0, keys, 26, numbers, 9), 7);
+    NUMBERS(65535, 65531, 65534, 65530, 65533, 65529, 65532, 4711, 4711);
+    IS(vn_to_key_order(1, 7, 11, 6, keys, 26, numbers, 9), 7);
+    NUMBERS(65535, 65533, 65531, 65529, 65534, 65532, 65530, 4711, 4711);
+
+    /* Lists that are too short, and layouts that are none; nothing is written. */
+    IS(vn_to_chain_order(1, 24, 38, 3, keys, 23, numbers, 24), -VN_ROOM);
+    IS(vn_to_chain_order(1, 24, 38, 3, keys, 24, numbers, 23), -VN_ROOM);
+    IS(vn_to_chain_order(1, 24, 38, 7, keys, 0, numbers, 0), -VN_START);
+    IS(vn_to_chain_order(0, 12, 19, 9, keys, 0, numbers, 0), -VN_PATTERN);
+    IS(vn_to_key_order(1, 24, 38, 3, keys, 23, numbers, 24), -VN_ROOM);
+    IS(vn_to_key_order(1, 24, 38, 3, keys, 24, numbers, 23), -VN_ROOM);
+    IS(vn_to_key_order(1, 24, 38, 7, keys, 0, numbers, 0), -VN_START);
+    IS(vn_to_key_order(3, 12, 19, 9, keys, 0, numbers, 0), -VN_GENERATOR);
+    NUMBERS(65535, 65533, 65531, 65529, 65534, 65532, 65530, 4711, 4711);
+}
+
+/* In the largest octave of Hanson[7] the chain goes down, key by key. */
+static void call_largest_orders(void)
+{
+    static uint16_t keys[65535], ordered[65536];
+    uint32_t i;
+    int misplaced = 0;
+    for (i = 0; i < 65535; i++)
+        keys[i] = (uint16_t)(i + 1);
+    ordered[65535] = 4711;
+
+    IS(vn_to_chain_order(5, 65535, 6, 3, keys, 65535, ordered, 65536), 65535);
+    for (i = 0; i < 65535; i++)
+        misplaced += ordered[i] != keys[(65535 - i) % 65535];
+    IS(vn_to_key_order(5, 65535, 6, 3, keys, 65535, ordered, 65536), 65535);
+    for (i = 0; i < 65535; i++)
+        misplaced += ordered[i] != keys[(65535 - i) % 65535];
+    IS(misplaced, 0);
+    IS(ordered[65535], 4711);
+    IS(vn_to_chain_order(5, 65535, 6, 3, keys, 65534, ordered, 65536), -VN_ROOM);
+    IS(vn_to_chain_order(5, 65535, 6, 3, keys, 65535, ordered, 65534), -VN_ROOM);
+}
+
+/* Octaves and generators of the primary move, then of the secondary one. */
+static void call_moves(void)
+{
+    moves[4] = 4711;
+    IS(vn_moves(1, 12, 19, 3, moves, 4), 4);
+    MOVES(-1, 2, 3, -5);
+    IS(vn_moves(5, 19, 30, 0, moves, 5), 4);
+    MOVES(-2, 3, 3, -4, 4711);
+    IS(vn_moves(2, 5, 18, 2, moves, 5), 4); /* the generator is 13 */
+    MOVES(-5, 2, 8, -3, 4711);
+    IS(vn_moves(2, 65534, 65535, 4, moves, 4), 4);
+    MOVES(0, 1, 1, -4);
+    IS(vn_moves(1, 12, 19, 3, moves, 3), -VN_ROOM);
+    IS(vn_moves(1, 12, 19, 7, moves, 3), -VN_START);
+    IS(vn_moves(0, 12, 19, 9, moves, 3), -VN_PATTERN);
+    MOVES(0, 1, 1, -4);
+
+    IS(vn_walk_moves(12, 7, moves, 20), 20);
+    MOVES(0, 1, 1, -1, -1, 2, 1, -1, -1, 2, 2, -3, -1, 2, 3, -5, -4, 7, 3, -5);
+    IS(vn_walk_moves(12, 19, moves, 20), 20);
+    MOVES(-1, 1, 2, -1, -3, 2, 2, -1, -3, 2, 5, -3, -3, 2, 8, -5, -11, 7, 8, -5);
+    IS(vn_walk_moves(12, 7, moves, 19), -VN_ROOM);
+    IS(vn_walk_moves(0, 7, moves, 0), -VN_PERIOD);
+    MOVES(-1, 1, 2, -1, -3, 2, 2, -1, -3, 2, 5, -3, -3, 2, 8, -5, -11, 7, 8, -5);
+    IS(vn_walk_moves(6, 12, moves, 5), 4); /* a step is 0 */
+    MOVES(-2, 1, 3, -1, -3);
+    IS(vn_walk_moves(1, 65535, moves, 4), 4);
+    MOVES(-65535, 1, 65536, -1);
+    IS(vn_walk_moves(65535, 65534, moves, 4 * 65535), 4 * 65534);
+    IS(moves[4 * 65533], -65533);
+    IS(moves[4 * 65533 + 1], 65534);
+    IS(vn_walk_moves(65535, 1, moves, 4 * 65534), 4 * 65534);
+    IS(moves[4 * 65533 + 2], 1);
+    IS(moves[4 * 65533 + 3], -65534);
+    IS(vn_walk_moves(65535, 1, moves, 4 * 65534 - 1), -VN_ROOM);
 }
 
 static void call_layers(void)
@@ -361,8 +595,14 @@ int main(void)
     call_pergens();
     call_patterns();
     call_chains();
+    call_tritaves();
+    call_divisions();
     call_layouts();
     call_reach();
+    call_retunings();
+    call_orders();
+    call_largest_orders();
+    call_moves();
     call_layers();
     call_lamps();
     call_stored_strips();

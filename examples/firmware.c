@@ -1,6 +1,6 @@
 /* What an instrument's firmware does with the library: it makes a layout, lights the lamps, keeps a book of names, and
- * shows the name of each key that is pressed, and the nearest D. Nothing is allocated, and every refusal is shown by its
- * number. */
+ * shows the name of each key that is pressed, the nearest D, how far a retuning moves notes, the order in which caps are
+ * filed, and the board's moves. Nothing is allocated, and every refusal is shown by its number. */
 #include <inttypes.h>
 #include <stdio.h>
 
@@ -21,6 +21,25 @@ static int refused(const char *what, int64_t answer)
     if (answer < 0)
         printf("%s: refused %" PRId64 "\n", what, -answer);
     return answer < 0;
+}
+
+/* Shows the layouts of an octave of so many steps: a school types this number alone. */
+static void show_division(uint16_t steps)
+{
+    uint16_t found[6 * 3]; /* chain, tritave, 1 for the second choice, of at most six layouts */
+    uint8_t chain[12], scale[12];
+    int64_t count = vn_find_by_edo(steps, found, 6 * 3), i;
+
+    if (refused("layouts", count))
+        return;
+    for (i = 0; i < count; i += 3) {
+        int chain_len = (int)vn_chain_name(found[i], chain, sizeof chain);
+        uint16_t start = (uint16_t)vn_start(found[i]);
+        int scale_len = (int)vn_scale_name(found[i], steps, found[i + 1], start, scale, sizeof scale);
+
+        printf("%d steps, %d to the tritave%s: %.*s, %.*s\n", steps, found[i + 1], found[i + 2] ? ", second choice" : "",
+               chain_len, (const char *)chain, scale_len, (const char *)scale);
+    }
 }
 
 /* Keeps how many codes were written to the strip, unless it was refused. */
@@ -92,6 +111,56 @@ static void show_nearest_d(int32_t key)
     printf("\n");
 }
 
+/* Shows, before a lesson, how far another tritave moves G, D and A and their sharps, and any note with up to eight signs. */
+static void show_retuning(uint16_t from, uint16_t to)
+{
+    enum { G = 2, A = 4, EACH = 17, NO_SIGN = 8 }; /* a letter's moves, from eight flats to eight sharps */
+    static uint16_t table[7 * EACH];
+    int64_t largest = vn_largest_move(CHAIN, OCTAVE, START, from, to);
+    int letter;
+
+    if (refused("retuning", vn_move_table(CHAIN, OCTAVE, START, from, to, table, 7 * EACH)))
+        return;
+    printf("from %d to %d steps a tritave, G D A move by", from, to);
+    for (letter = G; letter <= A; letter++)
+        printf(" %d", table[letter * EACH + NO_SIGN]);
+    printf(", with a sharp by");
+    for (letter = G; letter <= A; letter++)
+        printf(" %d", table[letter * EACH + NO_SIGN + 1]);
+    printf(", none by more than %" PRId64 "\n", largest);
+}
+
+/* Shows which keys' caps lie side by side where they are filed along the chain, and that they come back to their keys. */
+static void show_filed_caps(void)
+{
+    uint16_t caps[OCTAVE], filed[OCTAVE], back[OCTAVE];
+    int key, moved = 0;
+
+    for (key = 0; key < OCTAVE; key++)
+        caps[key] = (uint16_t)key;
+    if (refused("caps", vn_to_chain_order(CHAIN, OCTAVE, TRITAVE, START, caps, OCTAVE, filed, OCTAVE)))
+        return;
+    if (refused("caps", vn_to_key_order(CHAIN, OCTAVE, TRITAVE, START, filed, OCTAVE, back, OCTAVE)))
+        return;
+    printf("caps along the chain:");
+    for (key = 0; key < OCTAVE; key++) {
+        printf(" %d", filed[key]);
+        moved += back[key] != caps[key];
+    }
+    printf("\n%d of them come back to another key\n", moved);
+}
+
+/* Shows the moves to the neighbours on the board. */
+static void show_moves(void)
+{
+    int32_t moves[4]; /* octaves and generators, primary first */
+
+    if (refused("moves", vn_moves(CHAIN, OCTAVE, TRITAVE, START, moves, 4)))
+        return;
+    printf("moves: %" PRId32 " octaves and %" PRId32 " generators, %" PRId32 " octaves and %" PRId32 " generators\n", moves[0],
+           moves[1], moves[2], moves[3]);
+}
+
 /* Lights the keys from one to another, both included. */
 static void light(int32_t from, int32_t to)
 {
@@ -107,6 +176,10 @@ int main(void)
 {
     uint16_t layout[8]; /* generator, cycles, reduced period, inverse, counts, steps */
     int64_t length;
+
+    show_division(OCTAVE); /* Meantone[7] and Meantone[5]; the first is taken below */
+    show_division(16);
+    show_division(401);
 
     if (refused("layout", vn_layout(CHAIN, OCTAVE, TRITAVE, START, layout, 8)))
         return 1;
@@ -132,6 +205,10 @@ int main(void)
 
     show_nearest_d(12); /* D* */
     show_nearest_d(-2); /* D */
+    show_retuning(TRITAVE, 37);
+    show_retuning(TRITAVE, 30);
+    show_filed_caps();
+    show_moves();
 
     /* Porcupine[8] in 8 equal steps: the colours of one octave are not those of the next, so the strip has two;
      * keys -8, 0, 8 and 16 are home. */

@@ -8,10 +8,12 @@
 
 #include "vetchnoon.h"
 
-enum { STACK = 65536, PAINT = 0xA5, ALLOWED = 1024 };
+enum { STACK = 65536, PAINT = 0xA5, ALLOWED = 1280 };
 
 static uint8_t stack[STACK];
 static uint16_t numbers[2 * 65536];
+static int32_t moves[4 * 65536];
+static uint16_t entries[65536];
 static uint8_t text[1 << 22];
 static const uint8_t stored[4096];
 static const uint16_t wide[4096];
@@ -31,6 +33,8 @@ static uint32_t found[2];
     CALL(vn_mos_genesis(1, 65535, 4, 0, numbers, 4)) \
     CALL(vn_mos_coprime(1, 1, 4096, 0, numbers, 4)) \
     CALL(vn_mos_find(65535, 1, 65535, numbers, 4)) \
+    CALL(vn_walk_moves(46368, 28657, moves, sizeof moves / 4)) \
+    CALL(vn_walk_moves(65535, 1, moves, sizeof moves / 4)) \
     CALL(vn_mos_children(1, 0, 46368, 28657, numbers, sizeof numbers / 2)) \
     CALL(vn_mos_parents(46368, 28657, 1, 0, numbers, sizeof numbers / 2)) \
     CALL(vn_mos_layers(5, 2, 9000, 7000, numbers, sizeof numbers / 2)) \
@@ -38,6 +42,10 @@ static uint32_t found[2];
     CALL(vn_chain_letters(0, numbers, 9)) \
     CALL(vn_chain_name(3, text, 12)) \
     CALL(vn_start(5)) \
+    CALL(vn_tritaves(400, numbers, 2)) \
+    CALL(vn_find_by_edo(13, numbers, 18)) \
+    CALL(vn_find_by_edo(400, numbers, 18)) \
+    CALL(vn_edo_report(text, sizeof text)) \
     CALL(vn_layout(2, 65534, 65535, 4, numbers, 8)) \
     CALL(vn_scale_name(1, 2400, 3800, 6, text, 12)) \
     CALL(vn_note_name_len(2, 65534, 65535, 4, -32767)) \
@@ -48,6 +56,18 @@ static uint32_t found[2];
     CALL(vn_nearest_natural(1, 41699, 65527, 6, -1, 6)) \
     CALL(vn_keys_in_reach(2, 65534, 65535, 4, -1, 32766, numbers, sizeof numbers / 2)) \
     CALL(vn_keys_in_reach(1, 41699, 65527, 6, 20849, 9, numbers, sizeof numbers / 2)) \
+    CALL(vn_moved(2, 65534, 4, 65535, 65535, 4, INT32_MIN, 0)) \
+    CALL(vn_moved(1, 41699, 6, 65527, 65527, 6, INT32_MAX, 0)) \
+    CALL(vn_move_table(2, 65534, 4, 65535, 65535, numbers, sizeof numbers / 2)) \
+    CALL(vn_move_table(1, 41699, 6, 65527, 65527, numbers, sizeof numbers / 2)) \
+    CALL(vn_largest_move(2, 65534, 4, 65535, 65535)) \
+    CALL(vn_largest_move(1, 41699, 6, 65527, 65527)) \
+    CALL(vn_to_chain_order(1, 41699, 65527, 6, entries, sizeof entries / 2, numbers, sizeof numbers / 2)) \
+    CALL(vn_to_chain_order(2, 65534, 65535, 4, entries, sizeof entries / 2, numbers, sizeof numbers / 2)) \
+    CALL(vn_to_key_order(1, 41699, 65527, 6, entries, sizeof entries / 2, numbers, sizeof numbers / 2)) \
+    CALL(vn_to_key_order(2, 65534, 65535, 4, entries, sizeof entries / 2, numbers, sizeof numbers / 2)) \
+    CALL(vn_moves(1, 41699, 65527, 6, moves, 4)) \
+    CALL(vn_moves(2, 65534, 65535, 4, moves, 4)) \
     CALL(vn_layer_count(2, 65534, 65535, 4)) \
     CALL(vn_layout_layers(2, 65534, 65535, 4, numbers, sizeof numbers / 2)) \
     CALL(vn_layer(2, 65534, 65535, 4, -1)) \

@@ -5,8 +5,9 @@
  * What the library runs on
  *   x86-64 Linux, C calling convention, size_t of 64 bits. It needs memset and memcpy, which a C library has, and nothing
  *   else; it makes no system calls.
- *   Stack: at most 1 KiB for any call, measured (744 bytes for vn_key_table, at most 512 for any other, with the memset and
- *   memcpy of glibc); examples/check measures it again.
+ *   Stack: at most 1.25 KiB for any call, measured (1,224 bytes for vn_edo_report, 1,128 for vn_find_by_edo, 856 for
+ *   vn_tritaves, 744 for vn_key_table, at most 512 for any other, with the memset and memcpy of glibc); examples/check
+ *   measures it again.
  *
  * What a call returns
  *   0 or more: the answer, or how many elements were written to the front of the slice that was lent.
@@ -23,15 +24,17 @@
  *   VN_COPRIME_SIZE  8  Is the size after coprime at most 65,535?
  *   VN_LAMP_LAYER    9  Reserved: no call asks it since 7.0.0. It asked whether every sharp and flat layer number of the lamp
  *                       strip is below 100, and codes of 16 bits have room for all.
- *   VN_ROOM         10  Does the output slice hold the whole output?
+ *   VN_ROOM         10  Does the output slice hold the whole output? (Of a list that is put in another order: do both lists
+ *                       have an entry for each key of the octave?)
  *   VN_BOOK_PAIRS   11  Does a book hold its count, at least 1, and that many pairs?
  *   VN_BOOK_COVER   12  Do the pairs cover the text?
  *   VN_BOOK_KEY     13  Is the key at least 0 and below the book's count?
  *   VN_LINE         14  Is the key table's line well formed? (The table prints this number; no call returns it.)
+ *   VN_DIVISION     15  Is the number of steps that the octave is divided into 1 to 400?
  *   VN_LETTER       16  Is the letter's place below the chain's number of letters?
  *   VN_CODE         17  Does every code of the strip have a partner among the other width's codes?
  *   VN_START        18  Is the layout's start below the chain's number of letters?
- *   VN_STARS        21  Are the stars below the number of cycles?
+ *   VN_STARS        21  Are the stars below the number of cycles? (Of a retuning: below that of both layouts?)
  * A refusal is compared as in vn_layout(chain, octave, tritave, start, out, len) == -VN_PATTERN.
  *
  * What a key is
@@ -73,6 +76,7 @@ extern "C" {
 #define VN_BOOK_COVER 12
 #define VN_BOOK_KEY 13
 #define VN_LINE 14
+#define VN_DIVISION 15
 #define VN_LETTER 16
 #define VN_CODE 17
 #define VN_START 18
@@ -86,6 +90,9 @@ extern "C" {
 
 /* The version of this header. The first number changes where a call, a number above or an answer is changed or taken away,
  * the second where some are added, the third where neither is so.
+ *   7.4.0: vn_moved, vn_move_table and vn_largest_move are added.
+ *   7.3.0: vn_tritaves, vn_find_by_edo and vn_edo_report are added, of which the first two ask 15, VN_DIVISION.
+ *   7.2.0: vn_to_chain_order, vn_to_key_order, vn_moves and vn_walk_moves are added.
  *   7.1.0: vn_nearest_natural and vn_keys_in_reach are added.
  *   7.0.0: a lamp code is a uint16_t; it was a uint8_t. Home, natural, sharp 0 and flat 99 keep 0, 1, 2 and 201, and all other
  *          codes are new ones. vn_lamp_strip, vn_lamp and the key table ask 9 no more, and so answer for layouts that they
@@ -101,7 +108,7 @@ extern "C" {
  *   2.0.0: vn_sounded_key takes signs as one number, and asks 16 and 21.
  *   1.0.0, before these numbers stood here: it took sharps and flats as two numbers, and asked 15, VN_SPELLING. */
 #define VN_VERSION_MAJOR 7
-#define VN_VERSION_MINOR 1
+#define VN_VERSION_MINOR 4
 #define VN_VERSION_PATCH 0
 
 /* The library was built for a size_t of 64 bits; with any other this line does not compile. */
@@ -150,6 +157,12 @@ int64_t vn_mos_coprime(uint16_t primary_count, uint16_t secondary_count, uint16_
  * generator; 0 elements where there is none. Asks 2, 10. */
 int64_t vn_mos_find(uint16_t period, uint16_t generator, uint16_t steps, uint16_t *out, size_t len);
 
+/* Writes the moves of every pattern on that walk, the genesis first, 4 numbers a pattern: octaves and generators of the primary
+ * move, then of the secondary one. Octaves times the period plus generators times the generator are the pattern's step. The
+ * patterns are those that vn_mos_children writes for the genesis, in its order; there are at most as many as the period. Each
+ * number lies between -65,535 and 65,536. Asks 2, 10. */
+int64_t vn_walk_moves(uint16_t period, uint16_t generator, int32_t *out, size_t len);
+
 /* Writes the whole walk of children, the given pattern first, 4 numbers a pattern. There are at most
  * primary_step + secondary_step + 1 patterns. Asks 7, 10. */
 int64_t vn_mos_children(uint16_t primary_count, uint16_t secondary_count, uint16_t primary_step, uint16_t secondary_step,
@@ -179,6 +192,24 @@ int64_t vn_chain_name(uint16_t chain, uint8_t *out, size_t len);
 
 /* The chain's own start: the index of key 0's letter among its letters. Asks 1. */
 int64_t vn_start(uint16_t chain);
+
+/* ---- layouts from the number of steps alone: an octave of n equal steps, n from 1 to 400. */
+
+/* Writes 1 or 2 numbers: the tritave of n steps, which is the whole number nearest to the ratio 3 in steps; and, where it is more
+ * than a third of a step away from it, the second choice, which is the whole number on the other side. Both are exact: 12 has
+ * 19, and 13 has 21 and 20. Asks 15, 10. */
+int64_t vn_tritaves(uint16_t n, uint16_t *out, size_t len);
+
+/* Writes the layouts of n steps, at most one for each chain, by the chain's code, rising; 3 numbers a layout: the chain, the
+ * tritave, and 1 where that is the second choice, else 0. A chain has the layout of the tritave, or, where there is none, that of
+ * the second choice. There are at most 18 numbers; 1 to 4 and 6 steps have no layout, and 0 numbers. Each layout is asked about by
+ * its chain, n, its tritave and a start, such as vn_start gives. Asks 15, 10. */
+int64_t vn_find_by_edo(uint16_t n, uint16_t *out, size_t len);
+
+/* Writes a report over all n from 1 to 400 in ASCII, without a 0 at the end: a line for each chain, rising, of the chain's code and
+ * of how many of its layouts, as vn_find_by_edo lists them, have sharpness above 0, below 0 and at 0, with one space between
+ * and a line feed at the end of each line. It has 57 bytes. Asks 10. */
+int64_t vn_edo_report(uint8_t *out, size_t len);
 
 /* ---- layouts: a chain code from 0 to 5, the step counts of octave and tritave, and a start. Each call asks 1, 2, 3, 4, 18
  * first, in that order. */
@@ -217,6 +248,43 @@ int64_t vn_nearest_natural(uint16_t chain, uint16_t octave, uint16_t tritave, ui
  * octave where that is more than it has. Asks 1, 2, 3, 4, 18, 10. */
 int64_t vn_keys_in_reach(uint16_t chain, uint16_t octave, uint16_t tritave, uint16_t start, int32_t key, uint16_t distance,
                          uint16_t *out, size_t len);
+
+/* ---- retunings: two layouts of one chain, octave and start, with one tritave before and another after. A key moves round the
+ * octave, the shorter way. The first layout's questions go before the second's, of which only 3 and 4 can have the answer no. */
+
+/* How many steps the key moves that a spelling sounds: a letter, by its index along the chain from 0; signs, as many sharps as
+ * the number is above 0, or flats as it is below; and stars. Asks 1, 2, 3, 4, 18, of the second layout 3, 4, then 16, 21. */
+int64_t vn_moved(uint16_t chain, uint16_t octave, uint16_t start, uint16_t from_tritave, uint16_t to_tritave, uint16_t letter,
+                 int32_t signs, uint16_t stars);
+
+/* Writes the moves of all letters with up to eight signs, without stars, on which no move depends: letter by letter along the
+ * chain, 17 numbers each, from eight flats to eight sharps; at most 153. Asks 1, 2, 3, 4, 18, of the second layout 3, 4, then
+ * 10. */
+int64_t vn_move_table(uint16_t chain, uint16_t octave, uint16_t start, uint16_t from_tritave, uint16_t to_tritave,
+                      uint16_t *out, size_t len);
+
+/* The largest number that vn_move_table writes. Asks 1, 2, 3, 4, 18, of the second layout 3, 4. */
+int64_t vn_largest_move(uint16_t chain, uint16_t octave, uint16_t start, uint16_t from_tritave, uint16_t to_tritave);
+
+/* ---- chain order of a layout's keys, and moves on its board */
+
+/* Writes a list's entries, the first one for each key of the octave, in the order of the chain: the entry of key i goes to
+ * cycle x reduced period + degree, as vn_generation gives them (an absent cycle is 0). Entries are any numbers; what the list
+ * has past the octave is not read. Both lists have at least as many entries as the octave has keys, else 10 has the answer no.
+ * Asks 1, 2, 3, 4, 18, 10. */
+int64_t vn_to_chain_order(uint16_t chain, uint16_t octave, uint16_t tritave, uint16_t start, const uint16_t *keys,
+                          size_t keys_len, uint16_t *out, size_t len);
+
+/* Writes a list that is in the order of the chain in the order of keys again: key i gets the entry at
+ * cycle x reduced period + degree. Each of the two calls undoes the other. Both lists have at least as many entries as the
+ * octave has keys, else 10 has the answer no. Asks 1, 2, 3, 4, 18, 10. */
+int64_t vn_to_key_order(uint16_t chain, uint16_t octave, uint16_t tritave, uint16_t start, const uint16_t *keys,
+                        size_t keys_len, uint16_t *out, size_t len);
+
+/* Writes 4 numbers, the moves of the layout's pattern: octaves and generators of the primary move, then of the secondary one.
+ * Octaves times the octave plus generators times the generator are the pattern's step; in 12 steps with code 1 and tritave 19,
+ * -1 and 2 are the step 2, and 3 and -5 the step 1. Asks 1, 2, 3, 4, 18, 10. */
+int64_t vn_moves(uint16_t chain, uint16_t octave, uint16_t tritave, uint16_t start, int32_t *out, size_t len);
 
 /* ---- layers and lamps of a layout's keys. Keys of one layer number are lit alike, but for home: key 0 and every key whole
  * octaves from it. Of T numbers, as vn_layer_count says, 0 is the natural layer; j below T / 2 is sharp layer j - 1; j = T / 2,

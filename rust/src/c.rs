@@ -34,10 +34,15 @@ unsafe extern "C" {
         len: usize,
     ) -> i64;
     pub fn vn_mos_find(period: u16, generator: u16, steps: u16, out: *mut u16, len: usize) -> i64;
+    pub fn vn_walk_moves(period: u16, generator: u16, out: *mut i32, len: usize) -> i64;
 
     pub fn vn_chain_letters(chain: u16, out: *mut u16, len: usize) -> i64;
     pub fn vn_chain_name(chain: u16, out: *mut u8, len: usize) -> i64;
     pub fn vn_start(chain: u16) -> i64;
+
+    pub fn vn_tritaves(n: u16, out: *mut u16, len: usize) -> i64;
+    pub fn vn_find_by_edo(n: u16, out: *mut u16, len: usize) -> i64;
+    pub fn vn_edo_report(out: *mut u8, len: usize) -> i64;
 
     pub fn vn_layout(
         chain: u16,
@@ -100,6 +105,62 @@ unsafe extern "C" {
         key: i32,
         distance: u16,
         out: *mut u16,
+        len: usize,
+    ) -> i64;
+
+    pub fn vn_moved(
+        chain: u16,
+        octave: u16,
+        start: u16,
+        from_tritave: u16,
+        to_tritave: u16,
+        letter: u16,
+        signs: i32,
+        stars: u16,
+    ) -> i64;
+    pub fn vn_move_table(
+        chain: u16,
+        octave: u16,
+        start: u16,
+        from_tritave: u16,
+        to_tritave: u16,
+        out: *mut u16,
+        len: usize,
+    ) -> i64;
+    pub fn vn_largest_move(
+        chain: u16,
+        octave: u16,
+        start: u16,
+        from_tritave: u16,
+        to_tritave: u16,
+    ) -> i64;
+
+    pub fn vn_to_chain_order(
+        chain: u16,
+        octave: u16,
+        tritave: u16,
+        start: u16,
+        keys: *const u16,
+        keys_len: usize,
+        out: *mut u16,
+        len: usize,
+    ) -> i64;
+    pub fn vn_to_key_order(
+        chain: u16,
+        octave: u16,
+        tritave: u16,
+        start: u16,
+        keys: *const u16,
+        keys_len: usize,
+        out: *mut u16,
+        len: usize,
+    ) -> i64;
+    pub fn vn_moves(
+        chain: u16,
+        octave: u16,
+        tritave: u16,
+        start: u16,
+        out: *mut i32,
         len: usize,
     ) -> i64;
 

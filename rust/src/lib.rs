@@ -95,6 +95,32 @@ impl Layout {
     }
 }
 
+/// Two layouts of one chain, octave and start, with one tritave before a retuning and another
+/// after it. Any five numbers may stand here: each call asks 1, 2, 3, 4 and 18 of the first
+/// layout, then 3 and 4 of the second.
+#[derive(Clone, Copy, Debug, PartialEq, Eq, Hash)]
+pub struct Retuning {
+    pub chain: u16,
+    pub octave: u16,
+    /// The index of key 0's letter among the chain's letters, from 0.
+    pub start: u16,
+    pub from_tritave: u16,
+    pub to_tritave: u16,
+}
+
+impl Retuning {
+    /// From a layout to the one that has another tritave.
+    pub fn new(layout: Layout, to_tritave: u16) -> Self {
+        Self {
+            chain: layout.chain,
+            octave: layout.octave,
+            start: layout.start,
+            from_tritave: layout.tritave,
+            to_tritave,
+        }
+    }
+}
+
 /// The kinds of layers, as [`layer_kind`] writes them.
 pub const NATURAL: u16 = 0;
 pub const SHARP: u16 = 1;
@@ -157,6 +183,17 @@ macro_rules! filling_from_layout {
     )*};
 }
 
+/// Declares functions that pass a retuning's five numbers on, then others, and give a number.
+macro_rules! number_from_retuning {
+    ($($(#[$doc:meta])* $name:ident = $call:ident($($number:ident: $type:ty),*);)*) => {$(
+        $(#[$doc])*
+        pub fn $name(retuning: Retuning, $($number: $type),*) -> Result<u16, Refused> {
+            let Retuning { chain, octave, start, from_tritave, to_tritave } = retuning;
+            value(unsafe { c::$call(chain, octave, start, from_tritave, to_tritave, $($number),*) })
+        }
+    )*};
+}
+
 /// Declares functions that pass a layout's four numbers on, then others, and give a number.
 macro_rules! number_from_layout {
     ($($(#[$doc:meta])* $name:ident = $call:ident($($number:ident: $type:ty),*) -> $answer:ty;)*) => {$(
@@ -177,6 +214,27 @@ filling! {
     accidentals = vn_accidentals(period: u16, generator: u16, symbols: u16, origin: u16, key: i32; u16);
     /// The pattern with that many steps on the walk from the genesis, or nothing (2, 10).
     mos_find = vn_mos_find(period: u16, generator: u16, steps: u16; u16);
+    /// The moves of every pattern on that walk, the genesis first, four numbers each: octaves and
+    /// generators of the primary move, then of the secondary one (2, 10). There are at most as
+    /// many patterns as the period.
+    ///
+    /// ```
+    /// use vetchnoon::{mos_children, walk_moves};
+    ///
+    /// let (octave, generator) = (12, 7);
+    /// let mut patterns = [0; 4 * 12];
+    /// let mut moves = [0; 4 * 12];
+    /// assert_eq!(mos_children([1, 1, 7, 5], &mut patterns), Ok(20));
+    /// assert_eq!(walk_moves(octave, generator, &mut moves), Ok(20));
+    /// assert_eq!(moves[..8], [0, 1, 1, -1, -1, 2, 1, -1]);
+    ///
+    /// for (pattern, moves) in patterns[..20].chunks(4).zip(moves[..20].chunks(4)) {
+    ///     let step = |octaves, generators| 12 * octaves + 7 * generators;
+    ///     assert_eq!(step(moves[0], moves[1]), i32::from(pattern[2]));
+    ///     assert_eq!(step(moves[2], moves[3]), i32::from(pattern[3]));
+    /// }
+    /// ```
+    walk_moves = vn_walk_moves(period: u16, generator: u16; i32);
     /// A chain's letters in order, as code points (1, 10).
     chain_letters = vn_chain_letters(chain: u16; u16);
     /// A chain's name (1, 10).
@@ -207,6 +265,49 @@ filling! {
     layer_kind = vn_layer_kind(total: u16, number: u16; u16);
 }
 
+// Of an octave of n equal steps, n from 1 to 400.
+filling! {
+    /// The tritave of n steps, and the second choice where there is one (15, 10).
+    ///
+    /// ```
+    /// use vetchnoon::{Refused, tritaves};
+    ///
+    /// let mut numbers = [0; 2];
+    /// assert_eq!(tritaves(12, &mut numbers), Ok(1));
+    /// assert_eq!(numbers[0], 19);
+    /// assert_eq!(tritaves(13, &mut numbers), Ok(2));
+    /// assert_eq!(numbers, [21, 20]);
+    ///
+    /// assert_eq!(tritaves(401, &mut numbers), Err(Refused(15)));
+    /// ```
+    tritaves = vn_tritaves(n: u16; u16);
+    /// The layouts of n steps, by their chains, rising: of each the chain, the tritave, and 1 where
+    /// that is the second choice, else 0 (15, 10). There are at most 18 numbers.
+    ///
+    /// ```
+    /// use vetchnoon::{Layout, find_by_edo, scale_name};
+    ///
+    /// let mut numbers = [0; 18];
+    /// let count = find_by_edo(16, &mut numbers).unwrap();
+    /// assert_eq!(numbers[..count], [0, 25, 0, 1, 25, 0, 2, 25, 0, 3, 26, 1]);
+    ///
+    /// // Porcupine[8] has no layout with 16 and 25, and has one with the second choice.
+    /// let mut name = [0; 12];
+    /// let bytes = scale_name(Layout::new(3, 16, 26), &mut name).unwrap();
+    /// assert_eq!(&name[..bytes], b"equalized");
+    /// ```
+    find_by_edo = vn_find_by_edo(n: u16; u16);
+    /// The report over all n, in 57 bytes: a line for each chain, rising, of its code and of how
+    /// many of its layouts have sharpness above 0, below 0 and at 0 (10).
+    ///
+    /// ```
+    /// let mut text = [0; 57];
+    /// assert_eq!(vetchnoon::edo_report(&mut text), Ok(57));
+    /// assert!(text.starts_with(b"0 5 2 2\n1 377 8 5\n"));
+    /// ```
+    edo_report = vn_edo_report(; u8);
+}
+
 filling_from_layout! {
     /// Generator, cycles, reduced period, inverse, and the pattern (1, 2, 3, 4, 18, 10).
     layout = vn_layout(; u16);
@@ -234,6 +335,16 @@ filling_from_layout! {
     /// assert_eq!(keys_in_reach(twelve, 5, 6, &mut keys[..11]), Err(Refused(10)));
     /// ```
     keys_in_reach = vn_keys_in_reach(key: i32, distance: u16; u16);
+    /// The moves of the layout's pattern: octaves and generators of the primary move, then of the
+    /// secondary one (1, 2, 3, 4, 18, 10). Octaves times the octave plus generators times the
+    /// generator are the pattern's step.
+    ///
+    /// ```
+    /// let mut moves = [0; 4];
+    /// assert_eq!(vetchnoon::moves(vetchnoon::Layout::new(1, 12, 19), &mut moves), Ok(4));
+    /// assert_eq!(moves, [-1, 2, 3, -5]); // 2 × 7 − 12 is 2, and 3 × 12 − 5 × 7 is 1
+    /// ```
+    moves = vn_moves(; i32);
     /// The layer number of each key of the octave, or of two at sharpness 0 (1, 2, 3, 4, 18, 10).
     layout_layers = vn_layout_layers(; u16);
     /// The lamp code of each key of the octave, or of two at sharpness 0, where the colours may
@@ -312,6 +423,92 @@ number_from_layout! {
     lamp = vn_lamp(key: i32) -> u16;
     /// How many bytes the book of a layout has (1, 2, 3, 4, 18).
     book_len = vn_book_len() -> usize;
+}
+
+number_from_retuning! {
+    /// How many steps round the octave, the shorter way, the key moves that a spelling sounds: a
+    /// letter by its index along the chain, signs (sharps above 0, flats below) and stars
+    /// (1, 2, 3, 4, 18, of the second layout 3, 4, then 16, 21).
+    ///
+    /// ```
+    /// use vetchnoon::{Layout, Refused, Retuning, moved};
+    ///
+    /// // C G D A E: D is on key 0, and stays; A is a generator away.
+    /// let lesson = Retuning::new(Layout::new(2, 31, 49), 50);
+    /// assert_eq!(moved(lesson, 2, 0, 0), Ok(0));
+    /// assert_eq!(moved(lesson, 3, 0, 0), Ok(1));
+    /// assert_eq!(moved(lesson, 2, 4, 0), Ok(11));
+    /// assert_eq!(moved(lesson, 2, 0, 1), Err(Refused(21)));
+    /// ```
+    moved = vn_moved(letter: u16, signs: i32, stars: u16);
+    /// The largest number that [`move_table`] writes (1, 2, 3, 4, 18, of the second layout 3, 4).
+    largest_move = vn_largest_move();
+}
+
+/// The moves of all letters with up to eight signs, without stars, on which no move depends:
+/// letter by letter along the chain, 17 numbers each, from eight flats to eight sharps
+/// (1, 2, 3, 4, 18, of the second layout 3, 4, then 10).
+///
+/// ```
+/// use vetchnoon::{Layout, Retuning, largest_move, move_table};
+///
+/// let lesson = Retuning::new(Layout::new(2, 31, 49), 50);
+/// let mut table = [0; 9 * 17];
+/// assert_eq!(move_table(lesson, &mut table), Ok(5 * 17));
+/// let d = &table[2 * 17..3 * 17];
+/// assert_eq!(d, [9, 4, 1, 6, 11, 15, 10, 5, 0, 5, 10, 15, 11, 6, 1, 4, 9]);
+/// assert_eq!(largest_move(lesson), Ok(15));
+/// ```
+pub fn move_table(retuning: Retuning, out: &mut [u16]) -> Result<usize, Refused> {
+    let Retuning {
+        chain,
+        octave,
+        start,
+        from_tritave,
+        to_tritave,
+    } = retuning;
+    let (table, len) = (out.as_mut_ptr(), out.len());
+    value(unsafe { c::vn_move_table(chain, octave, start, from_tritave, to_tritave, table, len) })
+}
+
+/// Declares functions that put the entries of the octave's keys in another order, into `out`.
+macro_rules! reordering {
+    ($($(#[$doc:meta])* $name:ident = $call:ident;)*) => {$(
+        $(#[$doc])*
+        pub fn $name(layout: Layout, keys: &[u16], out: &mut [u16]) -> Result<usize, Refused> {
+            let Layout { chain, octave, tritave, start } = layout;
+            let (list, count) = (keys.as_ptr(), keys.len());
+            value(unsafe { c::$call(chain, octave, tritave, start, list, count, out.as_mut_ptr(), out.len()) })
+        }
+    )*};
+}
+
+reordering! {
+    /// The entries of the octave's keys in the order of the chain: that of key i goes to
+    /// cycle × reduced period + degree, as [`generation`] gives them (1, 2, 3, 4, 18, 10). Both
+    /// lists have at least as many entries as the octave has keys, else it is refused with 10;
+    /// what `keys` has past them is not read.
+    ///
+    /// ```
+    /// use vetchnoon::{Layout, Refused, to_chain_order, to_key_order};
+    ///
+    /// let twelve = Layout::new(1, 12, 19);
+    /// let keys = [0, 1, 2, 3, 4, 5, 6, 7, 8, 9, 10, 11];
+    /// let mut chain = [0; 12];
+    /// assert_eq!(to_chain_order(twelve, &keys, &mut chain), Ok(12));
+    /// assert_eq!(chain, [0, 7, 2, 9, 4, 11, 6, 1, 8, 3, 10, 5]); // D A E B ..
+    ///
+    /// let mut back = [0; 12];
+    /// assert_eq!(to_key_order(twelve, &chain, &mut back), Ok(12));
+    /// assert_eq!(back, keys);
+    ///
+    /// assert_eq!(to_chain_order(twelve, &keys[1..], &mut chain), Err(Refused(10)));
+    /// assert_eq!(to_chain_order(twelve, &keys, &mut chain[1..]), Err(Refused(10)));
+    /// ```
+    to_chain_order = vn_to_chain_order;
+    /// The entries in the order of keys again (1, 2, 3, 4, 18, 10): key i gets the one at
+    /// cycle × reduced period + degree. Each of [`to_chain_order`] and this undoes the other.
+    to_key_order = vn_to_key_order;
 }
 
 filling_from_pattern! {

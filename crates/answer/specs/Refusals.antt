@@ -1,4 +1,4 @@
--- The number of each refusal, and what the shared answers mean (document 01, "Questions before an answer"; 16, 17, 18, 21 and 22 of
+-- The number of each refusal, and what the shared answers mean (document 01, "Questions before an answer"; 15 to 18, 21 and 22 of
 -- document 02).
 use Prim.Native.Nat.{ℕ}
 use Rattle.answer.specs.Outcome.{Outcome, given, refused}
@@ -17,6 +17,7 @@ use Rattle.answer.specs.declared.Refusal.the-variants.{
   BookCover,
   BookKey,
   Line,
+  Division,
   Letter,
   Code,
   Start,
@@ -44,6 +45,7 @@ numberOf BookPairs = 11
 numberOf BookCover = 12
 numberOf BookKey = 13
 numberOf Line = 14
+numberOf Division = 15
 numberOf Letter = 16
 numberOf Code = 17
 numberOf Start = 18

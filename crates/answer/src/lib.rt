@@ -1,7 +1,7 @@
 // What every entry point answers: a value, or the number of the first question that it says no to.
 //
-// Holds thirteen questions of document 01 ("Questions before an answer") and those of document 02 that are asked as one enum with their
-// numbers, and the answers that several crates share. Number 9 stays reserved: its answer is always yes since lamp codes have two bytes
+// Holds thirteen questions of document 01 ("Questions before an answer") and six of document 02 as one enum with their numbers,
+// and the answers that several crates share. Number 9 stays reserved: its answer is always yes since lamp codes have two bytes
 // (document 02, W-207), so no call asks it.
 // specs/: an outcome and how questions are asked (Outcome), the numbers (Refusals), what a lent slice holds
 // after an answer (Lent). Nothing is assumed.
@@ -36,6 +36,8 @@ pub enum Refusal {
     BookKey,
     // 14: is the program's line well formed?
     Line,
+    // 15: is the octave divided into 1 to 400 steps? (document 02)
+    Division,
     // 16: is the letter's place below the number of letters? (document 02)
     Letter,
     // 17: has each lamp code of a strip a code of the other width that it is converted to? (document 02)
@@ -67,6 +69,7 @@ impl Refusal {
             Refusal::BookCover => 12,
             Refusal::BookKey => 13,
             Refusal::Line => 14,
+            Refusal::Division => 15,
             Refusal::Letter => 16,
             Refusal::Code => 17,
             Refusal::Start => 18,

@@ -34,7 +34,7 @@ texts-at (suc (suc (suc (suc (suc (suc k)))))) h = absurd (let z : ⊥ = omega a
 
 -- ---- rows of twelve bytes: one test over the whole table
 
-text-small : (place : ℕ) → place < 19 → length (textAt place) ≤ 12
+pub text-small : (place : ℕ) → place < 19 → length (textAt place) ≤ 12
 unfolding textAt
 text-small place h = leb→le _ 12 (all-at (λ (t : List ℕ). leb (length t) 12) texts place [] tt h)
 

@@ -7,6 +7,7 @@ ghost use Prim.Native.Nat.{_<_};
 ghost use lib.ListN.{length};
 ghost use Rattle.answer.specs.Lent.{heldIn, Filled};
 ghost use Rattle.answer.specs.Refusals.{countOutcome};
+ghost use Rattle.text.specs.Writing.{Room, Wrote};
 ghost use Rattle.genchain_names.specs.Texts.{textAt, textRowOf};
 
 // A text in ASCII, 0 past its end, and its length.
@@ -110,6 +111,17 @@ pub fn text_len(place: u16) -> usize
 {
     let found = row(place);
     found.length as usize
+}
+
+// The text at a place of the table, at a place of a slice; the place after it.
+pub fn put(out: &mut [u8], at: usize, place: u16) -> usize
+    requires { ⌜ (place < 19) × Room (now out) at (textAt place) ⌝ }
+    ensures { λ r. ⌜ Wrote (now (out .entry)) at (textAt place) (now (out .exit)) r ⌝ }
+{
+    let found = row(place);
+    let text = found.text;
+    let count = found.length as usize;
+    writer::put_text(out, at, &text[..count])
 }
 
 // The text at a place of the table, at the front of a slice that holds it (10).

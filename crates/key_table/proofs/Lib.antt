@@ -1,4 +1,2 @@
 pub mod OneLine
-pub mod Keeping
-pub mod Going
 pub mod Printing

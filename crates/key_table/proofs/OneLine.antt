@@ -1,81 +1,22 @@
--- One line: while no line feed came, what follows is still of the line; and its first 18 bytes say what is printed.
+-- A line's first 18 bytes say what is printed, and so does the first line of any bytes.
 use Prim.Native.Nat.{ℕ}
-use mathlib.Core.Bool.{Bool, true, false}
-use mathlib.Core.Path.{_≡_, refl, sym, ap, _∙_, subst}
-use mathlib.Core.List.{List, [], _∷_, _++_, append-nil}
-use lib.Seq.{append-snoc}
-use lib.Dec.{eqb}
-use borrow.Author.Tests.{eqb-true, ne-eqb}
+use mathlib.Core.Path.{_≡_, ap}
+use mathlib.Core.List.{List}
 use Rattle.answer.specs.Outcome.{Outcome, andThen}
 use Rattle.line.specs.declared.Line.{Line}
-use Rattle.line.specs.Lines.{lineFeed, lineOutcome}
+use Rattle.line.specs.Lines.{lineOutcome}
 use Rattle.line.proofs.Enough.{later-bytes-ignored}
-use Rattle.layout_table.specs.Tables.{layoutOn, getTable, lineTable, outputOf, output}
-use Rattle.key_table.specs.Reading.{firstLine, LineIsEnough}
-
-first-feed : (rest : List ℕ) → firstLine (lineFeed ∷ rest) ≡ lineFeed ∷ []
-unfolding firstLine
-first-feed rest = refl
-
-first-other : (byte : ℕ) (rest : List ℕ) → eqb byte lineFeed ≡ false → firstLine (byte ∷ rest) ≡ byte ∷ firstLine rest
-unfolding firstLine
-first-other byte rest e =
-    subst (λ (test : Bool). byte ∷ elim test [ true ↦ [] | false ↦ firstLine rest ] ≡ byte ∷ firstLine rest) (sym e) refl
-
-first-none : firstLine [] ≡ []
-unfolding firstLine
-first-none = refl
-
--- no line feed among these bytes
-abbrev pub Open : List ℕ → Type 0
-Open bytes = (rest : List ℕ) → firstLine (bytes ++ rest) ≡ bytes ++ firstLine rest
-
-pub open-more : (bytes : List ℕ) (byte : ℕ) → (byte ≡ lineFeed → ⊥) → Open bytes → Open (bytes ++ byte ∷ [])
-open-more bytes byte e none rest =
-    ap firstLine (append-snoc bytes byte rest)
-    ∙ none (byte ∷ rest)
-    ∙ ap (λ (r : List ℕ). bytes ++ r) (first-other byte rest (ne-eqb byte lineFeed e))
-    ∙ sym (append-snoc bytes byte (firstLine rest))
-
-pub open-whole : (bytes : List ℕ) → Open bytes → firstLine bytes ≡ bytes
-open-whole bytes none =
-    ap firstLine (sym (append-nil bytes)) ∙ none [] ∙ ap (λ (r : List ℕ). bytes ++ r) first-none ∙ append-nil bytes
-
-pub open-ended : (bytes : List ℕ) (byte : ℕ) → byte ≡ lineFeed → Open bytes → firstLine (bytes ++ byte ∷ []) ≡ bytes ++ byte ∷ []
-open-ended bytes byte e none =
-    none (byte ∷ [])
-    ∙ ap (λ (b : ℕ). bytes ++ firstLine (b ∷ [])) e
-    ∙ ap (λ (r : List ℕ). bytes ++ r) (first-feed [])
-    ∙ ap (λ (b : ℕ). bytes ++ b ∷ []) (sym e)
-
--- ---- what is printed
+use Rattle.line_input.proofs.Enough.{first-line-is-enough}
+use Rattle.layout_table.specs.Tables.{layoutOn, getTable, outputOf, output}
+use Rattle.key_table.specs.Printing.{LineIsEnough}
 
 output-by : (x y : List ℕ) → lineOutcome x ≡ lineOutcome y → output x ≡ output y
 unfolding output
 output-by x y e = ap (λ (o : Outcome Line). outputOf (andThen o (λ (a : Line). getTable (layoutOn a)))) e
 
-module _ (before rest : List ℕ) (byte : ℕ) where
-  by-test : (test : Bool) → eqb byte lineFeed ≡ test
-      → output (before ++ (byte ∷ []) ++ firstLine rest) ≡ output (before ++ (byte ∷ []) ++ rest)
-      → output (before ++ firstLine (byte ∷ rest)) ≡ output (before ++ byte ∷ rest)
-  by-test true t ih =
-      let e = eqb-true byte lineFeed t in
-      ap (λ (b : ℕ). output (before ++ firstLine (b ∷ rest))) e
-      ∙ ap (λ (r : List ℕ). output (before ++ r)) (first-feed rest)
-      ∙ sym (output-by (before ++ lineFeed ∷ rest) (before ++ lineFeed ∷ []) (later-bytes-ignored .line-feed before rest))
-      ∙ ap (λ (b : ℕ). output (before ++ b ∷ rest)) (sym e)
-  by-test false t ih =
-      ap (λ (r : List ℕ). output (before ++ r)) (first-other byte rest t)
-      ∙ ap output (sym (append-snoc before byte (firstLine rest)))
-      ∙ ih
-      ∙ ap output (append-snoc before byte rest)
-
-first-prints : (before bytes : List ℕ) → output (before ++ firstLine bytes) ≡ output (before ++ bytes)
-first-prints before [] = ap (λ (r : List ℕ). output (before ++ r)) first-none
-first-prints before (byte ∷ rest) = by-test before rest byte (eqb byte lineFeed) refl (first-prints (before ++ (byte ∷ [])) rest)
-
 pub line-is-enough : LineIsEnough
-line-is-enough = record {
-  eighteen = λ (line : List ℕ). output-by _ _ (later-bytes-ignored .eighteen line);
-  one-line = λ (bytes : List ℕ). first-prints [] bytes;
-}
+line-is-enough =
+    record {
+      eighteen = λ (line : List ℕ). output-by _ _ (later-bytes-ignored .eighteen line);
+      one-line = first-line-is-enough output (λ line after. output-by _ _ (later-bytes-ignored .line-feed line after));
+    }

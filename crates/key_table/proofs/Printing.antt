@@ -6,7 +6,7 @@ use mathlib.Core.Bool.{true, false, false≢true}
 use mathlib.Core.Path.{_≡_, sym, ap, _∙_}
 use mathlib.Core.List.{List, _++_}
 use lib.ListN.{length, take, drop, replicate, length-append, length-replicate}
-use lib.Seq.{length-take-le, take-append-seam, drop-append-seam, take-all}
+use lib.Seq.{take-append-seam, drop-append-seam, take-all}
 use Rattle.text.specs.Writing.{Wrote, joined}
 use Rattle.text.proofs.Writing.{wrote-front, wrote-length}
 use Rattle.text.proofs.Joined.{joined-none, joined-add}
@@ -20,30 +20,21 @@ use Rattle.layout_table.proofs.Calls.{output-refused, output-given, table-is, l
 use Rattle.layout_table.proofs.Fitting.{tables-fit, line-room-few}
 use Rattle.layout_table.proofs.Lines.{length-refusal}
 use Rattle.answer.specs.Outcome.{given, refused}
-use Rattle.key_table.specs.Reading.{longest, LineRead}
+use Rattle.line_input.specs.Reading.{longest, LineRead}
+use Rattle.line_input.specs.declared.Input.{Input}
+use Rattle.line_input.proofs.Enough.{kept-output}
 use Rattle.key_table.specs.Printing.{onward, NextPart, Printed, Refusing, Ready}
-use Rattle.key_table.specs.declared.Input.{Input}
 use Rattle.key_table.specs.declared.Output.{Output}
 use Rattle.key_table.proofs.OneLine.{line-is-enough}
-use Rattle.key_table.proofs.Keeping.{kept-inside}
 
 -- ---- what is kept of a line
 
 module _ (buffer : List ℕ) (input : Input) (kept : ℕ) (read : LineRead buffer input) (few : kept ≡ min longest (input .taken)) where
-  kept-is : kept ≡ min longest (length (read .line))
-  kept-is = few ∙ ap (min longest) (sym (read .handed .count))
-
-  pub kept-there : kept ≡ length (take kept buffer)
-  kept-there = sym (length-take-le kept buffer (omega (arith, kept-is, kept-inside buffer (read .line) (read .begins))))
-
-  kept-output : output (take kept buffer) ≡ output (read .line)
-  kept-output =
-      ap (λ (n : ℕ). output (take n buffer)) kept-is
-      ∙ ap output (read .begins)
-      ∙ line-is-enough .eighteen (read .line)
+  printed : output (take kept buffer) ≡ output (read .line)
+  printed = kept-output buffer input kept read few output (line-is-enough .eighteen)
 
   pub refusing : (k n : ℕ) → k ≡ n → refused n ≡ lineLayout (take kept buffer) → Refusing buffer input k
-  refusing k n i e = record { read = read; is-output = output-refused (take kept buffer) k n i e ∙ kept-output }
+  refusing k n i e = record { read = read; is-output = output-refused (take kept buffer) k n i e ∙ printed }
 
   pub ready : (l : Layout) → given l ≡ lineLayout (take kept buffer) → (t : Table) → TableOf l t → Ready buffer input t
   ready l e t w =
@@ -52,7 +43,7 @@ module _ (buffer : List ℕ) (input : Input) (kept : ℕ) (read : LineRead buffe
       record {
         read = read;
         sound = w .sound;
-        is-output = table-is l t w ∙ output-given (take kept buffer) l e ∙ kept-output;
+        is-output = table-is l t w ∙ output-given (take kept buffer) l e ∙ printed;
         short =
             λ key h. omega (arith, w .short key h, line-room-few (t .keys) (let e : t .keys ≤ 4096 = omega (arith, few, w .octave-is) in e));
       }

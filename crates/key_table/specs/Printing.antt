@@ -10,9 +10,14 @@ use Rattle.text.specs.Writing.{joined}
 use Rattle.layout_table.specs.declared.parts.Table.{Table}
 use Rattle.layout_table.specs.Tables.{refusalLine, output}
 use Rattle.layout_table.specs.Parts.{Sound, lineOf}
-use Rattle.key_table.specs.Reading.{LineRead}
-use Rattle.key_table.specs.declared.Input.{Input}
+use Rattle.line_input.specs.Reading.{longest, firstLine, LineRead}
+use Rattle.line_input.specs.declared.Input.{Input}
 use Rattle.key_table.specs.declared.Output.{Output}
+
+-- Theorem: 18 bytes of a line say what is printed for it, and the first line of any bytes what is printed for them.
+pub record LineIsEnough : Type 0 where
+  pub eighteen : (line : List ℕ) → output (take longest line) ≡ output line
+  pub one-line : (bytes : List ℕ) → output (firstLine bytes) ≡ output bytes
 
 -- Where writing stands after one part more: so many bytes further, with all of them taken or not.
 abbrev pub onward : Output → ℕ → Bool → Output

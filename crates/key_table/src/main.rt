@@ -1,91 +1,23 @@
 // The key table program: reads a line, and prints the table of the layout that it asks for, or the number of a refusal.
 //
 // What is printed is `output` of the whole line that was read, made by `layout_table::parts`; this program reads and writes, and no more. It
-// reads byte by byte to the line feed, so that whoever reads on finds the bytes after it, and a person at a terminal is answered as soon as
-// the line is typed. It keeps 18 bytes: a longer line is refused whatever follows (`LineIsEnough`). It prints a table in parts, 78 lines at
-// a time (`TablesFit` of `layout_table` bounds a line), so it runs with a small stack. specs/: Reading states what is read, Printing what is
+// reads one line, of which `line_input` keeps 18 bytes: a longer line is refused whatever follows (`LineIsEnough`). It prints a table in
+// parts, 78 lines at a time (`TablesFit` of `layout_table` bounds a line), so it runs with a small stack. specs/: Printing states what is
 // printed. Which bytes a read hands over, and where written bytes go, rests on the kit's library.
 use layout::parts::FoundAnswer;
 use layout_table::parts::Table;
 use libc::STDERR_FILENO;
-use libc::STDIN_FILENO;
 use libc::STDOUT_FILENO;
+use line_input::Input;
+use line_input::kept;
+use line_input::read_line;
 ghost use mathlib.Core.Path.{_≡_};
-ghost use Prim.Native.Nat.{_≤_, _<_, min};
+ghost use Prim.Native.Nat.{_≤_, _<_};
 ghost use lib.ListN.{length};
 ghost use Rattle.text.specs.Writing.{joined};
 ghost use Rattle.layout_table.specs.Parts.{lineFrom};
-ghost use Rattle.key_table.specs.Reading.{after, longest, keptIn, LineRead};
+ghost use Rattle.line_input.specs.Reading.{LineRead};
 ghost use Rattle.key_table.specs.Printing.{onward, NextPart, Refusing, Ready, LinesNext, Printed};
-
-// Where reading stands: how many bytes were handed over, the last of them (0 before the first), and whether the last read had none.
-struct Input {
-    taken: usize,
-    last: u8,
-    at_end: bool,
-}
-
-// One read: the next byte of standard input, or none where the input ends or cannot be read.
-fn next_byte(past: Input) -> Input
-    requires { ⌜ past .taken < 18446744073709551615 ⌝ }
-    ensures { λ r. ⌜ r ≡ after past (r .«at_end») (r .last) ⌝ }
-{
-    let mut byte = [0u8; 1];
-    if io::read_full(STDIN_FILENO, &mut byte) == 0 {
-        return Input {
-            taken: past.taken,
-            last: past.last,
-            at_end: true,
-        };
-    }
-    Input {
-        taken: past.taken + 1,
-        last: byte[0],
-        at_end: false,
-    }
-}
-
-// Keeps one of a line's first 18 bytes at its place; a later one is dropped.
-fn keep(line: &mut [u8], at: usize, byte: u8)
-    requires { ⌜ longest ≤ length (now line) ⌝ }
-    ensures { λ _. ⌜ now (line .exit) ≡ keptIn (now (line .entry)) at byte ⌝ }
-{
-    if at < 18 {
-        line[at] = byte;
-    }
-}
-
-// Reads one line to its line feed, or to the end of the input, and keeps its first 18 bytes. A proved loop has to end, and nothing says
-// that the input does: it ends after 2^64 - 1 bytes, which no run reads.
-fn read_line(line: &mut [u8]) -> Input
-    requires { ⌜ longest ≤ length (now line) ⌝ }
-    ensures { λ r. ⌜ LineRead (now (line .exit)) r ⌝ }
-{
-    let mut input = Input {
-        taken: 0,
-        last: 0,
-        at_end: false,
-    };
-    while input.taken < usize::MAX {
-        let next = next_byte(input);
-        if next.at_end {
-            return next;
-        }
-        keep(line, input.taken, next.last);
-        if next.last == b'\n' {
-            return next;
-        }
-        input = next;
-    }
-    input
-}
-
-// How many of the bytes that were taken are kept.
-fn kept(input: Input) -> usize
-    ensures { λ r. ⌜ r ≡ min longest (input .taken) ⌝ }
-{
-    if input.taken < 18 { input.taken } else { 18 }
-}
 
 // Where writing stands: how many bytes were handed over, and whether the last of them were taken.
 struct Output {

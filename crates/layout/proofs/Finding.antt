@@ -125,6 +125,9 @@ chain-is r l = made r l (λ (k : Layout). k .chain ≡ r .genchain) (λ G m g w 
 pub octave-is : (r : IsomorphicLayout) (l : Layout) → Accepted r l → l .octave ≡ r .octave
 octave-is r l = made r l (λ (k : Layout). k .octave ≡ r .octave) (λ G m g w s. refl)
 
+pub start-is : (r : IsomorphicLayout) (l : Layout) → Accepted r l → l .start ≡ r .start
+start-is r l = made r l (λ (k : Layout). k .start ≡ r .start) (λ G m g w s. refl)
+
 -- ---- the chain's own start passes question 18
 
 pub default-start-stays : DefaultStartStays

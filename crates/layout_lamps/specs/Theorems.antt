@@ -16,7 +16,7 @@ use Rattle.lamp_codes.specs.Answers.{getWidened, getNarrowed}
 use Rattle.layout_lamps.specs.Answers.{getLamp}
 use Rattle.layout_lamps.specs.Lamps.{lampCode, lampIn, stripLengthIn, stripIn, octaveStripIn, earlierLampIn, kindIn, byteStripIn, hadLampsIn}
 
--- Theorem: "Question 9 then always has the answer yes": every code is a number of 16 bits, whatever the layer. (An octave is one too.)
+-- Theorem: "Question 9 then always has the answer yes": in every octave of at most 65,535 keys every code is a number of 16 bits.
 abbrev pub CodesFit : Type 0
 CodesFit = (r : IsomorphicLayout) (l : Layout) → Accepted r l → l .octave ≤ 65535 → (key : ℕ) → lampIn l key ≤ 65535
 

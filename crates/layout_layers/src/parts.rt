@@ -22,7 +22,26 @@ ghost use Rattle.mos_layers.specs.Theorems.{sum};
 ghost use Rattle.mos_layers.specs.Layers.{dropEmpty};
 ghost use Rattle.layout.specs.Parts.{layoutOf, Laid};
 ghost use Rattle.layout_layers.specs.KeyLayers.{alternating};
-ghost use Rattle.layout_layers.specs.Parts.{inverseOf, keysOf, Spread, InTurn, InTurns, Walk, Ahead, runLayer, runNumber, listedNumber, totalOf, Sound, PlanOf, turnLayer, planNumber, turnsOf, Fronted, planLayers};
+ghost use Rattle.layout_layers.specs.Parts.{
+  inverseOf,
+  keysOf,
+  Spread,
+  InTurn,
+  InTurns,
+  Walk,
+  Ahead,
+  runLayer,
+  runNumber,
+  listedNumber,
+  totalOf,
+  Sound,
+  PlanOf,
+  turnLayer,
+  planNumber,
+  turnsOf,
+  Fronted,
+  planLayers,
+};
 
 // What all keys of a layout have in common.
 pub struct Plan {
@@ -134,15 +153,16 @@ fn chain_place(start: u16, degree: u16, reduced_period: u16) -> u16
     degree - left
 }
 
-// The layer of a scale degree whose keys have this degree on the chain.
-fn layer_by(plan: Plan, turn: u32, degree: u16) -> u16
-    requires { ⌜ Sound plan × (degree ≡ inverseOf (plan .chain) * turn % plan .chain .«reduced_period») × (turn ≤ 131070) ⌝ }
-    ensures { λ r. ⌜ r ≡ turnLayer plan turn ⌝ }
+// The layer of an entry that has this degree on the chain. Its scale degree is found by a division only where the layers alternate.
+fn layer_by(plan: Plan, entry: u32, degree: u16) -> u16
+    requires { ⌜ Sound plan × (degree ≡ inverseOf (plan .chain) * (entry / plan .chain .«num_cycles») % plan .chain .«reduced_period») × (entry ≤ 131070) ⌝ }
+    ensures { λ r. ⌜ r ≡ turnLayer plan (entry / plan .chain .«num_cycles») ⌝ }
 {
+    let chain = plan.chain;
     if plan.equalized {
+        let turn = entry / (chain.num_cycles as u32);
         return alternate(plan.letters, plan.secondaries, plan.offset, turn);
     }
-    let chain = plan.chain;
     let runs = plan.runs;
     layer_at(runs, chain_place(chain.start, degree, chain.reduced_period))
 }
@@ -156,7 +176,7 @@ pub fn number_of(plan: Plan, inverse: u16, entry: u32) -> u16
     let cycles = chain.num_cycles as u32;
     let turn = entry / cycles;
     let degree = (inverse as u64) * (turn as u64) % (chain.reduced_period as u64);
-    let layer = layer_by(plan, turn, degree as u16);
+    let layer = layer_by(plan, entry, degree as u16);
     layer * chain.num_cycles + (entry % cycles) as u16
 }
 
@@ -166,7 +186,7 @@ pub fn number_at(plan: Plan, key: u16, degree: u16, cycle: u16) -> u16
     ensures { λ r. ⌜ r ≡ planNumber plan key ⌝ }
 {
     let chain = plan.chain;
-    let layer = layer_by(plan, (key / chain.num_cycles) as u32, degree);
+    let layer = layer_by(plan, key as u32, degree);
     layer * chain.num_cycles + cycle
 }
 

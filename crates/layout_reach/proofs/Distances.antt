@@ -56,7 +56,7 @@ module _ (P : ℕ) (h : 0 < P) where
       ∙ add-cong P (up x′ + down x) (up y′ + down y) (up y + down y′) (sym (remainders-agree P h (rep-self y) (rep-self y′) .0 ey))
       ∙ ap (λ (z : ℕ). z % P) (let z : up y + down y′ + (up x′ + down x) ≡ up x′ + down y′ + (down x + up y) = omega arith in z))
 
-  distance-cong : (x y x′ y′ : ℤ) → remainder x P ≡ remainder x′ P → remainder y P ≡ remainder y′ P → distance P x y ≡ distance P x′ y′
+  pub distance-cong : (x y x′ y′ : ℤ) → remainder x P ≡ remainder x′ P → remainder y P ≡ remainder y′ P → distance P x y ≡ distance P x′ y′
   unfolding distance
   distance-cong x y x′ y′ ex ey =
       ap₂ (λ (u v : ℕ). min u v) (difference-cong x y x′ y′ ex ey) (difference-cong y x y′ x′ ey ex)
@@ -64,7 +64,7 @@ module _ (P : ℕ) (h : 0 < P) where
   pub round-below : (key : ℤ) (k : ℕ) → k ≡ remainder key P → k < P
   round-below key k round = omega (arith, round, remainder-below key P h)
 
-  remainder-again : (z : ℤ) → remainder z P ≡ remainder (pos (remainder z P)) P
+  pub remainder-again : (z : ℤ) → remainder z P ≡ remainder (pos (remainder z P)) P
   remainder-again z = sym (mod-eq-of-lt (remainder-below z P h))
 
   -- a key of any octave, brought within the octave

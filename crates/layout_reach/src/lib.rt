@@ -4,7 +4,7 @@
 // octave; and the list of all keys within a distance.
 // specs/: Reach defines, Answers says what each call answers, Theorems and Examples state what holds.
 // Every entry point answers every input; `parts` asks for more, as its head says. Nothing is assumed.
-mod parts;
+pub mod parts;
 
 use answer::CountAnswer;
 use answer::NumberAnswer;

@@ -30,7 +30,7 @@ fn shorter(octave: u16, gap: u16) -> u16
 }
 
 // The distance of two keys of the octave.
-fn distance(octave: u16, a: u16, b: u16) -> u16
+pub fn distance(octave: u16, a: u16, b: u16) -> u16
     requires { ⌜ (a < octave) × (b < octave) ⌝ }
     ensures { λ r. ⌜ r ≡ distance octave (pos a) (pos b) ⌝ }
 {

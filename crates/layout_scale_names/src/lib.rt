@@ -2,34 +2,18 @@
 //
 // Holds the name and its length (document 01, "Step patterns"); the names stand in the table of `genchain_names`.
 // The definitions are those of `layout`: ScaleNames says which name a pattern's scale has, Answers what each call answers.
-// Every entry point answers every input. Nothing is assumed.
+// Every entry point answers every input; `parts` asks for more, as its head says. Nothing is assumed.
+pub mod parts;
+
 use answer::CountAnswer;
 use genchain_names::texts;
 use layout::IsomorphicLayout;
 use layout::parts::FoundAnswer;
-use mos::Mos;
 ghost use mathlib.Core.Path.{_≡_};
-ghost use Prim.Native.Nat.{_<_};
 ghost use lib.ListN.{length};
 ghost use Rattle.answer.specs.Refusals.{countOutcome};
 ghost use Rattle.answer.specs.Lent.{counted, Filled};
-ghost use Rattle.genchain_names.specs.Texts.{PlaceOf};
 ghost use Rattle.layout.specs.Answers.{getScaleName, inRoom};
-ghost use Rattle.layout.specs.ScaleNames.{scaleName};
-
-// The place of a pattern's scale name in the table.
-fn place_of(code: u16, pattern: Mos) -> u16
-    requires { ⌜ code < 6 ⌝ }
-    ensures { λ r. ⌜ PlaceOf (scaleName code pattern) r ⌝ }
-{
-    if pattern.secondary_step < pattern.primary_step {
-        return 2 + 3 * code;
-    }
-    if pattern.primary_step < pattern.secondary_step {
-        return 3 + 3 * code;
-    }
-    0
-}
 
 // How many bytes the scale's name has (1, 2, 3, 4, 18).
 pub fn scale_name_len(layout: IsomorphicLayout) -> CountAnswer
@@ -38,7 +22,7 @@ pub fn scale_name_len(layout: IsomorphicLayout) -> CountAnswer
     match layout::parts::ask(layout) {
         FoundAnswer::Refused(q) => CountAnswer::Refused(q),
         FoundAnswer::Given(found) => {
-            CountAnswer::Given(texts::text_len(place_of(found.chain, found.pattern)))
+            CountAnswer::Given(texts::text_len(parts::place_of(found.chain, found.pattern)))
         }
     }
 }
@@ -49,6 +33,6 @@ pub fn get_scale_name(layout: IsomorphicLayout, out: &mut [u8]) -> CountAnswer
 {
     match layout::parts::ask(layout) {
         FoundAnswer::Refused(q) => CountAnswer::Refused(q),
-        FoundAnswer::Given(found) => texts::fill(place_of(found.chain, found.pattern), out),
+        FoundAnswer::Given(found) => texts::fill(parts::place_of(found.chain, found.pattern), out),
     }
 }

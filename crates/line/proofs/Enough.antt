@@ -21,6 +21,7 @@ use Rattle.text.proofs.Digits.{leading-digit, leading-other, leading-none}
 use Rattle.text.proofs.Numbers.{length-is, digits-above}
 use Rattle.line.proofs.Fields.{no-number}
 use Rattle.line.proofs.WholeLine.{field-is, same-outcome}
+use Rattle.line.proofs.OneNumber.{same-number-line}
 
 -- ---- a reading depends on the digits and on the byte behind them
 
@@ -185,4 +186,10 @@ eighteen-bytes line =
     third-at b at next f = omega (arith, next-is (take 18 line) at space b next f, few-digits (take 18 line) at space b next f)
 
 pub later-bytes-ignored : LaterBytesIgnored
-later-bytes-ignored = record { line-feed = feed-ends; eighteen = eighteen-bytes }
+later-bytes-ignored =
+    record {
+      line-feed = feed-ends;
+      eighteen = eighteen-bytes;
+      number-line-feed = λ line after. same-number-line (line ++ lineFeed ∷ after) (line ++ lineFeed ∷ []) (same-number line after 0 lineFeed (omega arith));
+      number-eighteen = λ line. same-number-line (take 18 line) line (front-number line 0 lineFeed 18 (omega arith));
+    }

@@ -1,5 +1,6 @@
 pub mod Fields
 pub mod WholeLine
+pub mod OneNumber
 pub mod ReadBack
 pub mod Enough
 pub mod Examples

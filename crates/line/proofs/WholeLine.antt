@@ -23,7 +23,7 @@ pub field-is : (line : List ℕ) (at behind number next : ℕ) → Number number
 unfolding fieldAt
 field-is line at behind number next e = picked (isField line at behind) (valueAt line at) (endAt line at + 1) number next e
 
-nothing-is : (line : List ℕ) (at behind : ℕ) → Nothing ≡ fieldAt line at behind → isField line at behind ≡ false
+pub nothing-is : (line : List ℕ) (at behind : ℕ) → Nothing ≡ fieldAt line at behind → isField line at behind ≡ false
 unfolding fieldAt
 nothing-is line at behind e = picked-none (isField line at behind) (valueAt line at) (endAt line at + 1) e
 

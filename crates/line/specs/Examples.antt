@@ -3,7 +3,7 @@ use Prim.Native.Nat.{ℕ}
 use mathlib.Core.List.{List, [], _∷_, map}
 use mathlib.Core.Path.{_≡_}
 use Rattle.answer.specs.Outcome.{Outcome, given, refused}
-use Rattle.line.specs.Lines.{lineText, lineOutcome}
+use Rattle.line.specs.Lines.{lineText, lineOutcome, numberLine}
 use Rattle.line.specs.declared.Line.{Line}
 
 abbrev pub three : ℕ → ℕ → ℕ → Outcome Line
@@ -57,3 +57,9 @@ pub record ExamplesHold : Type 0 where
   pub any-code : lineOutcome (lineText 65535 4096 65535) ≡ three 65535 4096 65535
   pub zeros : lineOutcome (lineText 0 0 0) ≡ three 0 0 0
   pub written : lineText 1 12 19 ≡ 49 ∷ 32 ∷ 49 ∷ 50 ∷ 32 ∷ 49 ∷ 57 ∷ 10 ∷ []
+  -- "31", "00031", "65535", "31" with bytes after the line feed
+  pub numbers : map numberLine ((51 ∷ 49 ∷ 10 ∷ []) ∷ (48 ∷ 48 ∷ 48 ∷ 51 ∷ 49 ∷ 10 ∷ []) ∷ (54 ∷ 53 ∷ 53 ∷ 51 ∷ 53 ∷ 10 ∷ []) ∷ (51 ∷ 49 ∷ 10 ∷ 46 ∷ []) ∷ [])
+      ≡ given 31 ∷ given 31 ∷ given 65535 ∷ given 31 ∷ []
+  -- no byte, a line feed alone, no line feed, a space behind, a sign, "65536", "000031"
+  pub no-numbers : map numberLine ([] ∷ (10 ∷ []) ∷ (51 ∷ 49 ∷ []) ∷ (51 ∷ 49 ∷ 32 ∷ 10 ∷ []) ∷ (45 ∷ 49 ∷ 10 ∷ []) ∷ (54 ∷ 53 ∷ 53 ∷ 51 ∷ 54 ∷ 10 ∷ []) ∷ (48 ∷ 48 ∷ 48 ∷ 48 ∷ 51 ∷ 49 ∷ 10 ∷ []) ∷ [])
+      ≡ refused 14 ∷ refused 14 ∷ refused 14 ∷ refused 14 ∷ refused 14 ∷ refused 14 ∷ refused 14 ∷ []

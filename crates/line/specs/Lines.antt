@@ -67,7 +67,14 @@ unfolding digits
 lineText genchain octave tritave =
     digits genchain ++ (space ∷ []) ++ digits octave ++ (space ∷ []) ++ digits tritave ++ (lineFeed ∷ [])
 
--- ---- what the part behind the call promises
+-- ---- a number alone on its line (document 02, W-202: "Schools type only "31"")
+
+-- 14: a number as above, and the line feed right behind it.
+unfoldable pub numberLine : List ℕ → Outcome ℕ
+unfolding isField valueAt
+numberLine line = ask 14 (isField line 0 lineFeed) (given (valueAt line 0))
+
+-- ---- what the part behind the calls promises
 
 -- A number, and the place after the byte behind it.
 unfoldable pub fieldAt : List ℕ → ℕ → ℕ → Reading

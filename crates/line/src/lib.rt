@@ -1,14 +1,17 @@
-// The key table program's line: three decimal numbers (document 01, question 14).
+// The lines that programs read: three decimal numbers for a key table (document 01, question 14), one number for an octave division
+// (document 02, W-202).
 //
-// Holds the reading of the line, answered for any bytes whatever. No public function has a `requires`.
+// Holds the reading of such lines, answered for any bytes whatever. No public function has a `requires`.
 // specs/: the line and its question (Lines); that a written line is read back, and that later bytes change nothing
 // (Theorems). Numbers in decimal are `text`'s. Nothing is assumed.
+use answer::NumberAnswer;
 use answer::Refusal;
 use text::decimal::Reading;
 use text::decimal::read_number;
 ghost use mathlib.Core.Path.{_≡_};
 ghost use Prim.Native.Nat.{_<_};
-ghost use Rattle.line.specs.Lines.{fieldAt, lineAnswered, lineOutcome};
+ghost use Rattle.answer.specs.Refusals.{numberOutcome};
+ghost use Rattle.line.specs.Lines.{fieldAt, lineAnswered, lineOutcome, numberLine};
 
 // What the line asks for: a chain code, and the step counts of octave and tritave.
 pub struct Line {
@@ -61,4 +64,14 @@ pub fn parse(line: &[u8]) -> LineAnswer
         octave,
         tritave,
     })
+}
+
+// The number that stands alone on a line; bytes after its line feed are ignored: 14.
+pub fn parse_number(line: &[u8]) -> NumberAnswer
+    ensures { λ r. ⌜ numberOutcome r ≡ numberLine (now (line .entry)) ⌝ }
+{
+    let Reading::Number(number, _) = read_field(line, 0, b'\n') else {
+        return NumberAnswer::Refused(Refusal::Line);
+    };
+    NumberAnswer::Given(number)
 }

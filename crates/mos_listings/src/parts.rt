@@ -75,7 +75,7 @@ pub(crate) fn count_parents(m: Mos) -> u32
 }
 
 // Do so many numbers hold the walk of children? There are no more children than the steps' sum, so a long slice needs no count.
-pub(crate) fn children_fit(m: Mos, room: usize) -> bool
+pub fn children_fit(m: Mos, room: usize) -> bool
     requires { ⌜ isPattern m ≡ true ⌝ }
     ensures { λ r. ⌜ r ≡ leb (length (listed (children m))) room ⌝ }
 {

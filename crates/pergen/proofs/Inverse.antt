@@ -19,7 +19,7 @@ by-test true x y Q h k = h tt
 by-test false x y Q h k = k tt
 
 -- it finds a number that passes, none after the one that is known to pass
-first-finds : (f : ℕ → Bool) (k j w : ℕ) → j ≤ w → w < j + k → T (f w) → T (f (first f k j)) × (first f k j ≤ w)
+pub first-finds : (f : ℕ → Bool) (k j w : ℕ) → j ≤ w → w < j + k → T (f w) → T (f (first f k j)) × (first f k j ≤ w)
 unfolding first
 first-finds f zero j w h l t = absurd (let z : ⊥ = omega arith in z)
 first-finds f (suc k) j w h l t =

@@ -7,13 +7,17 @@
 // The files `stdin` and `stdout` beside src/ hold a list of questions and the answers that were given by others: by the Rust
 // original, and where it has none, by a reading of document 01. docs/DIFFERENCES.md says how they were made.
 mod books;
+mod edo;
 mod layouts;
+mod moves;
 mod names;
 mod numbers;
+mod orders;
 mod patterns;
 mod pergens;
 mod print;
 mod reach;
+mod retunings;
 mod strips;
 mod tables;
 mod words;
@@ -140,7 +144,16 @@ fn answered_other(kind: usize, line: &[u8], end: usize, room: u16) -> bool {
     if kind <= names::REACH {
         return reach::answer(kind, line, end, room);
     }
-    false
+    if kind <= names::TO_KEY_ORDER {
+        return orders::answer(kind, line, end, room);
+    }
+    if kind <= names::WALK_MOVES {
+        return moves::answer(kind, line, end, room);
+    }
+    if edo::answer(line, end, room) {
+        return true;
+    }
+    retunings::answer(line, end, room)
 }
 
 fn answer_line(line: &[u8]) {

@@ -95,6 +95,20 @@ pub(crate) const NEAREST: usize = 49;
 
 pub(crate) const REACH: usize = 50;
 
+pub(crate) const TO_CHAIN_ORDER: usize = 51;
+
+pub(crate) const TO_KEY_ORDER: usize = 52;
+
+pub(crate) const MOVES: usize = 53;
+
+pub(crate) const WRITE_MOVES: usize = 54;
+
+pub(crate) const GENESIS_MOVES: usize = 55;
+
+pub(crate) const NTH_MOVES: usize = 56;
+
+pub(crate) const WALK_MOVES: usize = 57;
+
 // How many 16-bit numbers come behind each name up to `LAST_PLAIN`, a key aside.
 const COUNTS: [usize; 42] = [
     2,
@@ -175,12 +189,12 @@ pub(crate) fn has_key(kind: usize) -> bool {
 // The place of the name that a line has up to `end`, or a place behind the last.
 pub(crate) fn kind_of(line: &[u8], end: usize) -> usize {
     let names =
-        b"gcd simplify odd pergen generation accidentals new_genesis new_collapsed pattern child parent genesis dual mirror coprime children parents layer_sizes layers chain layout names key_layers lamps spelling name layer lamp book_len book find layout_from names_from key_layers_from lamps_from spelling_from name_from layer_from lamp_from book_len_from book_from find_from get_key divide16 divide32 table find_in widen narrow nearest reach ";
+        b"gcd simplify odd pergen generation accidentals new_genesis new_collapsed pattern child parent genesis dual mirror coprime children parents layer_sizes layers chain layout names key_layers lamps spelling name layer lamp book_len book find layout_from names_from key_layers_from lamps_from spelling_from name_from layer_from lamp_from book_len_from book_from find_from get_key divide16 divide32 table find_in widen narrow nearest reach to_chain_order to_key_order moves write_moves genesis_moves nth_moves walk_moves ";
     place_in(names, line, end)
 }
 
 // The place among names, each with a space behind it, of the one that a line has up to `end`.
-fn place_in(names: &[u8], line: &[u8], end: usize) -> usize {
+pub(crate) fn place_in(names: &[u8], line: &[u8], end: usize) -> usize {
     let mut place: usize = 0;
     let mut read: usize = 0;
     let mut like = true;

@@ -77,11 +77,16 @@ fn answer_pattern(kind: usize, m: Mos) {
 }
 
 fn put_pattern(m: Mos) {
+    put_counts_and_steps(m);
+    print::end_line();
+}
+
+// A pattern within a line.
+pub(crate) fn put_counts_and_steps(m: Mos) {
     print::number(m.num_primary_steps as u64);
     print::next_number(m.num_secondary_steps as u64);
     print::next_number(m.primary_step as u64);
     print::next_number(m.secondary_step as u64);
-    print::end_line();
 }
 
 // The rest of a line: a pattern, or a refusal.

@@ -53,6 +53,12 @@ pub(crate) fn signed32(n: i32) {
     signed(n as i64);
 }
 
+// Such a number behind another word of the line.
+pub(crate) fn next_signed(n: i32) {
+    space();
+    signed32(n);
+}
+
 // A refusal within a line.
 pub(crate) fn refusal(q: Refusal) {
     text(b"refused ");
@@ -121,6 +127,36 @@ fn front(numbers: &[u16], count: usize) {
             space();
         }
         short(numbers[i]);
+        i += 1;
+    }
+}
+
+// Room for a list of 65,536 numbers that may be below 0. The `ensures` is what lending the array needs.
+pub(crate) fn signed_list_room() -> [i32; 65536]
+    ensures { λ r. ⌜ 65536 ≡ length r ⌝ }
+{
+    [0; 65536]
+}
+
+// As many such numbers of a slice as were written to its front, or the refusal to write them.
+pub(crate) fn signed_list(numbers: &[i32], answer: CountAnswer) {
+    match answer {
+        CountAnswer::Given(count) => signed_front(numbers, count),
+        CountAnswer::Refused(q) => refusal(q),
+    }
+}
+
+// The first `count` numbers, which the slice holds.
+fn signed_front(numbers: &[i32], count: usize) {
+    let mut i: usize = 0;
+    while i < count {
+        if numbers.len() <= i {
+            return;
+        }
+        if 0 < i {
+            space();
+        }
+        signed32(numbers[i]);
         i += 1;
     }
 }

@@ -1,9 +1,11 @@
 // Numbers of 16 bits in decimal.
 //
-// Parts, and no entry points: `put_number` asks that there is room. An entry point first answers question 10, and then calls it.
+// Parts, and no entry points: `put_number` and `put_number_then` ask that there is room. An entry point first answers question 10, and then calls
+// them.
 use crate::writer::put_byte;
 ghost use mathlib.Core.Path.{_≡_};
 ghost use Prim.Native.Nat.{_+_, _<_};
+ghost use mathlib.Core.List.{[], _∷_, _++_};
 ghost use Rattle.text.specs.Writing.{Room, Wrote};
 ghost use Rattle.text.specs.Decimal.{digits, DigitsLength, digitAt, numberAt};
 
@@ -42,6 +44,15 @@ pub fn put_number(out: &mut [u8], at: usize, n: u16) -> usize
     }
     let next = put_number(out, at, n / 10);
     put_byte(out, next, 48 + (n % 10) as u8)
+}
+
+// The same with one byte right behind the digits.
+pub fn put_number_then(out: &mut [u8], at: usize, n: u16, behind: u8) -> usize
+    requires { ⌜ Room (now out) at (digits n ++ (behind ∷ [])) ⌝ }
+    ensures { λ r. ⌜ Wrote (now (out .entry)) at (digits n ++ (behind ∷ [])) (now (out .exit)) r ⌝ }
+{
+    let next = put_number(out, at, n);
+    put_byte(out, next, behind)
 }
 
 // The digit at a place, or 10 where there is none.

@@ -1,4 +1,5 @@
 pub mod Outputs
 pub mod Pairs
+pub mod Boards
 pub mod Examples
 pub mod FractionalCalls

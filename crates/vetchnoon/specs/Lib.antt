@@ -1,3 +1,4 @@
 pub mod Written
+pub mod Board
 pub mod Examples
 pub mod FractionalPatterns

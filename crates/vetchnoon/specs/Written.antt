@@ -14,6 +14,7 @@ use Rattle.layout.specs.Layouts.{Layout, layoutOutcome}
 use Rattle.layout.specs.Answers.{ofLayout}
 use Rattle.layout_layers.specs.declared.Layer.{Layer}
 use Rattle.layout_layers.specs.declared.Layer.the-variants.{Natural, Sharp, Enharmonic, Flat}
+use Rattle.layout_retuning.specs.declared.Retuning.{Retuning}
 use Rattle.mos.specs.declared.Mos.{Mos}
 use Rattle.mos.specs.Walks.{children, firstWith, fields}
 use Rattle.mos.specs.Answers.{genesisOutcome}
@@ -39,6 +40,11 @@ format N origin = record { «num_symbols» = N; «genchain_origin» = origin }
 -- A chain code, an octave, a tritave and a start.
 abbrev pub layout : ℕ → ℕ → ℕ → ℕ → IsomorphicLayout
 layout code octave tritave start = record { genchain = code; octave = octave; tritave = tritave; start = start }
+
+-- A chain code, an octave and a start, and the tritaves before and after a retuning.
+abbrev pub retuning : ℕ → ℕ → ℕ → ℕ → ℕ → Retuning
+retuning code octave start from to =
+    record { genchain = code; octave = octave; start = start; «from_tritave» = from; «to_tritave» = to }
 
 -- A letter's index along the chain, a signed number of signs, and stars.
 abbrev pub spelling : ℕ → ℤ → ℕ → Spelling

@@ -5,6 +5,8 @@
 //! row says so, the original has its layout made beforehand; ours makes it in
 //! every call, since a call takes the four numbers.
 
+mod edo;
+
 use std::borrow::Borrow;
 use std::cell::RefCell;
 use std::fmt::Write;
@@ -26,6 +28,7 @@ use tune::layout::Layer;
 use tune::pergen::Mos;
 use tune::temperament::Val;
 use vetchnoon::Pattern;
+use vetchnoon::Retuning;
 
 use crate::timing::Work;
 
@@ -59,6 +62,7 @@ pub fn of_the_original() -> Vec<Row> {
     let with_table = [SMALL, MIDDLE, LARGEST_OLD_STRIP, LARGE];
     let with_strip = [SMALL, MIDDLE, LARGEST_OLD_STRIP, LARGE, LARGEST];
     let mut rows = making();
+    rows.extend(edo::rows());
     rows.extend(SIZES.map(|n| names("one name", n, first_octave(), made_anew(n))));
     rows.extend(SIZES.map(|n| {
         let what = "one name; the original's layout is made beforehand";
@@ -81,12 +85,16 @@ pub fn of_the_original() -> Vec<Row> {
         accidentals(what, n, octave_below_0(n), made_anew(n))
     }));
     rows.extend([SMALL, MIDDLE, LARGE].map(nearest));
+    rows.extend([(Numbers(2, 31, 49), 50), (MIDDLE, 492)].map(|(n, to)| move_table(n, to)));
+    rows.extend(SIZES.map(chain_order));
+    rows.extend(SIZES.map(key_order));
     rows.extend(SIZES.map(book));
     rows.extend(SIZES.map(layout_layers));
     rows.extend(SIZES.map(pattern_layers));
     rows.extend(with_strip.map(strip));
     rows.extend(with_table.map(key_table));
     rows.extend(walks());
+    rows.extend(walks_of_moves());
     rows
 }
 
@@ -334,6 +342,95 @@ fn nearest(n: Numbers) -> Row {
     )
 }
 
+/// The table of moves to another tritave. The original has no such call: its caller multiplies
+/// each place by both layouts' generators.
+fn move_table(n: Numbers, to: u16) -> Row {
+    let given = Retuning::new(n.layout(), to);
+    let (before, after) = (made_anew(n), made_anew(Numbers(n.0, n.1, to)));
+    let chain = chains::chain(n.0).expect("a chain");
+    let (count, start) = (chain.count() as i32, chain.start as i32);
+    let octave = i32::from(n.1);
+    let mut table = [0; 9 * 17];
+    Row::new(
+        "a table of moves; by the original's generators",
+        format!("{} to {to}", n.words()),
+        (17 * count as usize, "move"),
+        move || {
+            let written = vetchnoon::move_table(given, &mut table).unwrap();
+            table[..written].iter().copied().map(usize::from).sum()
+        },
+        move || {
+            let generators = [&before, &after].map(|layout| generator(&layout()));
+            let moved = |place: i32| {
+                let [one, other] = generators.map(|step| (step * place).rem_euclid(octave));
+                let away = one.abs_diff(other);
+                away.min(octave.unsigned_abs() - away) as usize
+            };
+            let letters = (0..count).flat_map(|letter| (-8..=8).map(move |signs| (letter, signs)));
+            letters
+                .map(|(letter, signs)| moved(letter + count * signs - start))
+                .sum()
+        },
+    )
+}
+
+fn generator(layout: &IsomorphicLayout) -> i32 {
+    layout.pergen().generator().into()
+}
+
+/// A list of the octave's entries in the order of the chain. The original has no such call:
+/// its caller asks for the cycle and the degree of each key.
+fn chain_order(n: Numbers) -> Row {
+    let given = n.layout();
+    reordered(
+        n,
+        "a list in the order of the chain; by the original's cycles and degrees",
+        move |list, out| vetchnoon::to_chain_order(given, list, out).unwrap(),
+        |list, out, key, place| out[place] = list[key],
+    )
+}
+
+fn key_order(n: Numbers) -> Row {
+    let given = n.layout();
+    reordered(
+        n,
+        "a list in the order of keys again; by the original's cycles and degrees",
+        move |list, out| vetchnoon::to_key_order(given, list, out).unwrap(),
+        |list, out, key, place| out[key] = list[place],
+    )
+}
+
+fn reordered(
+    n: Numbers,
+    what: &'static str,
+    ours: impl Fn(&[u16], &mut [u16]) -> usize + 'static,
+    put: impl Fn(&[u16], &mut [u16], usize, usize) + 'static,
+) -> Row {
+    let layout = made_anew(n);
+    let list: Vec<u16> = (0..n.1).rev().collect();
+    let same_list = list.clone();
+    let mut out = list.clone();
+    let mut same_out = list.clone();
+    n.row_of_keys(
+        what,
+        move || {
+            let count = ours(&list, &mut out);
+            count + usize::from(out[1])
+        },
+        move || {
+            let layout = layout();
+            let reduced = usize::from(layout.pergen().reduced_period());
+            for key in 0..n.1 {
+                let found = layout.pergen().get_generation(key);
+                let cycle = usize::from(found.cycle.unwrap_or(0));
+                let place = cycle * reduced + usize::from(found.degree);
+                put(&same_list, &mut same_out, key.into(), place);
+            }
+            same_out.len() + usize::from(same_out[1])
+        },
+    )
+}
+
 /// The book's text alone is compared: the original's names have no offsets before.
 fn book(n: Numbers) -> Row {
     let given = n.layout();
@@ -550,6 +647,46 @@ fn walk(
                 .sum()
         },
         move || from.iter().map(|mos| theirs(*mos, &mut same_out)).sum(),
+    )
+}
+
+fn walks_of_moves() -> Vec<Row> {
+    let fifths = (5..400).map(|octave| (octave, octave * 7 / 12)).collect();
+    vec![
+        moves("deepest", vec![(65_535, 1)]),
+        moves("fifths of octaves 5 to 399", fifths),
+    ]
+}
+
+/// The original has no moves: its caller makes them of the counts and steps of its patterns.
+fn moves(input: &str, from: Vec<(u16, u16)>) -> Row {
+    let mut out = vec![0; 4 * 65_536];
+    let mut same_out = out.clone();
+    let ours = |(period, generator), out: &mut [i32]| {
+        vetchnoon::walk_moves(period, generator, out).unwrap()
+    };
+    let theirs = |(period, generator), out: &mut [i32]| {
+        let walk = Mos::<u16>::new_genesis(period, generator).children();
+        walk.zip(out.chunks_exact_mut(4))
+            .map(|(mos, place)| {
+                let moves = patterns::moves(mos, period, generator);
+                place.copy_from_slice(&moves.unwrap());
+            })
+            .count()
+            * 4
+    };
+    let numbers: usize = from.iter().map(|pergen| theirs(*pergen, &mut out)).sum();
+    let same = from.clone();
+    Row::new(
+        "moves of a walk; of the original's counts and steps",
+        input,
+        (numbers / 4, "pattern"),
+        move || from.iter().map(|pergen| ours(*pergen, &mut out)).sum(),
+        move || {
+            same.iter()
+                .map(|pergen| theirs(*pergen, &mut same_out))
+                .sum()
+        },
     )
 }
 

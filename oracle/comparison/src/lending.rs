@@ -40,7 +40,7 @@ macro_rules! elements {
     )*};
 }
 
-elements!(u8, u16, u32, i64);
+elements!(u8, u16, i32, u32, i64);
 
 /// Elements before and behind a lent slice.
 const GUARD: usize = 4;
@@ -49,7 +49,7 @@ const GUARD: usize = 4;
 const MORE: usize = 3;
 
 /// The question whether the output slice holds the whole output.
-const SLICE_HOLDS_OUTPUT: u8 = 10;
+pub const SLICE_HOLDS_OUTPUT: u8 = 10;
 
 /// What the library gives into a slice of `room` elements, or what it did that no
 /// call may do. Question 10 comes last: into a slice that is one short the library
@@ -102,6 +102,14 @@ fn one_short<T: Element>(
         return Err(format!("into {} elements {}", room - 1, shown(&short)));
     }
     Ok(())
+}
+
+/// What the library gives into a slice of one length, which may be too short.
+pub fn lent_once<T: Element>(
+    length: usize,
+    call: impl Fn(&mut [T]) -> Result<usize, Refused>,
+) -> Result<Outcome<Vec<T>>, String> {
+    filled(length, Round::Exact, &call)
 }
 
 /// One call with a slice of `length` elements.

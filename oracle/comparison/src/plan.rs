@@ -2,11 +2,15 @@
 
 mod books;
 mod chains;
+mod edo;
 mod known;
 mod layouts;
+mod moves;
+mod orders;
 mod patterns;
 mod pergens;
 mod reach;
+mod retunings;
 mod strips;
 mod tables;
 
@@ -52,12 +56,16 @@ pub fn tasks(mode: Mode, seed: u64) -> Vec<Task> {
     // The longest first, so that no thread is left alone with one at the end.
     layouts::plan(&mut tasks, mode, seed);
     reach::plan(&mut tasks, mode, seed);
+    retunings::plan(&mut tasks, mode, seed);
+    orders::plan(&mut tasks, mode, seed);
+    moves::plan(&mut tasks, mode, seed);
     patterns::plan(&mut tasks, mode, seed);
     pergens::plan(&mut tasks, mode, seed);
     books::plan(&mut tasks, mode, seed);
     tables::plan(&mut tasks, mode, seed);
     strips::plan(&mut tasks, mode, seed);
     chains::plan(&mut tasks, mode, seed);
+    edo::plan(&mut tasks);
     tasks
 }
 

@@ -19,9 +19,13 @@ pub enum Call {
     MosLayers,
     MosKey,
     MosFind,
+    WalkMoves,
     ChainLetters,
     ChainName,
     Start,
+    Tritaves,
+    FindByEdo,
+    EdoReport,
     Layout,
     ScaleName,
     NoteName,
@@ -30,6 +34,12 @@ pub enum Call {
     SoundedKey,
     NearestNatural,
     KeysInReach,
+    Moved,
+    MoveTable,
+    LargestMove,
+    ToChainOrder,
+    ToKeyOrder,
+    Moves,
     LayerCount,
     LayoutLayers,
     Layer,
@@ -61,9 +71,13 @@ impl Call {
             Self::MosLayers => "vn_mos_layers",
             Self::MosKey => "vn_mos_key",
             Self::MosFind => "vn_mos_find",
+            Self::WalkMoves => "vn_walk_moves",
             Self::ChainLetters => "vn_chain_letters",
             Self::ChainName => "vn_chain_name",
             Self::Start => "vn_start",
+            Self::Tritaves => "vn_tritaves",
+            Self::FindByEdo => "vn_find_by_edo",
+            Self::EdoReport => "vn_edo_report",
             Self::Layout => "vn_layout",
             Self::ScaleName => "vn_scale_name",
             Self::NoteName => "vn_note_name",
@@ -72,6 +86,12 @@ impl Call {
             Self::SoundedKey => "vn_sounded_key",
             Self::NearestNatural => "vn_nearest_natural",
             Self::KeysInReach => "vn_keys_in_reach",
+            Self::Moved => "vn_moved",
+            Self::MoveTable => "vn_move_table",
+            Self::LargestMove => "vn_largest_move",
+            Self::ToChainOrder => "vn_to_chain_order",
+            Self::ToKeyOrder => "vn_to_key_order",
+            Self::Moves => "vn_moves",
             Self::LayerCount => "vn_layer_count",
             Self::LayoutLayers => "vn_layout_layers",
             Self::Layer => "vn_layer",
@@ -89,8 +109,9 @@ impl Call {
 }
 
 /// A call with its arguments, in order. Bytes are arguments as well, and so are the codes
-/// of a strip that is lent; those of a lookup are the key and then the book. Questions are put by the million, so one
-/// borrows its arguments; only those that are reported are kept.
+/// of a strip and the entries of a list that is lent; those of a lookup are the key and then
+/// the book. Questions are put by the million, so one borrows its arguments; only those that
+/// are reported are kept.
 #[derive(Clone, Copy, Debug)]
 pub struct Question<'a> {
     pub call: Call,

@@ -3,11 +3,15 @@
 
 pub mod books;
 pub mod chains;
+pub mod edo;
 pub mod keys;
 pub mod layouts;
+pub mod moves;
 pub mod numbers;
+pub mod orders;
 pub mod patterns;
 pub mod pergens;
 pub mod reach;
+pub mod retunings;
 pub mod strips;
 pub mod tables;

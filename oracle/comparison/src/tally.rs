@@ -168,18 +168,19 @@ impl Tally {
         self.compare_lent(question, reading, original, class, library);
     }
 
-    /// The same for a call of no class that writes `room` elements or none, and asks for room
-    /// last. A refusal is seen in that room too, in which a call may have begun to write.
+    /// The same for a call that writes `room` elements or none, and asks for room last. A
+    /// refusal is seen in that room too, in which a call may have begun to write.
     pub fn compare_filling_in_room<T: Element>(
         &mut self,
         question: Question,
         room: usize,
         reading: Outcome<Vec<T>>,
         original: Original<Vec<T>>,
+        class: Option<Class>,
         call: impl Fn(&mut [T]) -> Result<usize, Refused>,
     ) {
         let library = lending::lent(room, call);
-        self.compare_lent(question, reading, original, None, library);
+        self.compare_lent(question, reading, original, class, library);
     }
 
     /// Compares a call that writes `room` elements or none, and asks for room first.
@@ -191,6 +192,22 @@ impl Tally {
         call: impl Fn(&mut [T]) -> Result<usize, Refused>,
     ) {
         let library = lending::lent_after_room(room, call);
+        self.compare_lent(question, reading, Original::Silent, None, library);
+    }
+
+    /// Compares a call of no class with a slice of one length: question 10 comes last.
+    pub fn compare_filling_of_length<T: Element>(
+        &mut self,
+        question: Question,
+        length: usize,
+        reading: &Outcome<Vec<T>>,
+        call: impl Fn(&mut [T]) -> Result<usize, Refused>,
+    ) {
+        let reading = match reading {
+            Ok(output) if output.len() > length => Err(lending::SLICE_HOLDS_OUTPUT),
+            reading => reading.clone(),
+        };
+        let library = lending::lent_once(length, call);
         self.compare_lent(question, reading, Original::Silent, None, library);
     }
 

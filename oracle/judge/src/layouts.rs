@@ -17,7 +17,10 @@ use tune::temperament::Val;
 
 use crate::asking::Answer;
 use crate::asking::ask;
+use crate::patterns;
+use crate::spelling;
 use crate::spelling::Accidentals;
+use crate::spelling::Generation;
 
 /// The original's chains by code. The original itself has no codes.
 pub const CHAINS: [Genchain; 6] = [
@@ -117,6 +120,42 @@ pub fn nearest(layout: &IsomorphicLayout, letter: &str, key: i32) -> Answer<Opti
     Ok(reach::nearest(layout.pergen().period().into(), &keys, key))
 }
 
+/// The keys of the octave in the order of the chain, one cycle after the other. The original
+/// has no such call (W-214); its keys are put in the order of their cycles and degrees.
+pub fn keys_along_chain(layout: &IsomorphicLayout) -> Answer<Vec<u16>> {
+    let keys = 0..layout.pergen().period();
+    let found: Vec<Generation> = keys
+        .clone()
+        .map(|key| spelling::generation(layout.pergen(), key))
+        .collect::<Answer<_>>()?;
+    let mut along: Vec<u16> = keys.collect();
+    along.sort_by_key(|key| {
+        let Generation { cycle, degree } = found[usize::from(*key)];
+        (cycle, degree)
+    });
+    Ok(along)
+}
+
+/// The entries of the keys in this order.
+pub fn in_chain_order(along: &[u16], list: &[u16]) -> Vec<u16> {
+    along.iter().map(|key| list[usize::from(*key)]).collect()
+}
+
+/// The entries in the order of keys again.
+pub fn in_key_order(along: &[u16], list: &[u16]) -> Vec<u16> {
+    let mut keys = vec![0; along.len()];
+    for (key, entry) in along.iter().zip(list) {
+        keys[usize::from(*key)] = *entry;
+    }
+    keys
+}
+
+/// The moves of the layout's own pattern, where its steps have some.
+pub fn moves(layout: &IsomorphicLayout) -> Option<[i32; 4]> {
+    let pergen = layout.pergen();
+    patterns::moves(layout.mos(), pergen.period(), pergen.generator())
+}
+
 /// The original's names, laid down as document 01 says.
 pub fn book(layout: &IsomorphicLayout) -> Answer<Vec<u8>> {
     Ok(books::of_names(&note_names(layout)?))
@@ -127,7 +166,6 @@ mod tests {
     use tune::pergen::AccidentalsFormat;
 
     use super::*;
-    use crate::spelling;
 
     /// Every accepted layout of some octaves, with its number of letters.
     fn accepted() -> Vec<(IsomorphicLayout, u16)> {
@@ -205,6 +243,19 @@ mod tests {
         // From another letter, D and D* are four keys higher.
         let from_c = beginning(&quarter_tones, 1);
         assert_eq!(keys_of_letter(&from_c, "D"), Ok(vec![4, 5]));
+    }
+
+    #[test]
+    fn keys_and_moves_of_quarter_tones() {
+        let quarter_tones = create(Genchain::Meantone7, 24, 38).unwrap().unwrap();
+        let along = keys_along_chain(&quarter_tones).unwrap();
+        assert_eq!(along[..4], [0, 14, 4, 18]);
+        assert_eq!(along[12..16], [1, 15, 5, 19]);
+        let list: Vec<u16> = (100..124).collect();
+        let chain = in_chain_order(&along, &list);
+        assert_eq!(chain[12..16], [101, 115, 105, 119]);
+        assert_eq!(in_key_order(&along, &chain), list);
+        assert_eq!(moves(&quarter_tones), Some([-1, 2, 3, -5]));
     }
 
     #[test]

@@ -9,6 +9,7 @@
 
 pub mod asking;
 pub mod classes;
+pub mod edo;
 pub mod keys;
 pub mod layouts;
 pub mod numbers;

@@ -27,6 +27,8 @@ usage: judge QUESTION
   key COUNT COUNT STEP STEP PRIMARY SECONDARY the key at a place of its board
   walk PERIOD GENERATOR                       the patterns from the genesis on
   layout CODE OCTAVE TRITAVE                  a layout and the keys of its octave
+  edo STEPS                                   the layouts of an octave of so many steps
+  edo_report                                  their numbers by chain, over 1 to 400 steps
   classes                                     where the original panics, smallest inputs
 
 Chain codes: 0 Mavila[9], 1 Meantone[7], 2 Meantone[5], 3 Porcupine[8],
@@ -62,6 +64,8 @@ enum Question {
         octave: u16,
         tritave: u16,
     },
+    Edo(u16),
+    EdoReport,
     Classes,
 }
 
@@ -115,6 +119,8 @@ fn parse(words: &[&str]) -> Option<Question> {
             octave: octave.parse().ok()?,
             tritave: tritave.parse().ok()?,
         },
+        ["edo", steps] => Question::Edo(steps.parse().ok()?),
+        ["edo_report"] => Question::EdoReport,
         ["classes"] => Question::Classes,
         _ => return None,
     })
@@ -147,6 +153,8 @@ fn answer(question: &Question, out: &mut impl Write) -> io::Result<()> {
             octave,
             tritave,
         } => report::layout(out, chain, octave, tritave),
+        Question::Edo(steps) => report::edo(out, steps),
+        Question::EdoReport => report::edo_report(out),
         Question::Classes => report::classes(out),
     }
 }

@@ -8,6 +8,8 @@ use std::io::Write;
 use judge::asking;
 use judge::asking::Answer;
 use judge::classes;
+use judge::edo;
+use judge::edo::Listed;
 use judge::layouts;
 use judge::numbers;
 use judge::patterns;
@@ -147,6 +149,38 @@ pub fn layout(out: &mut impl Write, chain: Genchain, octave: u16, tritave: u16) 
     match layouts::create(chain, octave, tritave) {
         Ok(Some(layout)) => layout_lines(out, &layout),
         Ok(None) => writeln!(out, "none"),
+        Err(panicked) => writeln!(out, "{panicked}"),
+    }
+}
+
+/// A line for each layout: chain code, octave, tritave, chain name, scale name, sharpness, and
+/// which choice of the tritave it was made with.
+pub fn edo(out: &mut impl Write, steps: u16) -> io::Result<()> {
+    let listed = match edo::find_by_edo(steps) {
+        Ok(listed) => listed,
+        Err(panicked) => return writeln!(out, "{panicked}"),
+    };
+    listed.into_iter().try_for_each(|listed| {
+        let Listed { code, tritave, .. } = listed;
+        let layout = &listed.layout;
+        let octave = layout.pergen().period();
+        let scale = layout.get_scale_name();
+        let sharpness = layout.mos().sharpness();
+        let choice = match listed.is_second {
+            false => "first",
+            true => "second",
+        };
+        let chain = layout.genchain();
+        writeln!(
+            out,
+            "{code} {octave} {tritave} {chain} {scale} sharpness {sharpness}, {choice} choice"
+        )
+    })
+}
+
+pub fn edo_report(out: &mut impl Write) -> io::Result<()> {
+    match edo::report() {
+        Ok(report) => write!(out, "{report}"),
         Err(panicked) => writeln!(out, "{panicked}"),
     }
 }

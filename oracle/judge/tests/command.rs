@@ -137,6 +137,21 @@ fn small_questions() {
 }
 
 #[test]
+fn layouts_of_a_number_of_steps() {
+    assert_eq!(
+        answer("edo 13"),
+        "\
+0 13 20 Mavila[9] balzano sharpness -2, second choice
+1 13 20 Meantone[7] antidiatonic sharpness -3, second choice
+2 13 21 Meantone[5] antipentic sharpness 1, first choice
+4 13 21 Tetracot[7] archeotonic sharpness 1, first choice
+"
+    );
+    assert_eq!(answer("edo 4"), "");
+    assert!(answer("edo_report").starts_with("0 5 2 2\n1 377 8 5\n"));
+}
+
+#[test]
 fn bad_usage_has_status_2() {
     for line in [
         "",
@@ -147,6 +162,9 @@ fn bad_usage_has_status_2() {
         "gcd 1 x",
         "mos 1 2 3",
         "unknown 1",
+        "edo",
+        "edo 65536",
+        "edo_report 1",
     ] {
         let output = run(line);
         assert_eq!(output.status.code(), Some(2), "{line}");

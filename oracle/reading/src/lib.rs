@@ -10,14 +10,19 @@
 pub mod books;
 pub mod chains;
 pub mod codes;
+pub mod edo;
 pub mod former;
 pub mod layers;
 pub mod layouts;
+pub mod moves;
 pub mod names;
 pub mod numbers;
+pub mod orders;
 pub mod patterns;
 pub mod pergens;
+pub mod powers;
 pub mod reach;
+pub mod retunings;
 pub mod tables;
 
 /// A whole number, wide enough for every sum and product here.

@@ -47,7 +47,7 @@ fn numbers(input: &[u8]) -> Option<[u16; 3]> {
     Some([number(code)?, number(octave)?, number(tritave)?])
 }
 
-fn number(word: &[u8]) -> Option<u16> {
+pub(crate) fn number(word: &[u8]) -> Option<u16> {
     let digits = (1..=5).contains(&word.len()) && word.iter().all(u8::is_ascii_digit);
     if !digits {
         return None;

@@ -21,6 +21,7 @@ use reading::chains;
 use reading::codes;
 use reading::layouts::repeated;
 use reading::numbers::remainder;
+use reading::orders;
 use reading::pergens::Format;
 use reading::reach;
 use reading::tables;
@@ -31,11 +32,13 @@ use tune::pergen::AccidentalsFormat;
 use tune::pergen::Mos;
 use tune::pergen::PerGen;
 
+use crate::edo;
 use crate::questions::FreePergen;
 use crate::questions::Layout;
 use crate::questions::OfLayout;
 use crate::questions::OfPattern;
 use crate::questions::Question;
+use crate::retunings;
 
 /// Why there is no answer.
 pub enum Absent {
@@ -52,7 +55,7 @@ impl From<u8> for Absent {
     }
 }
 
-type Text = Result<String, Absent>;
+pub type Text = Result<String, Absent>;
 
 /// The room of a question that names none.
 const USUAL_ROOM: u16 = 65_535;
@@ -65,8 +68,8 @@ pub fn answer(question: &Question) -> Option<String> {
     };
     match text_in_room(question, room.into()) {
         Ok(mut text) => {
-            // A table ends its own lines.
-            if !matches!(question, Question::Table(_)) {
+            // A table and a report end their own lines.
+            if !matches!(question, Question::Table(_) | Question::EdoReport) {
                 text.push('\n');
             }
             Some(text)
@@ -74,6 +77,13 @@ pub fn answer(question: &Question) -> Option<String> {
         Err(Absent::Refused(number)) => Some(format!("refused {number}\n")),
         Err(Absent::Overflow) => None,
     }
+}
+
+/// A question's line and its answer, which the original does not overflow at.
+#[cfg(test)]
+pub fn answered(question: Question) -> (String, String) {
+    let answer = answer(&question).expect("no overflow");
+    (question.to_string(), answer)
 }
 
 /// Question 10 comes after 1 to 8 and 17, and before those on a book.
@@ -90,10 +100,17 @@ fn text_in_room(question: &Question, room: usize) -> Text {
 fn elements(question: &Question, text: &str) -> usize {
     match question {
         Question::Chain(_) | Question::Name(..) | Question::Table(_) => text.len(),
+        Question::EdoReport => text.len(),
+        Question::FindByEdo(_) if text != "-" => text.split(' ').count(),
         Question::OfPattern(..) | Question::OfLayout(..) | Question::Book(_) if text != "-" => {
             text.split(' ').count()
         }
-        Question::Reach(..) => text.split(' ').count(),
+        Question::Reach(..)
+        | Question::MoveTable(_)
+        | Question::ToChainOrder(..)
+        | Question::ToKeyOrder(..)
+        | Question::WriteMoves(_)
+        | Question::WalkMoves(_) => text.split(' ').count(),
         Question::Widen(strip) => strip.len(),
         Question::Narrow(strip) => strip.len(),
         _ => 0,
@@ -155,6 +172,15 @@ fn text(question: &Question) -> Text {
             chains::chain(*code)?;
             Ok(original_chain(*code).to_string())
         }
+        Question::Moved(retuning, letter, signs, stars) => {
+            retunings::moved(*retuning, *letter, *signs, *stars)
+        }
+        Question::MoveTable(retuning) => retunings::table(*retuning),
+        Question::LargestMove(retuning) => retunings::largest(*retuning),
+        Question::Tritaves(n) => edo::tritaves(*n),
+        Question::FindByEdo(n) => edo::layouts(*n),
+        Question::FindChainByEdo(n, code) => edo::layout_of_chain(*n, *code),
+        Question::EdoReport => given(judge::edo::report()),
         Question::OfLayout(asked, layout) => of_layout(*asked, &created_layout(*layout)?),
         Question::Spelling(layout, key) => {
             let key = asked_at(*key, layout.octave);
@@ -184,6 +210,34 @@ fn text(question: &Question) -> Text {
             let read = layout.read()?;
             Ok(words(reach::keys_in_reach(&read, *key, *distance)))
         }
+        // The original has the cycles and degrees of keys alone.
+        Question::ToChainOrder(layout, list) => {
+            let along = along(*layout, list)?;
+            Ok(words(layouts::in_chain_order(&along, list)))
+        }
+        Question::ToKeyOrder(layout, list) => {
+            let along = along(*layout, list)?;
+            Ok(words(layouts::in_key_order(&along, list)))
+        }
+        // And its patterns, which leave one table of moves each.
+        Question::Moves(layout) => {
+            let original = created_layout(*layout)?;
+            Ok(moves_text(original.mos(), original.pergen()))
+        }
+        Question::GenesisMoves(pergen) => Ok(moves_text(walk(*pergen)?[0], &created(*pergen)?)),
+        Question::NthMoves(pergen, place) => {
+            let (walk, created) = (walk(*pergen)?, created(*pergen)?);
+            let found = walk.get(*place as usize);
+            Ok(found.map_or_else(|| "none".to_owned(), |mos| moves_text(*mos, &created)))
+        }
+        Question::WriteMoves(layout) => {
+            let original = created_layout(*layout)?;
+            Ok(words(moves(original.mos(), original.pergen())))
+        }
+        Question::WalkMoves(pergen) => {
+            let (walk, created) = (walk(*pergen)?, created(*pergen)?);
+            Ok(words(walk.into_iter().flat_map(|mos| moves(mos, &created))))
+        }
         Question::Widen(strip) => Ok(list_text(codes::widened(strip)?)),
         Question::Narrow(strip) => Ok(list_text(codes::narrowed(strip)?)),
         Question::BookLength(layout) => Ok(book(*layout)?.len().to_string()),
@@ -197,7 +251,7 @@ fn text(question: &Question) -> Text {
 }
 
 /// What the original answers to a question that the document does not refuse.
-fn given<T>(answer: Answer<T>) -> Result<T, Absent> {
+pub fn given<T>(answer: Answer<T>) -> Result<T, Absent> {
     match answer {
         Ok(value) => Ok(value),
         Err(panicked) if panicked.is_overflow() => Err(Absent::Overflow),
@@ -256,6 +310,28 @@ pub fn created_layout(layout: Layout) -> Result<IsomorphicLayout, Absent> {
             answer.map(|layout| layout.is_some())
         ),
     }
+}
+
+/// The original's keys along the chain, where the list has an entry for each.
+fn along(layout: Layout, list: &[u16]) -> Result<Vec<u16>, Absent> {
+    let original = created_layout(layout)?;
+    orders::holds_octave(&layout.read()?, list)?;
+    given(layouts::keys_along_chain(&original))
+}
+
+/// The original's patterns from the genesis on.
+fn walk(pergen: FreePergen) -> Result<Vec<Mos>, Absent> {
+    let genesis = patterns::create_genesis(pergen.period, pergen.generator);
+    given(patterns::children(settled(pergen.read(), genesis)?))
+}
+
+fn moves(mos: Mos, pergen: &PerGen) -> [i32; 4] {
+    patterns::moves(mos, pergen.period(), pergen.generator()).expect("a pattern of the walk")
+}
+
+/// The numbers of a pattern, and its moves.
+fn moves_text(mos: Mos, pergen: &PerGen) -> String {
+    format!("{} {}", words::pattern(mos), words(moves(mos, pergen)))
 }
 
 fn original_chain(code: u16) -> Genchain {
@@ -376,7 +452,7 @@ fn layer_text(layer: Layer) -> String {
 }
 
 /// Numbers, or `-` where there is none.
-fn list_text<T: Display>(numbers: Vec<T>) -> String {
+pub fn list_text<T: Display>(numbers: Vec<T>) -> String {
     match numbers.is_empty() {
         true => "-".to_owned(),
         false => words(numbers),

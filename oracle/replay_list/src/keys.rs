@@ -154,15 +154,29 @@ fn of_layouts() -> Vec<Question> {
     questions
 }
 
-/// Layouts with an octave of any size.
 fn of_large_layouts(random: &mut Random) -> Vec<Question> {
+    of_any_size(random, 12, accepted, |random, layout| {
+        let octave = i32::from(layout.octave);
+        let keys = [-1, -octave, 1 - octave, any_key(random), any_key(random)];
+        keys.into_iter()
+            .flat_map(|key| of_key(layout, key))
+            .collect()
+    })
+}
+
+/// What is asked of layouts with an octave of any size, so many of each chain; but for long
+/// names.
+pub fn of_any_size(
+    random: &mut Random,
+    times: usize,
+    choose: impl Fn(&mut Random, u16) -> Layout,
+    asked: impl Fn(&mut Random, Layout) -> Vec<Question>,
+) -> Vec<Question> {
     let mut questions = Vec::new();
     for code in 0..=5 {
-        for _ in 0..12 {
-            let layout = accepted(random, code);
-            let octave = i32::from(layout.octave);
-            let keys = [-1, -octave, 1 - octave, any_key(random), any_key(random)];
-            questions.extend(keys.into_iter().flat_map(|key| of_key(layout, key)));
+        for _ in 0..times {
+            let layout = choose(random, code);
+            questions.extend(asked(random, layout));
         }
     }
     questions.retain(|question| match question {
@@ -172,6 +186,7 @@ fn of_large_layouts(random: &mut Random) -> Vec<Question> {
     questions
 }
 
+/// A layout of a chain that is accepted, with an octave of any size.
 pub fn accepted(random: &mut Random, code: u16) -> Layout {
     iter::repeat_with(|| layout((code, random.any_size(), random.any_size())))
         .find(|layout| layout.read().is_ok())

@@ -1,6 +1,7 @@
 //! The list of questions: the bench examples of document 01, small numbers
 //! densely, limits, and numbers of every size at random; then keys below 0, other letters
-//! on key 0, strips of two octaves, stored strips, and distances between keys.
+//! on key 0, strips of two octaves, stored strips, distances between keys, retunings, lists in
+//! the order of the chain, and moves.
 
 use std::collections::HashSet;
 use std::iter;
@@ -12,7 +13,10 @@ use judge::patterns::Pattern;
 use crate::answers::created_layout;
 use crate::books;
 use crate::conversions;
+use crate::edo;
 use crate::keys;
+use crate::moves;
+use crate::orders;
 use crate::questions::FreePergen;
 use crate::questions::Layout;
 use crate::questions::OfLayout;
@@ -20,6 +24,7 @@ use crate::questions::OfPattern;
 use crate::questions::Question;
 use crate::random::Random;
 use crate::reach;
+use crate::retunings;
 use crate::starts;
 use crate::strips;
 
@@ -43,12 +48,16 @@ pub fn all() -> Vec<Question> {
     questions.extend(of_layouts(&mut random));
     questions.extend(tables(&mut random));
     questions.extend(books::all(&mut random));
+    questions.extend(edo::all());
     questions.extend(unreadable());
     questions.extend(keys::all());
     questions.extend(starts::all());
     questions.extend(strips::all());
     questions.extend(conversions::all());
     questions.extend(reach::all());
+    questions.extend(retunings::all());
+    questions.extend(orders::all());
+    questions.extend(moves::all());
 
     let mut asked = HashSet::new();
     questions.retain(|question| asked.insert(question.to_string()));
@@ -572,6 +581,34 @@ fn unreadable() -> Vec<Question> {
         "reach 1 12 19 3 0 1 1",
         "reach 1 65536 19 3 0 1",
         "65536 reach 1 12 19 3 0 1",
+        "to_chain_order",
+        "to_chain_order 1 12 19",
+        "to_chain_order 1 7 11 3 0 1 2 3 4 5 65536",
+        "to_chain_order 1 7 11 3 0 1 2 3 4 5 -6",
+        "to_chain_order 1 7 11 3 0 1 2 3 4 5 6 ",
+        "to_chain_order 1 7 11 -3 0 1 2 3 4 5 6",
+        "to_chain_order_from 1 7 11 3 0 1 2 3 4 5 6",
+        "to_key_order 1 7 11",
+        "to_key_order 1 7 11 3  0 1 2 3 4 5 6",
+        "to_key_orde 1 7 11 3 0 1 2 3 4 5 6",
+        "65536 to_key_order 1 7 11 3 0 1 2 3 4 5 6",
+        "moves 1 12 19",
+        "moves 1 12 19 3 ",
+        "moves 1 12 19 3 0",
+        "moves_from 1 12 19 3",
+        "write_moves 1 12 19",
+        "write_moves 1 12 19 -3",
+        "genesis_moves 12",
+        "genesis_moves 12 7 0",
+        "nth_moves 12 7",
+        "nth_moves 12 7 -1",
+        "nth_moves 12 7 4294967296",
+        "nth_moves 12 7 0 0",
+        "walk_moves 12",
+        "walk_moves 12 -7",
+        "walk_moves 12 65536",
+        "walk_moves 12 7 ",
+        "-1 walk_moves 12 7",
     ]
     .map(Question::Unreadable)
     .into()
@@ -604,14 +641,14 @@ fn table(line: &str) -> Question {
     Question::Table(line.to_owned())
 }
 
-fn pairs(
+pub fn pairs(
     first: impl Iterator<Item = u16>,
     second: impl Iterator<Item = u16> + Clone,
 ) -> impl Iterator<Item = (u16, u16)> {
     first.flat_map(move |x| second.clone().map(move |y| (x, y)))
 }
 
-fn at_limits() -> impl Iterator<Item = (u16, u16)> {
+pub fn at_limits() -> impl Iterator<Item = (u16, u16)> {
     pairs(LIMITS.into_iter(), LIMITS.into_iter())
 }
 

@@ -5,11 +5,15 @@
 mod answers;
 mod books;
 mod conversions;
+mod edo;
 mod keys;
 mod list;
+mod moves;
+mod orders;
 mod questions;
 mod random;
 mod reach;
+mod retunings;
 mod starts;
 mod strips;
 

@@ -10,6 +10,7 @@ use judge::words::words;
 use reading::Outcome;
 use reading::layouts;
 use reading::pergens::Pergen;
+use reading::retunings;
 
 /// A chain code, the step counts of octave and tritave, and a start, where it is not to be
 /// the chain's own.
@@ -19,6 +20,16 @@ pub struct Layout {
     pub octave: u16,
     pub tritave: u16,
     pub start: Option<u16>,
+}
+
+/// A chain code, an octave and a start, and the tritaves before a retuning and after it.
+#[derive(Clone, Copy, Debug, PartialEq, Eq)]
+pub struct Retuning {
+    pub code: u16,
+    pub octave: u16,
+    pub start: u16,
+    pub from: u16,
+    pub to: u16,
 }
 
 /// A free period and generator.
@@ -49,6 +60,20 @@ impl Layout {
             None => "",
             Some(_) => "_from",
         }
+    }
+}
+
+impl Retuning {
+    /// What document 02 makes of it.
+    pub fn read(self) -> Outcome<retunings::Retuning> {
+        let Self {
+            code,
+            octave,
+            start,
+            from,
+            to,
+        } = self;
+        retunings::Retuning::new(code, octave, start, from, to)
     }
 }
 
@@ -147,6 +172,11 @@ pub enum Question {
     OfPattern(OfPattern, Pattern),
     GetKey(Pattern, i16, i16),
     Chain(u16),
+    /// Of an octave of so many steps, and of one chain there, by its code.
+    Tritaves(u16),
+    FindByEdo(u16),
+    FindChainByEdo(u16, u16),
+    EdoReport,
     OfLayout(OfLayout, Layout),
     Spelling(Layout, i32),
     Name(Layout, i32),
@@ -162,6 +192,21 @@ pub enum Question {
     /// A key and a letter's place, and a key and a distance; the layout has a start.
     Nearest(Layout, i32, u16),
     Reach(Layout, i32, u16),
+    /// How far a spelling moves: a letter's place, signs and stars; the table of moves, and the
+    /// largest in it.
+    Moved(Retuning, u16, i32, u16),
+    MoveTable(Retuning),
+    LargestMove(Retuning),
+    /// A list in the order of the chain, and in that of keys; the layout has a start.
+    ToChainOrder(Layout, Vec<u16>),
+    ToKeyOrder(Layout, Vec<u16>),
+    /// A pattern with its moves: a layout's, which has a start, the genesis, and a walk's at a
+    /// place from 0; and the moves alone, of a layout and of a whole walk.
+    Moves(Layout),
+    GenesisMoves(FreePergen),
+    NthMoves(FreePergen, u32),
+    WriteMoves(Layout),
+    WalkMoves(FreePergen),
     /// Stored codes of one byte, and the way back.
     Widen(Vec<u8>),
     Narrow(Vec<u16>),
@@ -180,6 +225,13 @@ impl Display for Layout {
             None => Ok(()),
             Some(start) => write!(f, " {start}"),
         }
+    }
+}
+
+impl Display for Retuning {
+    fn fmt(&self, f: &mut Formatter<'_>) -> fmt::Result {
+        let numbers = [self.code, self.octave, self.start, self.from, self.to];
+        f.write_str(&words(numbers))
     }
 }
 
@@ -217,6 +269,10 @@ impl Display for Question {
                 write!(f, "get_key {} {primary} {secondary}", words(*pattern))
             }
             Self::Chain(code) => write!(f, "chain {code}"),
+            Self::Tritaves(n) => write!(f, "tritaves {n}"),
+            Self::FindByEdo(n) => write!(f, "find_by_edo {n}"),
+            Self::FindChainByEdo(n, code) => write!(f, "find_chain_by_edo {n} {code}"),
+            Self::EdoReport => f.write_str("edo_report"),
             Self::OfLayout(asked, layout) => {
                 write!(f, "{}{} {layout}", asked.name(), layout.suffix())
             }
@@ -227,23 +283,33 @@ impl Display for Question {
             Self::BookLength(layout) => write!(f, "book_len{} {layout}", layout.suffix()),
             Self::Book(layout) => write!(f, "book{} {layout}", layout.suffix()),
             Self::Find(layout, key) => write!(f, "find{} {layout} {key}", layout.suffix()),
-            Self::FindIn(key, book) => {
-                write!(f, "find_in {key}")?;
-                book.iter().try_for_each(|byte| write!(f, " {byte}"))
-            }
+            Self::FindIn(key, book) => write!(f, "find_in {key}{}", listed(book)),
             Self::Nearest(layout, key, letter) => write!(f, "nearest {layout} {key} {letter}"),
             Self::Reach(layout, key, distance) => write!(f, "reach {layout} {key} {distance}"),
-            Self::Widen(strip) => {
-                f.write_str("widen")?;
-                strip.iter().try_for_each(|code| write!(f, " {code}"))
+            Self::Moved(retuning, letter, signs, stars) => {
+                write!(f, "moved {retuning} {letter} {signs} {stars}")
             }
-            Self::Narrow(strip) => {
-                f.write_str("narrow")?;
-                strip.iter().try_for_each(|code| write!(f, " {code}"))
+            Self::MoveTable(retuning) => write!(f, "move_table {retuning}"),
+            Self::LargestMove(retuning) => write!(f, "largest_move {retuning}"),
+            Self::ToChainOrder(layout, list) => {
+                write!(f, "to_chain_order {layout}{}", listed(list))
             }
+            Self::ToKeyOrder(layout, list) => write!(f, "to_key_order {layout}{}", listed(list)),
+            Self::Moves(layout) => write!(f, "moves {layout}"),
+            Self::GenesisMoves(pergen) => write!(f, "genesis_moves {pergen}"),
+            Self::NthMoves(pergen, place) => write!(f, "nth_moves {pergen} {place}"),
+            Self::WriteMoves(layout) => write!(f, "write_moves {layout}"),
+            Self::WalkMoves(pergen) => write!(f, "walk_moves {pergen}"),
+            Self::Widen(strip) => write!(f, "widen{}", listed(strip)),
+            Self::Narrow(strip) => write!(f, "narrow{}", listed(strip)),
             Self::Table(line) => write!(f, "table {line}"),
             Self::InRoom(room, question) => write!(f, "{room} {question}"),
             Self::Unreadable(line) => f.write_str(line),
         }
     }
+}
+
+/// Numbers with a space before each.
+fn listed<T: Display>(numbers: &[T]) -> String {
+    numbers.iter().map(|number| format!(" {number}")).collect()
 }

@@ -2,8 +2,6 @@
 //! original has no such calls: its names are searched for the letter's keys, and the reading
 //! of the sentence lists the keys in reach.
 
-use reading::chains;
-
 use crate::books::around;
 use crate::books::in_room;
 use crate::keys;
@@ -12,7 +10,9 @@ use crate::list::layout;
 use crate::questions::Layout;
 use crate::questions::Question;
 use crate::random::Random;
+use crate::starts::begun;
 use crate::starts::letters;
+use crate::starts::with_own_start;
 
 /// Of Meantone[7] with one cycle, with two, and with three, where a key is as near to D as to
 /// D**.
@@ -41,11 +41,6 @@ pub fn all() -> Vec<Question> {
     questions.extend(refused());
     questions.extend(of_large_layouts(&mut random));
     questions
-}
-
-fn with_own_start(layout: Layout) -> Layout {
-    let chain = chains::chain(layout.code).expect("a code of 0 to 5");
-    from(chain.start as u16, layout)
 }
 
 /// The nearest D from each key of the octave.
@@ -95,29 +90,19 @@ fn refused() -> Vec<Question> {
 
 /// Layouts with an octave of any size, from any letter.
 fn of_large_layouts(random: &mut Random) -> Vec<Question> {
-    let mut questions = Vec::new();
-    for code in 0..=5 {
-        for _ in 0..6 {
-            let start = random.up_to(letters(code) - 1);
-            let layout = from(start, keys::accepted(random, code));
-            let letter = random.up_to(letters(code) - 1);
-            questions.push(Question::Nearest(layout, keys::any_key(random), letter));
-            let distance = random.up_to(LONGEST / 2 - 1);
-            questions.push(Question::Reach(layout, keys::any_key(random), distance));
-        }
-    }
-    questions
+    keys::of_any_size(random, 6, begun, |random, layout| {
+        let letter = random.up_to(letters(layout.code) - 1);
+        let nearest = Question::Nearest(layout, keys::any_key(random), letter);
+        let distance = random.up_to(LONGEST / 2 - 1);
+        let reach = Question::Reach(layout, keys::any_key(random), distance);
+        vec![nearest, reach]
+    })
 }
 
 #[cfg(test)]
 mod tests {
     use super::*;
-    use crate::answers::answer;
-
-    fn answered(question: Question) -> (String, String) {
-        let answer = answer(&question).expect("no overflow");
-        (question.to_string(), answer)
-    }
+    use crate::answers::answered;
 
     #[test]
     fn the_nearest_d_and_what_is_in_reach() {

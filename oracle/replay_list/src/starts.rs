@@ -6,7 +6,6 @@ use reading::chains;
 use crate::books;
 use crate::keys;
 use crate::list::from;
-use crate::list::is_short_name;
 use crate::list::layout;
 use crate::questions::Layout;
 use crate::questions::OfLayout;
@@ -43,6 +42,12 @@ pub fn letters(code: u16) -> u16 {
     u16::try_from(chain.count()).expect("at most nine letters")
 }
 
+/// The layout with its chain's own start among its numbers.
+pub fn with_own_start(layout: Layout) -> Layout {
+    let chain = chains::chain(layout.code).expect("a code of 0 to 5");
+    from(chain.start as u16, layout)
+}
+
 /// All keys of the octave at once, some by themselves, and the book.
 fn from_letter(layout: Layout) -> Vec<Question> {
     let octave = i32::from(layout.octave);
@@ -62,35 +67,26 @@ fn refused(layout: Layout) -> Vec<Question> {
     [from_letter(layout), books::layout_in_no_room(layout)].concat()
 }
 
-/// Layouts with an octave of any size, from any letter.
 fn of_large_layouts(random: &mut Random) -> Vec<Question> {
-    let mut questions = Vec::new();
-    for code in 0..=5 {
-        for _ in 0..12 {
-            let start = random.up_to(letters(code) - 1);
-            let layout = from(start, keys::accepted(random, code));
-            let last = i32::from(layout.octave) - 1;
-            let some = [0, 1, last, -1, keys::any_key(random), keys::any_key(random)];
-            questions.extend(some.into_iter().flat_map(|key| keys::of_key(layout, key)));
-            questions.push(Question::OfLayout(OfLayout::Numbers, layout));
-        }
-    }
-    questions.retain(|question| match question {
-        Question::Name(layout, key) => is_short_name(*layout, *key),
-        _ => true,
-    });
-    questions
+    keys::of_any_size(random, 12, begun, |random, layout| {
+        let last = i32::from(layout.octave) - 1;
+        let some = [0, 1, last, -1, keys::any_key(random), keys::any_key(random)];
+        let asked = some.into_iter().flat_map(|key| keys::of_key(layout, key));
+        let numbers = Question::OfLayout(OfLayout::Numbers, layout);
+        asked.chain([numbers]).collect()
+    })
+}
+
+/// A layout of a chain with an octave of any size, from any letter.
+pub fn begun(random: &mut Random, code: u16) -> Layout {
+    let start = random.up_to(letters(code) - 1);
+    from(start, keys::accepted(random, code))
 }
 
 #[cfg(test)]
 mod tests {
     use super::*;
-    use crate::answers::answer;
-
-    fn answered(question: Question) -> (String, String) {
-        let answer = answer(&question).expect("no overflow");
-        (question.to_string(), answer)
-    }
+    use crate::answers::answered;
 
     #[test]
     fn the_twelve_from_c() {

@@ -330,6 +330,28 @@ pub fn accepted(least: u16, mut choose: impl FnMut() -> (u16, u16, u16)) -> (u16
     }
 }
 
+/// An accepted layout of any size, from a start at random.
+pub fn accepted_at_random(randoms: &mut Randoms) -> GivenLayout {
+    let (code, octave, tritave) = accepted(0, || random_layout(randoms));
+    let start = random_start(code, randoms);
+    GivenLayout::beginning(code, octave, tritave, start)
+}
+
+/// An octave with each tritave at a limit, for every chain, from a start at random.
+pub fn at_limits(
+    octave: u16,
+    randoms: &mut Randoms,
+    mut compare: impl FnMut(&GivenLayout, &mut Randoms),
+) {
+    for code in CODES {
+        for tritave in LIMITS {
+            let start = random_start(code, randoms);
+            let layout = GivenLayout::beginning(code, octave, tritave, start);
+            compare(&layout, randoms);
+        }
+    }
+}
+
 /// A layout so large that the original's product of inverse and key may overflow
 /// within the octave.
 fn large_layout(randoms: &mut Randoms) -> (u16, u16, u16) {

@@ -2,7 +2,6 @@
 
 use std::iter;
 
-use reading::Whole;
 use reading::fitted;
 use reading::names;
 use reading::names::Spelling;
@@ -10,9 +9,9 @@ use reading::names::Spelling;
 use super::Mode;
 use super::Task;
 use super::layouts::CODES;
-use super::layouts::accepted;
+use super::layouts::accepted_at_random;
+use super::layouts::at_limits;
 use super::layouts::random_layout;
-use super::layouts::random_start;
 use super::layouts::starts;
 use crate::randoms::KEY_LIMITS;
 use crate::randoms::LIMITS;
@@ -30,7 +29,9 @@ pub fn plan(tasks: &mut Vec<Task>, mode: Mode, seed: u64) {
     for (index, octave) in LIMITS.into_iter().enumerate() {
         let randoms = Randoms::new(seed, STREAM + index as u64);
         tasks.push(Box::new(move |tally| {
-            limits_of_octave(tally, octave, randoms.clone());
+            at_limits(octave, &mut randoms.clone(), |layout, randoms| {
+                compare_some(tally, layout, randoms);
+            });
         }));
     }
     for stream in 0..mode.pick(32, 256) {
@@ -122,23 +123,10 @@ fn distances(octave: u16) -> [u16; 7] {
     ]
 }
 
-/// An octave with each tritave at a limit, for every chain.
-fn limits_of_octave(tally: &mut Tally, octave: u16, mut randoms: Randoms) {
-    for code in CODES {
-        for tritave in LIMITS {
-            let start = random_start(code, &mut randoms);
-            let layout = GivenLayout::beginning(code, octave, tritave, start);
-            compare_some(tally, &layout, &mut randoms);
-        }
-    }
-}
-
 /// Accepted layouts of any size, and some that are not.
 fn at_random(tally: &mut Tally, mut randoms: Randoms) {
     for _ in 0..4 {
-        let (code, octave, tritave) = accepted(0, || random_layout(&mut randoms));
-        let start = random_start(code, &mut randoms);
-        let layout = GivenLayout::beginning(code, octave, tritave, start);
+        let layout = accepted_at_random(&mut randoms);
         compare_some(tally, &layout, &mut randoms);
     }
     for _ in 0..100 {
@@ -187,6 +175,7 @@ fn opposite_keys(layout: &GivenLayout) -> Vec<i32> {
 
 #[cfg(test)]
 mod tests {
+    use reading::Whole;
     use reading::reach;
 
     use super::*;

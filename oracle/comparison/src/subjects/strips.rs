@@ -3,7 +3,9 @@
 
 use reading::Outcome;
 use reading::codes;
+use vetchnoon::Refused;
 
+use crate::lending::Element;
 use crate::question::Call;
 use crate::question::Question;
 use crate::tally::Original;
@@ -36,31 +38,39 @@ pub fn narrow(tally: &mut Tally, strip: &[u16]) {
 }
 
 pub fn widen_to(tally: &mut Tally, strip: &[u8], expected: Expected<u16>) {
-    let arguments: Vec<i64> = strip.iter().map(|code| (*code).into()).collect();
-    let question = Question {
-        call: Call::WidenStrip,
-        arguments: &arguments,
-    };
-    tally.compare_filling_in_room(
-        question,
-        strip.len(),
-        expected.reading,
-        expected.original,
-        |out| vetchnoon::widen_strip(strip, out),
+    convert_to(
+        tally,
+        Call::WidenStrip,
+        vetchnoon::widen_strip,
+        strip,
+        expected,
     );
 }
 
 pub fn narrow_to(tally: &mut Tally, strip: &[u16], expected: Expected<u8>) {
+    convert_to(
+        tally,
+        Call::NarrowStrip,
+        vetchnoon::narrow_strip,
+        strip,
+        expected,
+    );
+}
+
+/// A conversion either way. It writes as many codes as it reads.
+fn convert_to<C: Copy + Into<i64>, T: Element>(
+    tally: &mut Tally,
+    call: Call,
+    library: impl Fn(&[C], &mut [T]) -> Result<usize, Refused>,
+    strip: &[C],
+    expected: Expected<T>,
+) {
     let arguments: Vec<i64> = strip.iter().map(|code| (*code).into()).collect();
     let question = Question {
-        call: Call::NarrowStrip,
+        call,
         arguments: &arguments,
     };
-    tally.compare_filling_in_room(
-        question,
-        strip.len(),
-        expected.reading,
-        expected.original,
-        |out| vetchnoon::narrow_strip(strip, out),
-    );
+    let Expected { reading, original } = expected;
+    let filling = |out: &mut [T]| library(strip, out);
+    tally.compare_filling_in_room(question, strip.len(), reading, original, None, filling);
 }

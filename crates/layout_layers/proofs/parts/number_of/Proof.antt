@@ -46,7 +46,7 @@ layer-by-requires c κs =
     let turn = start .args .entry / chain .«num_cycles» in (
       start .pre .0,
       ap (λ (k : ℕ). k * turn % chain .«reduced_period») (start .pre .1),
-      omega (arith, div-le-self (start .args .entry) (chain .«num_cycles»), start .pre .2),
+      start .pre .2,
     )
 
 mul-result : tie.Need-mul-result

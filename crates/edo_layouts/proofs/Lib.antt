@@ -1,0 +1,4 @@
+pub mod Serving
+pub mod Listing
+pub mod Choosing
+pub mod Examples

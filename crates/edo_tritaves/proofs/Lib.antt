@@ -1,0 +1,4 @@
+pub mod TableRule
+pub mod Choosing
+pub mod Meeting
+pub mod Examples

@@ -1,0 +1,4 @@
+pub mod Tritaves
+pub mod Parts
+pub mod Theorems
+pub mod Examples

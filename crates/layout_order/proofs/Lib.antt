@@ -1,0 +1,5 @@
+pub mod Places
+pub mod Placing
+pub mod Carrying
+pub mod Ordering
+pub mod Examples

@@ -1,0 +1,5 @@
+pub mod Retunings
+pub mod Answers
+pub mod Parts
+pub mod Theorems
+pub mod Examples

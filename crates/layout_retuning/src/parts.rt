@@ -1,0 +1,198 @@
+// Both layouts of a retuning, and the moves between them: parts, and no entry points. Callers have asked the questions that a `requires`
+// names.
+use crate::Retuning;
+use answer::CountAnswer;
+use answer::NumberAnswer;
+use answer::Refusal;
+use layout::IsomorphicLayout;
+use layout::parts::FoundAnswer;
+use pergen::AccidentalsFormat;
+use pergen::PerGen;
+use pergen::Signs;
+use pergen::Spelling;
+ghost use mathlib.Core.Path.{_≡_};
+ghost use Prim.Native.Nat.{_*_, _/_, _%_, _<_, _≤_, max};
+ghost use lib.ListN.{length};
+ghost use Rattle.answer.specs.Lent.{heldIn, Filled};
+ghost use Rattle.answer.specs.Refusals.{numberOutcome, countOutcome};
+ghost use Rattle.text.specs.Writing.{Wrote};
+ghost use Rattle.layout_retuning.specs.Retunings.{largest, tableSpelling};
+ghost use Rattle.layout_retuning.specs.Parts.{
+  layoutAt,
+  tuningsOutcome,
+  getTunings,
+  Tuned,
+  stepsBy,
+  movedBy,
+  tableBy,
+  countOf,
+};
+
+// What both layouts' questions find: the octave, the number of letters and the start, which are the same in both, and the two generators.
+pub(crate) struct Tunings {
+    pub octave: u16,
+    pub num_letters: u16,
+    pub start: u16,
+    pub first: u16,
+    pub second: u16,
+}
+
+pub(crate) enum TuningsAnswer {
+    Given(Tunings),
+    Refused(Refusal),
+}
+
+// The layout with this tritave.
+fn layout_at(retuning: Retuning, tritave: u16) -> IsomorphicLayout
+    ensures { λ r. ⌜ r ≡ layoutAt retuning tritave ⌝ }
+{
+    IsomorphicLayout {
+        genchain: retuning.genchain,
+        octave: retuning.octave,
+        tritave,
+        start: retuning.start,
+    }
+}
+
+// Questions 1 to 4 and 18 of the first layout, then those of the second, of which only 3 and 4 may have the answer no.
+pub(crate) fn ask(retuning: Retuning) -> TuningsAnswer
+    ensures { λ r. ⌜ tuningsOutcome r ≡ getTunings retuning ⌝ }
+{
+    match layout::parts::ask(layout_at(retuning, retuning.from_tritave)) {
+        FoundAnswer::Refused(q) => TuningsAnswer::Refused(q),
+        FoundAnswer::Given(one) => {
+            match layout::parts::ask(layout_at(retuning, retuning.to_tritave)) {
+                FoundAnswer::Refused(q) => TuningsAnswer::Refused(q),
+                FoundAnswer::Given(other) => TuningsAnswer::Given(Tunings {
+                    octave: one.octave,
+                    num_letters: one.num_letters,
+                    start: one.start,
+                    first: one.generator,
+                    second: other.generator,
+                }),
+            }
+        }
+    }
+}
+
+// The distance of the keys that a spelling sounds in both tunings: its place on the chain is the same, the generator another.
+fn steps(tunings: Tunings, spelling: Spelling) -> u16
+    requires { ⌜ 0 < tunings .octave ⌝ }
+    ensures { λ r. ⌜ r ≡ stepsBy tunings spelling ⌝ }
+{
+    let octave = tunings.octave;
+    let format = AccidentalsFormat {
+        num_symbols: tunings.num_letters,
+        genchain_origin: tunings.start,
+    };
+    let place = pergen_sounding::parts::sides_of(format, spelling);
+    let stars = spelling.stars;
+    let one = PerGen {
+        period: octave,
+        generator: tunings.first,
+    };
+    let other = PerGen {
+        period: octave,
+        generator: tunings.second,
+    };
+    layout_reach::parts::distance(
+        octave,
+        pergen_sounding::parts::sounded(one, place, stars),
+        pergen_sounding::parts::sounded(other, place, stars),
+    )
+}
+
+// The move of a spelling (16, and 21 of both tunings).
+pub(crate) fn moved_in(tunings: Tunings, spelling: Spelling) -> NumberAnswer
+    requires { ⌜ Tuned tunings ⌝ }
+    ensures { λ r. ⌜ numberOutcome r ≡ movedBy tunings spelling ⌝ }
+{
+    let stars = spelling.stars;
+    if tunings.num_letters <= spelling.index {
+        return NumberAnswer::Refused(Refusal::Letter);
+    }
+    if math::gcd_u16(tunings.octave, tunings.first) <= stars {
+        return NumberAnswer::Refused(Refusal::Stars);
+    }
+    if math::gcd_u16(tunings.octave, tunings.second) <= stars {
+        return NumberAnswer::Refused(Refusal::Stars);
+    }
+    NumberAnswer::Given(steps(tunings, spelling))
+}
+
+// How many moves the table has: seventeen for each letter.
+pub(crate) fn entries(tunings: Tunings) -> u16
+    requires { ⌜ Tuned tunings ⌝ }
+    ensures { λ r. ⌜ r ≡ countOf tunings ⌝ }
+{
+    tunings.num_letters * 17
+}
+
+// The spelling of an entry: of each letter's seventeen the first eight have flats, the nearest to none last.
+fn spelling_at(entry: u16) -> Spelling
+    ensures { λ r. ⌜ r ≡ tableSpelling (entry / 17) (entry % 17) ⌝ }
+{
+    let letter = entry / 17;
+    let column = entry % 17;
+    if column < 8 {
+        return Spelling {
+            index: letter,
+            signs: Signs::Flats((8 - column) as u32),
+            stars: 0,
+        };
+    }
+    Spelling {
+        index: letter,
+        signs: Signs::Sharps((column - 8) as u32),
+        stars: 0,
+    }
+}
+
+// So many entries of the table at the front of a slice that holds them.
+fn put_moves(out: &mut [u16], tunings: Tunings, count: u16)
+    requires { ⌜ (0 < tunings .octave) × (count ≤ length (now out)) ⌝ }
+    ensures { λ r. ⌜ Wrote (now (out .entry)) 0 (tableBy tunings count) (now (out .exit)) count ⌝ }
+{
+    let mut entry: u16 = 0;
+    while entry < count {
+        out[entry as usize] = steps(tunings, spelling_at(entry));
+        entry += 1;
+    }
+}
+
+// The table at the front of a slice that holds it (10).
+pub(crate) fn write_table(tunings: Tunings, out: &mut [u16]) -> CountAnswer
+    requires { ⌜ Tuned tunings ⌝ }
+    ensures { λ r. ⌜ Filled (heldIn (length (now (out .entry))) (tableBy tunings (countOf tunings))) (countOutcome r) (now (out .entry)) (now (out .exit)) ⌝ }
+{
+    let count = entries(tunings);
+    if out.len() < count as usize {
+        return CountAnswer::Refused(Refusal::Room);
+    }
+    put_moves(out, tunings, count);
+    CountAnswer::Given(count as usize)
+}
+
+fn larger(a: u16, b: u16) -> u16
+    ensures { λ r. ⌜ r ≡ max a b ⌝ }
+{
+    if a < b {
+        return b;
+    }
+    a
+}
+
+// The largest move of the table.
+pub(crate) fn largest_in(tunings: Tunings) -> u16
+    requires { ⌜ Tuned tunings ⌝ }
+    ensures { λ r. ⌜ r ≡ largest (tableBy tunings (countOf tunings)) ⌝ }
+{
+    let count = entries(tunings);
+    let mut most: u16 = 0;
+    let mut entry: u16 = 0;
+    while entry < count {
+        most = larger(most, steps(tunings, spelling_at(entry)));
+        entry += 1;
+    }
+    most
+}

@@ -1,0 +1,4 @@
+pub mod OneLine
+pub mod Keeping
+pub mod Enough
+pub mod Going

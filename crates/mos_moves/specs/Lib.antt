@@ -1,0 +1,5 @@
+pub mod Moves
+pub mod Answers
+pub mod Parts
+pub mod Theorems
+pub mod Examples
