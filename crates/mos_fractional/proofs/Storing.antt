@@ -124,7 +124,7 @@ module _ (g : Float) (room : ℕ) where
         → Planned g room (record { answer = Count.Refused Room; first = first; count = 0 })
     planned-short count f l =
         let short : heldIn room (childrenFrom g) ≡ refused 10 =
-            simp (lt-leb (length (childrenFrom g)) room (omega (arith, f ∙ ap (λ (m : FractionalMos). length (children m)) is-first, l))) in
+        simp (lt-leb (length (childrenFrom g)) room (omega (arith, f ∙ ap (λ (m : FractionalMos). length (children m)) is-first, l))) in
         let o : listingOutcome g room ≡ refused 10 = simp (told-finite g e) short in
         record {
           answer = sym (ap counted o);

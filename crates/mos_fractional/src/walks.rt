@@ -1,11 +1,11 @@
 // The walk of children as loops: one pattern at a time, whatever the generator, in a fixed stack.
 //
 // Parts, and no entry points: those with a `requires` ask for counts above 0, without which a walk might not end.
-use answer::CountAnswer;
-use answer::Refusal;
 use crate::ChildAnswer;
 use crate::FractionalAnswer;
 use crate::FractionalMos;
+use answer::CountAnswer;
+use answer::Refusal;
 ghost use mathlib.Core.Path.{_≡_};
 ghost use lib.ListN.{length, getElem?};
 ghost use Rattle.mos_fractional.specs.Walk.{children};

@@ -288,6 +288,7 @@ module _ {M : Type 1} (𝓤 : URA M) (H : Heap 𝓤) (A : Atoms 𝓤) (W : Given
   -- the MIR up to the loop: the call, and the borrow is opened
   walk : (𝓣 : Tables 𝓤 H) → FmC 𝓤 H (W .laws) (𝓣 .C) → Triple 𝓤 (𝓣 .C #next) (Next 𝓤 H A at-mem run) → Triple 𝓤 (𝓣 .C #plan) (Plan 𝓤 H A at-mem run)
       → ent 𝓤 (onEntry 𝓤 H A f.signature (κ, tt) (q, tt) x at) (WpFn 𝓤 H (𝓣 .C) (𝓣 .Λ) code.function (vfloat binary64 gen ∷ sliceVal (b, o) n ∷ []) Post)
+  unfolding begins
   walk 𝓣 fm known-next known-plan =
       qed W ((‵ (flft κ q) ⊛ ‵ ftrue) ∷ ‵ (owns (f64 ∷ MutSlice (named 0) κ T.the-row ∷ []) x at) ∷ []) ∵
       split ! $ move ! (2 ∷ []) $ fsplit ! $ drop ! $ fsplit ! $ fsplit ! $ drop ! $ fsplit ! $ keep ! (0 ∷ 1 ∷ 3 ∷ []) $

@@ -51,7 +51,7 @@ enum-told c = search needs
 returns : tie.Need-returns Inv-loop μ-loop
 returns c =
     let at = c .before .before .before .loop in
-    omega (arith, at .inv .1, length-end (at .here) (at .inv .0) (sym (c .before .child .ensures) ∙ ap childIn (c .enum-told .given .1)))
+    omega (arith, at .inv .1, length-end (at .here) (at .inv .0) (sym (c .before .before .child .ensures) ∙ ap childIn (c .enum-told .given .1)))
 
 pub count-from-spec : {M : Type 1} → statement M
 count-from-spec =
