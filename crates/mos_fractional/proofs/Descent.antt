@@ -11,7 +11,7 @@ use Rattle.answer.specs.Choice.{pick}
 use Rattle.answer.specs.Outcome.{Outcome, given, refused, ask}
 use Rattle.answer.proofs.Asked.{given-same}
 use Rattle.mos_fractional.specs.declared.FractionalMos.{FractionalMos}
-use Rattle.mos_fractional.specs.Fractional.{fractional, primaries, secondaries, primary, secondary, countOf, nought, one, isFinite, firstStep, genesis, childOf}
+use Rattle.mos_fractional.specs.Fractional.{fractional, primaries, secondaries, primary, secondary, countOf, nought, one, isFinite, firstStep, genesis, offPrimary, offSecondary, childOf}
 use Rattle.mos_fractional.specs.Answers.{ofGenerator, genesisOutcome}
 
 -- ---- the genesis
@@ -72,7 +72,8 @@ same-refusal nan {n = n} rest e = let z : n ≡ 22 = cc in ap refused z
 same-refusal (inf s) {n = n} rest e = let z : n ≡ 22 = cc in ap refused z
 same-refusal (fin s m x) rest e = absurd (let z : _≡_ {A = ℕ} 0 1 = cc in omega arith)
 
-pub same-given : {A : Type 0} (g : Float) {m : FractionalMos} (rest : Outcome A) → given m ≡ genesisOutcome g → rest ≡ ask 22 (isFinite g) rest
+pub same-given : {A : Type 0} (g : Float) {m : FractionalMos} (rest : Outcome A) → given m ≡ genesisOutcome g
+    → rest ≡ ask 22 (isFinite g) rest
 same-given g rest e = sym (simp (told-finite g e))
 
 pub fact-told : {A : Type 0} (g : Float) {m : FractionalMos} (fact : FractionalMos → A) {a : A} → given m ≡ genesisOutcome g → a ≡ fact m
@@ -97,14 +98,12 @@ module _ (m : FractionalMos) where
       full k = simp (h, i, lt-ltb _ _ k)
 
       module _ (k : countOf m ≤ 65535) where
-        pub longer-primary : lt (secondary m) (primary m) ≡ true
-            → some (fractional (primaries m) (countOf m) (sub binary64 (primary m) (secondary m)) (secondary m)) ≡ childOf m
+        pub longer-primary : lt (secondary m) (primary m) ≡ true → some (offPrimary m) ≡ childOf m
         unfolding childOf
         longer-primary l = simp (h, i, le-ltb _ _ k, l)
 
         module _ (l : lt (secondary m) (primary m) ≡ false) where
-          pub longer-secondary : lt (primary m) (secondary m) ≡ true
-              → some (fractional (countOf m) (secondaries m) (primary m) (sub binary64 (secondary m) (primary m))) ≡ childOf m
+          pub longer-secondary : lt (primary m) (secondary m) ≡ true → some (offSecondary m) ≡ childOf m
           unfolding childOf
           longer-secondary j = simp (h, i, le-ltb _ _ k, l, j)
 
@@ -115,15 +114,17 @@ module _ (m : FractionalMos) where
 -- the ways to a child
 pub data Child (m : FractionalMos) : Option FractionalMos → Type 0 where
   no-child : Child m none
-  off-primary : countOf m ≤ 65535 → Child m (some (fractional (primaries m) (countOf m) (sub binary64 (primary m) (secondary m)) (secondary m)))
-  off-secondary : countOf m ≤ 65535 → Child m (some (fractional (countOf m) (secondaries m) (primary m) (sub binary64 (secondary m) (primary m))))
+  off-primary : countOf m ≤ 65535 → Child m (some (offPrimary m))
+  off-secondary : countOf m ≤ 65535 → Child m (some (offSecondary m))
 
 pub child-view : (m : FractionalMos) → Child m (childOf m)
 unfolding childOf
-child-view m = go (eq (primary m) nought) (eq (secondary m) nought) (ltb 65535 (countOf m)) refl (lt (secondary m) (primary m)) (lt (primary m) (secondary m))
+child-view m =
+    go (eq (primary m) nought) (eq (secondary m) nought) (ltb 65535 (countOf m)) refl (lt (secondary m) (primary m))
+    (lt (primary m) (secondary m))
   where
     go : (t u v : Bool) → ltb 65535 (countOf m) ≡ v → (w y : Bool)
-        → Child m (pick t none (pick u none (pick v none (pick w (some (fractional (primaries m) (countOf m) (sub binary64 (primary m) (secondary m)) (secondary m))) (pick y (some (fractional (countOf m) (secondaries m) (primary m) (sub binary64 (secondary m) (primary m)))) none)))))
+        → Child m (pick t none (pick u none (pick v none (pick w (some (offPrimary m)) (pick y (some (offSecondary m)) none)))))
     go true u v e w y = no-child
     go false true v e w y = no-child
     go false false true e w y = no-child

@@ -32,7 +32,8 @@ use Rattle.mos_fractional.proofs.Rounding.{round-parts, parts-of, posit
 
 -- ---- zeros
 none-left : (m : ℕ) (e : ℤ) (k : ℕ) → m * up e * 65536 ≡ k * down e → k ≡ 0 → m * up e ≡ 0
-none-left m e k h z = eq-of-mul-eq-mul-right 65536 (lit< tt) (m * up e) 0 (h ∙ ap (λ (x : ℕ). x * down e) z ∙ zero-mul (down e) ∙ sym (zero-mul 65536))
+none-left m e k h z =
+    eq-of-mul-eq-mul-right 65536 (lit< tt) (m * up e) 0 (h ∙ ap (λ (x : ℕ). x * down e) z ∙ zero-mul (down e) ∙ sym (zero-mul 65536))
 
 some-left : (m : ℕ) (e : ℤ) (k : ℕ) → m * up e * 65536 ≡ k * down e → 0 < k → 0 < m * up e
 some-left m e k h z = first-pos (m * up e) 65536 (subst (λ (x : ℕ). 0 < x) (sym h) (mul-pos z (down-pos e)))
@@ -49,9 +50,11 @@ pub eq-parts : (x : Float) (k : ℕ) → Parts x k → eq x nought ≡ eqb k 0
 unfolding eq
 eq-parts nan k h = absurd h
 eq-parts (inf s) k h = absurd h
-eq-parts (fin s m e) zero h = level-zero s (m * up e * 1) (0 * 1 * down e) (mul-one (m * up e) ∙ none-left m e 0 (h .0) refl) (zero-mul (down e))
+eq-parts (fin s m e) zero h =
+    level-zero s (m * up e * 1) (0 * 1 * down e) (mul-one (m * up e) ∙ none-left m e 0 (h .0) refl) (zero-mul (down e))
 eq-parts (fin s m e) (suc k) h =
-    level-some s (m * up e * 1) (0 * 1 * down e) (lt-of-lt-of-le (some-left m e (suc k) (h .0) (omega arith)) (le-of-eq (sym (mul-one (m * up e))))) (zero-mul (down e))
+    level-some s (m * up e * 1) (0 * 1 * down e)
+    (lt-of-lt-of-le (some-left m e (suc k) (h .0) (omega arith)) (le-of-eq (sym (mul-one (m * up e))))) (zero-mul (down e))
     ∙ sym (eqb·suc-zero k)
 
 below-none : (s : Bool) (a b : ℕ) → b ≡ 0 → (s ≡ true → a ≡ 0) → below s a false b ≡ false
@@ -63,7 +66,8 @@ pub not-below : (x : Float) (k : ℕ) → Parts x k → lt x nought ≡ false
 unfolding lt
 not-below nan k h = absurd h
 not-below (inf s) k h = absurd h
-not-below (fin s m e) k h = below-none s (m * up e * 1) (0 * 1 * down e) (zero-mul (down e)) (λ q. mul-one (m * up e) ∙ none-left m e k (h .0) (h .1 q))
+not-below (fin s m e) k h =
+    below-none s (m * up e * 1) (0 * 1 * down e) (zero-mul (down e)) (λ q. mul-one (m * up e) ∙ none-left m e k (h .0) (h .1 q))
 
 -- ---- the genesis
 sign-of : Float → Bool
@@ -93,13 +97,15 @@ rest-parts : (x : Float) (k : ℕ) → Parts x k → k < 65536 → Parts (sub bi
 rest-parts nan k h l = absurd h
 rest-parts (inf s) k h l = absurd h
 rest-parts (fin false m e) k h l =
-    parts-of (sub binary64 one (fin false m e)) false (65536 - k) (sub-parts one (fin false m e) 65536 k (refl, refl) (refl, h .0) (le-of-lt l) (le-of-eq refl))
+    parts-of (sub binary64 one (fin false m e)) false (65536 - k)
+    (sub-parts one (fin false m e) 65536 k (refl, refl) (refl, h .0) (le-of-lt l) (le-of-eq refl))
     (λ q. absurd (let z : _≡_ {A = ℕ} 0 1 = cc in omega arith))
 rest-parts (fin true m e) k h l =
     let z : k ≡ 0 = h .1 refl in
     subst (λ (y : Float). Parts y (65536 - k)) (sym (from-one m e (none-left m e k (h .0) z)))
     (subst (λ (n : ℕ). Parts (round binary64 false (down e) (down e)) n) (let w : 65536 ≡ 65536 - k = omega arith in w)
-    (parts-of (round binary64 false (down e) (down e)) false 65536 (round-parts false (down e) (down e) 65536 (down-pos e) (le-of-eq refl) (mul-comm (down e) 65536))
+    (parts-of (round binary64 false (down e) (down e)) false 65536
+    (round-parts false (down e) (down e) 65536 (down-pos e) (le-of-eq refl) (mul-comm (down e) 65536))
     (λ q. absurd (let y : _≡_ {A = ℕ} 0 1 = cc in omega arith))))
 
 pub genesis-same : (g : Float) (k : ℕ) → Parts g k → k < 65536 → Same (genesis g) (whole.genesis 65536 k)
@@ -121,7 +127,8 @@ lt-of-ne : (a b : ℕ) → a ≤ b → (a ≡ b → ⊥) → a < b
 lt-of-ne a b h d = lt-of-le-ne h d
 
 -- no count of a pattern of this size passes 65,535: where the counts sum to more, both steps are 1
-not-full : (m : Mos) → whole.sizeOf m ≡ 65536 → 0 < whole.primaries m → 0 < whole.secondaries m → 0 < whole.primary m → 0 < whole.secondary m → (whole.primary m ≡ whole.secondary m → ⊥) → whole.primaries m + whole.secondaries m ≤ 65535
+not-full : (m : Mos) → whole.sizeOf m ≡ 65536 → 0 < whole.primaries m → 0 < whole.secondaries m → 0 < whole.primary m
+    → 0 < whole.secondary m → (whole.primary m ≡ whole.secondary m → ⊥) → whole.primaries m + whole.secondaries m ≤ 65535
 unfolding whole.sizeOf
 not-full m z p s a b d = go (ltb 65535 (whole.primaries m + whole.secondaries m)) refl
   where
@@ -132,13 +139,18 @@ not-full m z p s a b d = go (ltb 65535 (whole.primaries m + whole.secondaries m)
         by : (t : Bool) → ltb (whole.primary m) (whole.secondary m) ≡ t → whole.primaries m + whole.secondaries m ≤ 65535
         by true w =
             let two : 2 ≤ whole.secondary m = omega (arith, ltb-true (whole.primary m) (whole.secondary m) w) in
-            absurd (omega (arith, ltb-true 65535 (whole.primaries m + whole.secondaries m) q, le-mul-of-pos-right (whole.primaries m) a, mul-le-mul-left (whole.secondaries m) two))
+            absurd
+            (omega
+            (arith, ltb-true 65535 (whole.primaries m + whole.secondaries m) q, le-mul-of-pos-right (whole.primaries m) a, mul-le-mul-left (whole.secondaries m) two))
         by false w =
             let two : 2 ≤ whole.primary m = lt-of-le-of-lt b (lt-of-ne (whole.secondary m) (whole.primary m) (ltb-false (whole.primary m) (whole.secondary m) w) (λ y. d (sym y))) in
-            absurd (omega (arith, ltb-true 65535 (whole.primaries m + whole.secondaries m) q, le-mul-of-pos-right (whole.secondaries m) b, mul-le-mul-left (whole.primaries m) two))
+            absurd
+            (omega
+            (arith, ltb-true 65535 (whole.primaries m + whole.secondaries m) q, le-mul-of-pos-right (whole.secondaries m) b, mul-le-mul-left (whole.primaries m) two))
 
 -- a step of a pattern of this size is at most 65,536
-step-bound : (m : Mos) → whole.sizeOf m ≡ 65536 → 0 < whole.primaries m → 0 < whole.secondaries m → (whole.primary m ≤ 65536) × (whole.secondary m ≤ 65536)
+step-bound : (m : Mos) → whole.sizeOf m ≡ 65536 → 0 < whole.primaries m → 0 < whole.secondaries m
+    → (whole.primary m ≤ 65536) × (whole.secondary m ≤ 65536)
 unfolding whole.sizeOf
 step-bound m z p s =
     let a : whole.primary m ≤ whole.primaries m * whole.primary m = le-trans (le-mul-of-pos-right (whole.primary m) p) (le-of-eq (mul-comm (whole.primary m) (whole.primaries m))) in
@@ -189,7 +201,8 @@ module _ (x : FractionalMos) (m : Mos) (along : Along x m) where
       let A = positive-primary a in
       let B = positive-secondary b in
       subst (λ (o : Option FractionalMos). SameChild o (some (whole.mos (whole.primaries m) (whole.countOf m) (p - s) s)))
-      (longer-primary x (some-primary a) (some-secondary b) (not-cut a b (λ q. omega arith)) (lt-parts (secondary x) (primary x) s p B A ∙ lt-ltb s p l))
+      (longer-primary x (some-primary a) (some-secondary b) (not-cut a b (λ q. omega arith))
+      (lt-parts (secondary x) (primary x) s p B A ∙ lt-ltb s p l))
       (record {
         first-count = along .same .first-count;
         second-count = omega (arith, along .same .first-count, along .same .second-count);
@@ -220,7 +233,8 @@ module _ (x : FractionalMos) (m : Mos) (along : Along x m) where
     where
       go : (u : Bool) → eqb p 0 ≡ u → (v : Bool) → eqb s 0 ≡ v → none ≡ childOf x
       go true e v f = no-primary x (eq-parts (primary x) p (along .same .first-step) ∙ e)
-      go false e true f = no-secondary x (eq-parts (primary x) p (along .same .first-step) ∙ e) (eq-parts (secondary x) s (along .same .second-step) ∙ f)
+      go false e true f =
+          no-secondary x (eq-parts (primary x) p (along .same .first-step) ∙ e) (eq-parts (secondary x) s (along .same .second-step) ∙ f)
       go false e false f = equal (pos-of-ne-zero (eqb-false _ _ e)) (pos-of-ne-zero (eqb-false _ _ f))
         where
           equal : 0 < p → 0 < s → none ≡ childOf x
@@ -243,13 +257,15 @@ SameWalk (x ∷ xs) [] = ⊥
 SameWalk (x ∷ xs) (m ∷ ms) = Same x m × SameWalk xs ms
 
 same-rest : (x : FractionalMos) (m : Mos) → Along x m → (o : Option FractionalMos) (w : Option Mos) → childOf x ≡ o → whole.childOf m ≡ w
-    → SameChild o w → ((y : FractionalMos) (c : Mos) → Along y c → whole.stepsOf c < whole.stepsOf m → SameWalk (children y) (whole-walk.children c))
+    → SameChild o w
+    → ((y : FractionalMos) (c : Mos) → Along y c → whole.stepsOf c < whole.stepsOf m → SameWalk (children y) (whole-walk.children c))
     → SameWalk (onward o children) (whole-walk.onward w whole-walk.children)
 same-rest x m along none none e f h ih = tt
 same-rest x m along none (some c) e f h ih = absurd h
 same-rest x m along (some y) none e f h ih = absurd h
 same-rest x m along (some y) (some c) e f h ih =
-    ih y c (record { same = h; size = whole-child.child-keeps-size (whole-child.child-at f) ∙ along .size; growing = growing-child x y (along .growing) e })
+    ih y c
+    (record { same = h; size = whole-child.child-keeps-size (whole-child.child-at f) ∙ along .size; growing = growing-child x y (along .growing) e })
     (whole-child.child-falls (whole-child.child-at f))
 
 -- by the fall of the whole-number steps
@@ -271,7 +287,8 @@ genesis-size k = omega arith
 
 walk-same : (g : Float) (k : ℕ) → Parts g k → k < 65536 → SameWalk (childrenFrom g) (whole-walk.children (whole.genesis 65536 k))
 walk-same g k h l =
-    walk-within _ (genesis g) (whole.genesis 65536 k) (record { same = genesis-same g k h l; size = genesis-size k; growing = growing-genesis g }) (le-refl _)
+    walk-within _ (genesis g) (whole.genesis 65536 k)
+    (record { same = genesis-same g k h l; size = genesis-size k; growing = growing-genesis g }) (le-refl _)
 
 -- ---- what it says of the patterns
 length-same : (xs : List FractionalMos) (ms : List Mos) → SameWalk xs ms → length xs ≡ length ms
@@ -280,7 +297,8 @@ length-same [] (m ∷ ms) h = absurd h
 length-same (x ∷ xs) [] h = absurd h
 length-same (x ∷ xs) (m ∷ ms) h = ap suc (length-same xs ms (h .1))
 
-at-same : (xs : List FractionalMos) (ms : List Mos) → SameWalk xs ms → (j : ℕ) (x : FractionalMos) (m : Mos) → getElem? xs j ≡ some x → getElem? ms j ≡ some m → Same x m
+at-same : (xs : List FractionalMos) (ms : List Mos) → SameWalk xs ms → (j : ℕ) (x : FractionalMos) (m : Mos) → getElem? xs j ≡ some x
+    → getElem? ms j ≡ some m → Same x m
 at-same [] ms h j x m e f = absurd (let z : _≡_ {A = ℕ} 0 1 = cc in omega arith)
 at-same (y ∷ xs) [] h j x m e f = absurd h
 at-same (y ∷ xs) (c ∷ ms) h zero x m e f =

@@ -30,7 +30,9 @@ unfolding ofInt
 of-int k l = round-whole binary64 false k (le-trans l (lit≤ tt))
 
 pub generator-of : (k : ℕ) → k < 65536 → Parts (div binary64 (ofInt binary64 (pos k)) scale) k
-generator-of k l = parts-of (div binary64 (ofInt binary64 (pos k)) scale) false k (div-parts (ofInt binary64 (pos k)) k (of-int k (le-of-lt l)) (le-of-lt l)) (λ q. absurd (let z : _≡_ {A = ℕ} 0 1 = cc in omega arith))
+generator-of k l =
+    parts-of (div binary64 (ofInt binary64 (pos k)) scale) false k
+    (div-parts (ofInt binary64 (pos k)) k (of-int k (le-of-lt l)) (le-of-lt l)) (λ q. absurd (let z : _≡_ {A = ℕ} 0 1 = cc in omega arith))
 
 pub times : (x : Float) (k : ℕ) → HasValue x false k 65536 → mul binary64 x scale ≡ ofInt binary64 (pos k)
 unfolding mul ofInt
@@ -38,5 +40,6 @@ times nan k h = absurd h
 times (inf s) k h = absurd h
 times (fin true m e) k h = absurd (let z : _≡_ {A = ℕ} 0 1 = cc (h .0) in omega arith)
 times (fin false m e) k h =
-    round-same binary64 false (m * up e * (1 * 65536)) (down e * 1) k 1 (subst (λ (n : ℕ). 0 < n) (sym (mul-one (down e))) (down-pos e)) (lit< tt)
+    round-same binary64 false (m * up e * (1 * 65536)) (down e * 1) k 1 (subst (λ (n : ℕ). 0 < n) (sym (mul-one (down e))) (down-pos e))
+    (lit< tt)
     (mul-one (m * up e * 65536) ∙ h .1 ∙ ap (λ (n : ℕ). k * n) (sym (mul-one (down e))))

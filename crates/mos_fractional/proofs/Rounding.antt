@@ -54,16 +54,21 @@ module _ (m : ℕ) (e : ℤ) (n : ℕ) (d : ℤ) (a b : ℕ) (h : m * up e * 655
   left = mul-right-comm (m * up e) (down d) 65536 ∙ ap (λ (x : ℕ). x * down d) h ∙ mul-assoc a (down e) (down d)
 
   right : n * up d * down e * 65536 ≡ b * (down e * down d)
-  right = mul-right-comm (n * up d) (down e) 65536 ∙ ap (λ (x : ℕ). x * down e) i ∙ mul-assoc b (down d) (down e) ∙ ap (λ (x : ℕ). b * x) (mul-comm (down d) (down e))
+  right =
+      mul-right-comm (n * up d) (down e) 65536 ∙ ap (λ (x : ℕ). x * down e) i ∙ mul-assoc b (down d) (down e)
+      ∙ ap (λ (x : ℕ). b * x) (mul-comm (down d) (down e))
 
   common : 0 < down e * down d
   common = mul-pos (down-pos e) (down-pos d)
 
   keeps-le : a ≤ b → m * up e * down d ≤ n * up d * down e
-  keeps-le k = le-of-mul-le-mul-right (le-trans (le-of-eq left) (le-trans (mul-le-mul-right (down e * down d) k) (le-of-eq (sym right)))) (lit< tt)
+  keeps-le k =
+      le-of-mul-le-mul-right (le-trans (le-of-eq left) (le-trans (mul-le-mul-right (down e * down d) k) (le-of-eq (sym right)))) (lit< tt)
 
   keeps-lt : a < b → m * up e * down d < n * up d * down e
-  keeps-lt k = lt-of-mul-lt-mul-right 65536 (lt-of-le-of-lt (le-of-eq left) (lt-of-lt-of-le (mul-lt-mul-of-pos-right k common) (le-of-eq (sym right))))
+  keeps-lt k =
+      lt-of-mul-lt-mul-right 65536
+      (lt-of-le-of-lt (le-of-eq left) (lt-of-lt-of-le (mul-lt-mul-of-pos-right k common) (le-of-eq (sym right))))
 
   difference : (m * up e * down d - n * up d * down e) * 65536 ≡ (a - b) * (down e * down d)
   difference =
@@ -82,7 +87,8 @@ take-off : (a b c : ℕ) → b ≤ a → sum binary64 false a true b c ≡ round
 unfolding sum
 take-off a b c h = simp (le-ltb a b h)
 
-pub sub-parts : (x y : Float) (a b : ℕ) → HasValue x false a 65536 → HasValue y false b 65536 → b ≤ a → a ≤ 65536 → HasValue (sub binary64 x y) false (a - b) 65536
+pub sub-parts : (x y : Float) (a b : ℕ) → HasValue x false a 65536 → HasValue y false b 65536 → b ≤ a → a ≤ 65536
+    → HasValue (sub binary64 x y) false (a - b) 65536
 unfolding sub
 sub-parts nan y a b h i l k = absurd h
 sub-parts (inf s) y a b h i l k = absurd h
@@ -93,7 +99,8 @@ sub-parts (fin false m e) (fin true n d) a b h i l k = absurd (let z : _≡_ {A 
 sub-parts (fin false m e) (fin false n d) a b h i l k =
     subst (λ (z : Float). HasValue z false (a - b) 65536)
     (sym (take-off (m * up e * down d) (n * up d * down e) (down e * down d) (keeps-le n d m e b a (i .1) (h .1) l)))
-    (round-parts false (m * up e * down d - n * up d * down e) (down e * down d) (a - b) (common m e n d a b (h .1) (i .1)) (omega arith) (difference m e n d a b (h .1) (i .1)))
+    (round-parts false (m * up e * down d - n * up d * down e) (down e * down d) (a - b) (common m e n d a b (h .1) (i .1)) (omega arith)
+    (difference m e n d a b (h .1) (i .1)))
 
 pub lt-parts : (x y : Float) (a b : ℕ) → HasValue x false a 65536 → HasValue y false b 65536 → lt x y ≡ ltb a b
 unfolding lt

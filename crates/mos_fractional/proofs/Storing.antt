@@ -50,14 +50,16 @@ pub stored-none : (m : FractionalMos) (xs : List FractionalMos) → stored 0 m x
 unfolding stored
 stored-none m xs = refl
 
-stored-suc : (i : ℕ) (m : FractionalMos) (xs : List FractionalMos) → i < length xs → set (stored i m xs) i (nth-next-of i m) ≡ stored (suc i) m xs
+stored-suc : (i : ℕ) (m : FractionalMos) (xs : List FractionalMos) → i < length xs
+    → set (stored i m xs) i (nth-next-of i m) ≡ stored (suc i) m xs
 unfolding stored nth-next-of
 stored-suc zero m [] h = absurd (let z : ⊥ = omega arith in z)
 stored-suc zero m (x ∷ xs) h = refl
 stored-suc (suc i) m [] h = absurd (let z : ⊥ = omega arith in z)
 stored-suc (suc i) m (x ∷ xs) h = ap (λ (l : List FractionalMos). m ∷ l) (stored-suc i (nextOf m) xs (omega arith))
 
-pub stored-more : (i : ℕ) (m : FractionalMos) (xs : List FractionalMos) → i < length xs → set (stored i m xs) i (nth-next-of i m) ≡ stored (i + 1) m xs
+pub stored-more : (i : ℕ) (m : FractionalMos) (xs : List FractionalMos) → i < length xs
+    → set (stored i m xs) i (nth-next-of i m) ≡ stored (i + 1) m xs
 stored-more i m xs h = stored-suc i m xs h ∙ ap (λ (k : ℕ). stored k m xs) (let e : suc i ≡ i + 1 = omega arith in e)
 
 -- ---- the whole walk
@@ -65,7 +67,8 @@ stored-more i m xs h = stored-suc i m xs h ∙ ap (λ (k : ℕ). stored k m xs) 
 next-is : (m c : FractionalMos) → childOf m ≡ some c → nextOf m ≡ c
 next-is m c e = ap (orSelf m) e
 
-front : (m : FractionalMos) (ms xs : List FractionalMos) → length (m ∷ ms) ≤ length xs → stored (length ms) (nextOf m) (drop 1 xs) ≡ ms ++ drop (length ms) (drop 1 xs)
+front : (m : FractionalMos) (ms xs : List FractionalMos) → length (m ∷ ms) ≤ length xs
+    → stored (length ms) (nextOf m) (drop 1 xs) ≡ ms ++ drop (length ms) (drop 1 xs)
     → stored (length (m ∷ ms)) m xs ≡ (m ∷ ms) ++ drop (length (m ∷ ms)) xs
 unfolding stored
 front m ms [] h e = absurd (let z : ⊥ = omega arith in z)
@@ -82,12 +85,15 @@ rest-room ms (x ∷ xs) h = omega arith
 whole-end : (m : FractionalMos) (xs : List FractionalMos) → Whole m (m ∷ []) xs
 whole-end m xs h = front m [] xs h (stored-none (nextOf m) (drop 1 xs))
 
-whole-next : (m c : FractionalMos) (ms xs : List FractionalMos) → nextOf m ≡ c → ((ys : List FractionalMos) → Whole c ms ys) → Whole m (m ∷ ms) xs
+whole-next : (m c : FractionalMos) (ms xs : List FractionalMos) → nextOf m ≡ c → ((ys : List FractionalMos) → Whole c ms ys)
+    → Whole m (m ∷ ms) xs
 whole-next m c ms xs e ih h =
     front m ms xs h
-    (subst (λ (n : FractionalMos). stored (length ms) n (drop 1 xs) ≡ ms ++ drop (length ms) (drop 1 xs)) (sym e) (ih (drop 1 xs) (rest-room ms xs h)))
+    (subst (λ (n : FractionalMos). stored (length ms) n (drop 1 xs) ≡ ms ++ drop (length ms) (drop 1 xs)) (sym e)
+    (ih (drop 1 xs) (rest-room ms xs h)))
 
-whole-step : (m : FractionalMos) → Growing m → ((c : FractionalMos) → Growing c → left c < left m → (ys : List FractionalMos) → Whole c (children c) ys)
+whole-step : (m : FractionalMos) → Growing m
+    → ((c : FractionalMos) → Growing c → left c < left m → (ys : List FractionalMos) → Whole c (children c) ys)
     → (o : Option FractionalMos) → childOf m ≡ o → (xs : List FractionalMos) → Whole m (children m) xs
 whole-step m u ih none e xs = subst (λ (l : List FractionalMos). Whole m l xs) (sym (children-end m u e)) (whole-end m xs)
 whole-step m u ih (some c) e xs =

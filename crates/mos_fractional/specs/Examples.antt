@@ -14,9 +14,18 @@ use Rattle.mos_fractional.specs.Fractional.{fractional, primaries, secon
 use Rattle.mos_fractional.specs.Walk.{childrenFrom}
 use Rattle.mos_fractional.specs.Answers.{genesisOutcome, listingOutcome, counted, written}
 
--- 5/8, as a double has it.
+-- 5/8, 3/8, 1/4 and 1/8, as doubles have them.
 abbrev pub fiveEighths : Float
 fiveEighths = fin false 5 (negsuc 2)
+
+abbrev pub threeEighths : Float
+threeEighths = fin false 3 (negsuc 2)
+
+abbrev pub quarter : Float
+quarter = fin false 1 (negsuc 1)
+
+abbrev pub eighth : Float
+eighth = fin false 1 (negsuc 2)
 
 -- The just fifth, log₂ 3/2, as the double nearest to it.
 abbrev pub fifth : Float
@@ -32,10 +41,10 @@ pub record GenesisExample : Type 0 where
 
 abbrev pub genesisExamples : List GenesisExample
 genesisExamples =
-    record { generator = fiveEighths; genesis = given (fractional 1 1 fiveEighths (fin false 3 (negsuc 2))) }
+    record { generator = fiveEighths; genesis = given (fractional 1 1 fiveEighths threeEighths) }
     -- 13/8, an octave higher, and −3/8, an octave lower
-    ∷ record { generator = fin false 13 (negsuc 2); genesis = given (fractional 1 1 fiveEighths (fin false 3 (negsuc 2))) }
-    ∷ record { generator = fin true 3 (negsuc 2); genesis = given (fractional 1 1 fiveEighths (fin false 3 (negsuc 2))) }
+    ∷ record { generator = fin false 13 (negsuc 2); genesis = given (fractional 1 1 fiveEighths threeEighths) }
+    ∷ record { generator = fin true 3 (negsuc 2); genesis = given (fractional 1 1 fiveEighths threeEighths) }
     -- 0 and 1 leave +0, −1 leaves −0, which is not below 0
     ∷ record { generator = nought; genesis = given (fractional 1 1 nought one) }
     ∷ record { generator = one; genesis = given (fractional 1 1 nought one) }
@@ -57,8 +66,8 @@ pub record ChildExample : Type 0 where
 
 abbrev pub childExamples : List ChildExample
 childExamples =
-    record { pattern = fractional 1 1 fiveEighths (fin false 3 (negsuc 2)); child = some (fractional 1 2 (fin false 1 (negsuc 1)) (fin false 3 (negsuc 2))) }
-    ∷ record { pattern = fractional 1 2 (fin false 1 (negsuc 1)) (fin false 3 (negsuc 2)); child = some (fractional 3 2 (fin false 1 (negsuc 1)) (fin false 1 (negsuc 2))) }
+    record { pattern = fractional 1 1 fiveEighths threeEighths; child = some (fractional 1 2 quarter threeEighths) }
+    ∷ record { pattern = fractional 1 2 quarter threeEighths; child = some (fractional 3 2 quarter eighth) }
     -- equal steps, and a step of 0 of either sign
     ∷ record { pattern = fractional 3 5 one one; child = none }
     ∷ record { pattern = fractional 1 1 nought one; child = none }
@@ -75,15 +84,16 @@ childExamples =
 -- The walk of 5/8.
 abbrev pub walkOfFiveEighths : List FractionalMos
 walkOfFiveEighths =
-    fractional 1 1 fiveEighths (fin false 3 (negsuc 2))
-    ∷ fractional 1 2 (fin false 1 (negsuc 1)) (fin false 3 (negsuc 2))
-    ∷ fractional 3 2 (fin false 1 (negsuc 1)) (fin false 1 (negsuc 2))
-    ∷ fractional 3 5 (fin false 1 (negsuc 2)) (fin false 1 (negsuc 2))
+    fractional 1 1 fiveEighths threeEighths
+    ∷ fractional 1 2 quarter threeEighths
+    ∷ fractional 3 2 quarter eighth
+    ∷ fractional 3 5 eighth eighth
     ∷ []
 
 -- Theorem.
 pub record ExamplesHold : Type 0 where
-  pub geneses : map (λ (e : GenesisExample). genesisOutcome (e .generator)) genesisExamples ≡ map (λ (e : GenesisExample). e .genesis) genesisExamples
+  pub geneses : map (λ (e : GenesisExample). genesisOutcome (e .generator)) genesisExamples
+      ≡ map (λ (e : GenesisExample). e .genesis) genesisExamples
   pub kids : map (λ (e : ChildExample). childOf (e .pattern)) childExamples ≡ map (λ (e : ChildExample). e .child) childExamples
   pub walk : childrenFrom fiveEighths ≡ walkOfFiveEighths
   -- the fifth's patterns: 2, 3, 5, 7, 12 and 17 notes
@@ -91,12 +101,13 @@ pub record ExamplesHold : Type 0 where
       ≡ some (1 ∷ 1 ∷ []) ∷ some (1 ∷ 2 ∷ []) ∷ some (3 ∷ 2 ∷ []) ∷ some (5 ∷ 2 ∷ []) ∷ some (5 ∷ 7 ∷ []) ∷ some (5 ∷ 12 ∷ []) ∷ []
   -- a listing with one pattern of room to spare, with just enough, with one too few, and of no number, however short the slice
   pub spare : written (listingOutcome fiveEighths 5) (genesis one ∷ genesis one ∷ genesis one ∷ genesis one ∷ fractional 7 8 one one ∷ [])
-      ≡ fractional 1 1 fiveEighths (fin false 3 (negsuc 2))
-      ∷ fractional 1 2 (fin false 1 (negsuc 1)) (fin false 3 (negsuc 2))
-      ∷ fractional 3 2 (fin false 1 (negsuc 1)) (fin false 1 (negsuc 2))
-      ∷ fractional 3 5 (fin false 1 (negsuc 2)) (fin false 1 (negsuc 2))
+      ≡ fractional 1 1 fiveEighths threeEighths
+      ∷ fractional 1 2 quarter threeEighths
+      ∷ fractional 3 2 quarter eighth
+      ∷ fractional 3 5 eighth eighth
       ∷ fractional 7 8 one one
       ∷ []
-  pub rooms : map (λ (room : ℕ). counted (listingOutcome fiveEighths room)) (5 ∷ 4 ∷ 3 ∷ 0 ∷ []) ≡ given 4 ∷ given 4 ∷ refused 10 ∷ refused 10 ∷ []
+  pub rooms : map (λ (room : ℕ). counted (listingOutcome fiveEighths room)) (5 ∷ 4 ∷ 3 ∷ 0 ∷ [])
+      ≡ given 4 ∷ given 4 ∷ refused 10 ∷ refused 10 ∷ []
   pub short : written (listingOutcome fiveEighths 1) (fractional 7 8 one one ∷ []) ≡ fractional 7 8 one one ∷ []
   pub no-number : listingOutcome nan 0 ≡ refused 22

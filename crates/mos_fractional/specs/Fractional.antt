@@ -51,14 +51,20 @@ unfoldable pub genesis : Float → FractionalMos
 unfolding firstStep
 genesis g = fractional 1 1 (firstStep g) (sub binary64 one (firstStep g))
 
--- Document 01's child: it "adds both counts into the count of the shorter step and replaces the longer step by the difference. There is
--- none if a step is 0 or both are equal." And there is none "where a count would pass 65,535". Where a step is not a number, neither is the
--- shorter, and there is none.
+-- Document 01's child "adds both counts into the count of the shorter step and replaces the longer step by the difference": where the
+-- primary step is the longer, and where the secondary is.
+abbrev pub offPrimary : FractionalMos → FractionalMos
+offPrimary m = fractional (primaries m) (countOf m) (sub binary64 (primary m) (secondary m)) (secondary m)
+
+abbrev pub offSecondary : FractionalMos → FractionalMos
+offSecondary m = fractional (countOf m) (secondaries m) (primary m) (sub binary64 (secondary m) (primary m))
+
+-- "There is none if a step is 0 or both are equal." And there is none "where a count would pass 65,535". Where a step is not a number,
+-- neither is the shorter, and there is none.
 unfoldable pub childOf : FractionalMos → Option FractionalMos
 childOf m =
     pick (eq (primary m) nought) none
     (pick (eq (secondary m) nought) none
     (pick (ltb 65535 (countOf m)) none
-    (pick (lt (secondary m) (primary m)) (some (fractional (primaries m) (countOf m) (sub binary64 (primary m) (secondary m)) (secondary m)))
-    (pick (lt (primary m) (secondary m)) (some (fractional (countOf m) (secondaries m) (primary m) (sub binary64 (secondary m) (primary m))))
-    none))))
+    (pick (lt (secondary m) (primary m)) (some (offPrimary m))
+    (pick (lt (primary m) (secondary m)) (some (offSecondary m)) none))))

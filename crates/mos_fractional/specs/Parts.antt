@@ -33,4 +33,5 @@ stored (suc count) m (x ∷ slice) = m ∷ stored count (nextOf m) slice
 pub record Planned (generator : Float) (room : ℕ) (plan : Listing) : Type 0 where
   pub answer : countOutcome (plan .answer) ≡ counted (listingOutcome generator room)
   pub fits : plan .count ≤ room
-  pub stores : (before : List FractionalMos) → length before ≡ room → stored (plan .count) (plan .first) before ≡ written (listingOutcome generator room) before
+  pub stores : (before : List FractionalMos) → length before ≡ room
+      → stored (plan .count) (plan .first) before ≡ written (listingOutcome generator room) before

@@ -27,7 +27,8 @@ listing-whole : (g : Float) (room : ℕ) → listingOutcome g room ≡ andThen (
 listing-whole g room = sym (ask-then 22 (isFinite g) (given (childrenFrom g)) (heldIn room))
 
 -- the library filled it
-pub fills-listed : {z : ℤ} {xs ys : List FractionalMos} (g : Float) (a : CountAnswer) → Listed (listingOutcome g (length xs)) (countOutcome a) xs ys
+pub fills-listed : {z : ℤ} {xs ys : List FractionalMos} (g : Float) (a : CountAnswer)
+    → Listed (listingOutcome g (length xs)) (countOutcome a) xs ys
     → z ≡ codeOf (countOutcome a) → FillsPatterns (ofGenerator g (childrenFrom g)) z xs ys
 fills-listed {xs = xs} g a w e =
     record {
@@ -50,7 +51,8 @@ small-listed (Count.Refused q) f h = tt
 
 module _ (m : FractionalMos) (room : ℕ) where
   -- there is none
-  pub plans-none : {z : ℤ} (child : FractionalMos) → childOf m ≡ none → z ≡ pos 0 → PlansChild m room (record { code = z; stores = false; child = child })
+  pub plans-none : {z : ℤ} (child : FractionalMos) → childOf m ≡ none → z ≡ pos 0
+      → PlansChild m room (record { code = z; stores = false; child = child })
   plans-none child e f =
       let o : heldIn room (childPatterns (childOf m)) ≡ given [] = simp (e, le-leb 0 room (omega arith)) in
       record {
@@ -82,5 +84,7 @@ module _ (m : FractionalMos) (room : ℕ) where
       record {
         code = f ∙ sym (ap (λ (p : Outcome (List FractionalMos)). codeOf (counted p)) o);
         fits = λ q. h;
-        store = λ before l. first-stored child before (omega (arith, l, h)) ∙ sym (ap (λ (p : Outcome (List FractionalMos)). written p before) o);
+        store =
+            λ before l. first-stored child before (omega (arith, l, h))
+            ∙ sym (ap (λ (p : Outcome (List FractionalMos)). written p before) o);
       }

@@ -118,13 +118,17 @@ module _ {M : Type 1} (𝓤 : URA M) (H : Heap 𝓤) (A : Atoms 𝓤) (at-mem : 
   Plan = tripleOf 𝓤 H A plans.signature (plans.spec 𝓤 H A at-mem run)
 
   -- of each callee's `ensured`, the clause alone
-  next-says : (m t : FractionalMos) → ent 𝓤 (ensured 𝓤 H A nexts.ended (nexts.clauses 𝓤 H A at-mem run) tt (m, tt) tt t) (fact 𝓤 (t ≡ nextOf m))
+  next-says : (m t : FractionalMos) → ent 𝓤 (ensured 𝓤 H A nexts.ended (nexts.clauses 𝓤 H A at-mem run) tt (m, tt) tt t)
+      (fact 𝓤 (t ≡ nextOf m))
   next-says m t = exE 𝓤 _ (λ ws. snd∗ 𝓤 (sem 𝓤 H A (lasts nexts.ended tt (m, tt) ws)) (fact 𝓤 (t ≡ nextOf m)))
 
-  plan-says : (g : Float) (n : ℕ) (p : Listing) → ent 𝓤 (ensured 𝓤 H A plans.ended (plans.clauses 𝓤 H A at-mem run) tt (g, (n, tt)) tt p) (fact 𝓤 (Planned g n p))
+  plan-says : (g : Float) (n : ℕ) (p : Listing) → ent 𝓤 (ensured 𝓤 H A plans.ended (plans.clauses 𝓤 H A at-mem run) tt (g, (n, tt)) tt p)
+      (fact 𝓤 (Planned g n p))
   plan-says g n p = exE 𝓤 _ (λ ws. snd∗ 𝓤 (sem 𝓤 H A (lasts plans.ended tt (g, (n, tt)) ws)) (fact 𝓤 (Planned g n p)))
 
-module _ {M : Type 1} (𝓤 : URA M) (H : Heap 𝓤) (A : Atoms 𝓤) (W : Given 𝓤 H A) (at-mem : Memory → SProp 𝓤) (run : Routine → Fun 𝓤) (κ : Lft) (q : Share) (b o : ℕ) (γ : GName) (xs : List FractionalMos) (gen : Float) (g-gen : Is f64 gen (float-vals binary64 gen)) (g : Room T.the-row (length xs)) where
+module _ {M : Type 1} (𝓤 : URA M) (H : Heap 𝓤) (A : Atoms 𝓤) (W : Given 𝓤 H A) (at-mem : Memory → SProp 𝓤) (run : Routine → Fun 𝓤) (κ : Lft)
+    (q : Share) (b o : ℕ) (γ : GName) (xs : List FractionalMos) (gen : Float) (g-gen : Is f64 gen (float-vals binary64 gen))
+    (g : Room T.the-row (length xs)) where
   abbrev n : ℕ
   n = length xs
 
@@ -160,13 +164,19 @@ module _ {M : Type 1} (𝓤 : URA M) (H : Heap 𝓤) (A : Atoms 𝓤) (W : Given
     m-fits : m < 2 ^ 64
     m-fits = LL.owed P.the-type P′.the-laws p _ is .1 .1 .0 .1
 
-    exits : ent 𝓤 (⋆ 𝓤 H A (‵ (fobs γ (codedHoleys T.the-row .code (heres T.the-row (after m)))) ∷ ‵ (fbor κ (Held T.the-row (length (after m)) b o γ)) ∷ ‵ (flft κ q) ∷ [])) (Post (N-val (p .answer)))
+    exits : ent 𝓤 (⋆ 𝓤 H A (‵ (fobs γ (codedHoleys T.the-row .code (heres T.the-row (after m))))
+        ∷ ‵ (fbor κ (Held T.the-row (length (after m)) b o γ)) ∷ ‵ (flft κ q) ∷ [])) (Post (N-val (p .answer)))
     exits =
-        qed W (‵ (fobs γ (codedHoleys T.the-row .code (heres T.the-row (after m)))) ∷ ‵ (fbor κ (Held T.the-row (length (after m)) b o γ)) ∷ ‵ (flft κ q) ∷ []) ∵
-        suffices ! _ (ends-at 𝓤 H A f.ended stayed (f.clauses 𝓤 H A at-mem run) W (((κ, tt), (q, tt), tt, x, at), tt) (N-val (p .answer)) (p .answer) (tt, (after m, tt)) (tt, (after-length m, tt))) $
+        qed W (‵ (fobs γ (codedHoleys T.the-row .code (heres T.the-row (after m)))) ∷ ‵ (fbor κ (Held T.the-row (length (after m)) b o γ))
+        ∷ ‵ (flft κ q) ∷ []) ∵
+        suffices ! _ (ends-at 𝓤 H A f.ended stayed (f.clauses 𝓤 H A at-mem run) W (((κ, tt), (q, tt), tt, x, at), tt) (N-val (p .answer))
+        (p .answer) (tt, (after m, tt)) (tt, (after-length m, tt))) $
         says ! (record { answered = e .answer; content = e .stores xs refl }) $
         nothing ! $ move ! (3 ∷ 0 ∷ []) $ join ! $ frame ! $
-        fjoin ! $ pureI ! (at-slice T.the-row (record { ptr = (b, o); name = γ; now = after m }) (at .1 .0)) (tt, (tt, tt)) (ap (λ (k : ℕ). sliceVal (b, o) k ∷ []) (sym (after-length m)), subst (Room T.the-row) (sym (after-length m)) g) $ fjoin ! $
+        fjoin ! $
+        pureI ! (at-slice T.the-row (record { ptr = (b, o); name = γ; now = after m }) (at .1 .0)) (tt, (tt, tt))
+        (ap (λ (k : ℕ). sliceVal (b, o) k ∷ []) (sym (after-length m)), subst (Room T.the-row) (sym (after-length m)) g) $
+        fjoin ! $
         nothing ! $ move ! (1 ∷ 0 ∷ []) $ fjoin ! $ owned ! f64 (Is f64) (float-makes 𝓤 H A W binary64) gen _ g-gen $ fjoin ! $ frame ! $
         owned ! N.the-row (Is N.the-row) (EL.makes N.the-type N′.the-plain 𝓤 H A) (p .answer) _ N-is $ done !
 
@@ -194,7 +204,8 @@ module _ {M : Type 1} (𝓤 : URA M) (H : Heap 𝓤) (A : Atoms 𝓤) (W : Given
     begins : Upto
     begins = (0, zero-le, subst (λ (z : FractionalMos). Is T.the-row z (T-vals z)) (nth-next-of-none (p .first)) T-is)
 
-    module _ (𝓣 : Tables 𝓤 H) (fm : FmC 𝓤 H (W .laws) (𝓣 .C)) (known-next : Triple 𝓤 (𝓣 .C #next) (Next 𝓤 H A at-mem run)) (l₀ l₁ l₂ l₃ l₄ l₅ l₆ l₇ l₈ l₉ k₀ : ℕ) where
+    module _ (𝓣 : Tables 𝓤 H) (fm : FmC 𝓤 H (W .laws) (𝓣 .C)) (known-next : Triple 𝓤 (𝓣 .C #next) (Next 𝓤 H A at-mem run))
+        (l₀ l₁ l₂ l₃ l₄ l₅ l₆ l₇ l₈ l₉ k₀ : ℕ) where
       abbrev C : Calls 𝓤 H
       C = 𝓣 .C
 
@@ -202,48 +213,73 @@ module _ {M : Type 1} (𝓤 : URA M) (H : Heap 𝓤) (A : Atoms 𝓤) (W : Given
       Λ = 𝓣 .Λ
 
       abbrev En : Env 𝓤 H
-      En = (N′.mir, l₀) ∷ (tyFloat binary64, l₁) ∷ (slice, l₂) ∷ (P′.mir, l₃) ∷ (tyInt w64, l₄) ∷ (T′.mir, l₅) ∷ (tyInt w64, l₆) ∷ (tyInt w64, l₇) ∷ (tyBool, l₈) ∷ (tyInt w64, l₉) ∷ (tyPtr, k₀) ∷ []
+      En = (N′.mir, l₀) ∷ (tyFloat binary64, l₁) ∷ (slice, l₂) ∷ (P′.mir, l₃) ∷ (tyInt w64, l₄) ∷ (T′.mir, l₅) ∷ (tyInt w64, l₆)
+          ∷ (tyInt w64, l₇) ∷ (tyBool, l₈) ∷ (tyInt w64, l₉) ∷ (tyPtr, k₀) ∷ []
 
       -- the invariant: local j's cell stands at 4 + 2 · (10 − j)
       abbrev At : Upto → List (Item 𝓤)
-      At i = ‵ (row T.the-row fullShare (after (i .0)) b o) ∷ ‵ (fobor κ q (Held T.the-row n b o γ)) ∷ ‵ (fobs γ (codedHoleys T.the-row .code (heres T.the-row xs))) ∷ ‵ (fauth γ (codedHoleys T.the-row .code (heres T.the-row xs)))
-          ∷ ‵ (froom tyPtr k₀ 0) ∷ ‵ (fdies tyPtr k₀) ∷ ‵ (froom (tyInt w64) l₉ 0) ∷ ‵ (fdies (tyInt w64) l₉) ∷ ‵ (froom tyBool l₈ 0) ∷ ‵ (fdies tyBool l₈)
-          ∷ ‵ (fat fullShare (tyInt w64) l₇ 0 (vint w64 n)) ∷ ‵ (fdies (tyInt w64) l₇) ∷ ‵ (fat fullShare (tyInt w64) l₆ 0 (vint w64 (i .0))) ∷ ‵ (fdies (tyInt w64) l₆)
-          ∷ ‵ (fat fullShare T′.mir l₅ 0 (T-val (pattern (i .0)))) ∷ ‵ (fdies T′.mir l₅) ∷ ‵ (fat fullShare (tyInt w64) l₄ 0 (vint w64 m)) ∷ ‵ (fdies (tyInt w64) l₄)
-          ∷ ‵ (fat fullShare P′.mir l₃ 0 (P-val p)) ∷ ‵ (fdies P′.mir l₃) ∷ ‵ (fat fullShare slice l₂ 0 (sliceVal (b, o) n)) ∷ ‵ (fdies slice l₂)
-          ∷ ‵ (fat fullShare (tyFloat binary64) l₁ 0 (vfloat binary64 gen)) ∷ ‵ (fdies (tyFloat binary64) l₁) ∷ ‵ (froom N′.mir l₀ 0) ∷ ‵ (fdies N′.mir l₀) ∷ []
+      At i = ‵ (row T.the-row fullShare (after (i .0)) b o) ∷ ‵ (fobor κ q (Held T.the-row n b o γ))
+          ∷ ‵ (fobs γ (codedHoleys T.the-row .code (heres T.the-row xs))) ∷ ‵ (fauth γ (codedHoleys T.the-row .code (heres T.the-row xs)))
+          ∷ ‵ (froom tyPtr k₀ 0) ∷ ‵ (fdies tyPtr k₀) ∷ ‵ (froom (tyInt w64) l₉ 0) ∷ ‵ (fdies (tyInt w64) l₉) ∷ ‵ (froom tyBool l₈ 0)
+          ∷ ‵ (fdies tyBool l₈)
+          ∷ ‵ (fat fullShare (tyInt w64) l₇ 0 (vint w64 n)) ∷ ‵ (fdies (tyInt w64) l₇)
+          ∷ ‵ (fat fullShare (tyInt w64) l₆ 0 (vint w64 (i .0))) ∷ ‵ (fdies (tyInt w64) l₆)
+          ∷ ‵ (fat fullShare T′.mir l₅ 0 (T-val (pattern (i .0)))) ∷ ‵ (fdies T′.mir l₅) ∷ ‵ (fat fullShare (tyInt w64) l₄ 0 (vint w64 m))
+          ∷ ‵ (fdies (tyInt w64) l₄)
+          ∷ ‵ (fat fullShare P′.mir l₃ 0 (P-val p)) ∷ ‵ (fdies P′.mir l₃) ∷ ‵ (fat fullShare slice l₂ 0 (sliceVal (b, o) n))
+          ∷ ‵ (fdies slice l₂)
+          ∷ ‵ (fat fullShare (tyFloat binary64) l₁ 0 (vfloat binary64 gen)) ∷ ‵ (fdies (tyFloat binary64) l₁) ∷ ‵ (froom N′.mir l₀ 0)
+          ∷ ‵ (fdies N′.mir l₀) ∷ []
 
       abbrev Turned : Upto → Out → SProp 𝓤
-      Turned i = afterTurn 𝓤 H (Below 𝓤 H A Nearer At i) (afterBlock 𝓤 H (afterSeq 𝓤 H (Wp 𝓤 H C Λ En mir.t-7 (atReturn 𝓤 H En Post)) (atReturn 𝓤 H En Post)))
+      Turned i = afterTurn 𝓤 H (Below 𝓤 H A Nearer At i)
+          (afterBlock 𝓤 H (afterSeq 𝓤 H (Wp 𝓤 H C Λ En mir.t-7 (atReturn 𝓤 H En Post)) (atReturn 𝓤 H En Post)))
 
       turn-at : (i : Upto) (t : Bool) → ltb (i .0) m ≡ t → Sq W (At i) (runs C Λ En mir.turn-1 (anyQ (Turned i)))
       unfolding afterTurn
       turn-at i true yes-less =
-          assigns ! (bin ! (load ! (from ! (stop !)) (look ! 12 refl)) (load ! (from ! (stop !)) (look ! 16 refl)) tt) (from ! (stop !)) (init ! 8 refl (tt, tt)) $
-          rewrite ! 8 (λ (t : Bool). ‵ (fat fullShare tyBool l₈ 0 (vbool t))) yes-less refl $ stays ! (load ! (from ! (stop !)) (look ! 8 refl)) $
+          assigns ! (bin ! (load ! (from ! (stop !)) (look ! 12 refl)) (load ! (from ! (stop !)) (look ! 16 refl)) tt) (from ! (stop !))
+          (init ! 8 refl (tt, tt)) $
+          rewrite ! 8 (λ (t : Bool). ‵ (fat fullShare tyBool l₈ 0 (vbool t))) yes-less refl $
+          stays ! (load ! (from ! (stop !)) (look ! 8 refl)) $
           -- the element's place
-          assigns ! (bin ! (load ! (from ! (stop !)) (look ! 12 refl)) (lit ! tt) (record { fits = place-fits })) (from ! (stop !)) (init ! 6 refl (tt, record { fits = place-fits })) $
-          assigns ! (bin ! (load ! (from ! (fld ! refl (stop !))) (look-in ! 20 (sub ! 0 refl (whole !)))) (load ! (from ! (stop !)) (look ! 6 refl)) tt) (from ! (stop !)) (init ! 4 refl (tt, tt)) $
+          assigns ! (bin ! (load ! (from ! (stop !)) (look ! 12 refl)) (lit ! tt) (record { fits = place-fits })) (from ! (stop !))
+          (init ! 6 refl (tt, record { fits = place-fits })) $
+          assigns ! (bin ! (load ! (from ! (fld ! refl (stop !))) (look-in ! 20 (sub ! 0 refl (whole !))))
+          (load ! (from ! (stop !)) (look ! 6 refl)) tt) (from ! (stop !)) (init ! 4 refl (tt, tt)) $
           rewrite ! 4 (λ (z : ℕ). ‵ (fat fullShare tyPtr k₀ 0 (vptr b z))) (sym (place-is (mem T.the-row .size) o (i .0))) refl $
-          elem-out ! T.the-row (Is T.the-row) (shows 𝓤 H A T.the-row) T-vals (LL.tells T.the-type T′.the-laws) fullShare (after (i .0)) (i .0) (p .first) b o here (λ was.
+          elem-out ! T.the-row (Is T.the-row) (shows 𝓤 H A T.the-row) T-vals (LL.tells T.the-type T′.the-laws) fullShare (after (i .0))
+          (i .0) (p .first) b o here (λ was.
           -- [the element; what it owns; the others; the open borrow; obs; auth; …]: what the new pattern owns takes the old one's place, so that
           -- local j's cell stands at 6 + 2 · (10 − j)
-          move ! (1 ∷ []) $ drop ! $ owned ! T.the-row (Is T.the-row) (LL.makes T.the-type T′.the-plain 𝓤 H A) (pattern (i .0)) (T-vals (pattern (i .0))) (i .2) $
-          assigns ! (of-opd ! (load ! (from ! (stop !)) (look ! 16 refl))) (from ! (hop ! (look ! 6 refl) (stop !))) (store-raw ! 1 refl (LL.lawful T.the-type T′.the-laws 𝓤 H A W .typed (pattern (i .0)) _ (i .2) .0)) $
+          move ! (1 ∷ []) $ drop ! $
+          owned ! T.the-row (Is T.the-row) (LL.makes T.the-type T′.the-plain 𝓤 H A) (pattern (i .0)) (T-vals (pattern (i .0))) (i .2) $
+          assigns ! (of-opd ! (load ! (from ! (stop !)) (look ! 16 refl))) (from ! (hop ! (look ! 6 refl) (stop !)))
+          (store-raw ! 1 refl (LL.lawful T.the-type T′.the-laws 𝓤 H A W .typed (pattern (i .0)) _ (i .2) .0)) $
           move ! (1 ∷ 0 ∷ []) $ elem-put ! T.the-row fullShare (after (i .0)) (i .0) (pattern (i .0)) (T-vals (pattern (i .0))) b o here $
           rewrite ! 0 (λ (zs : List FractionalMos). ‵ (row T.the-row fullShare zs b o)) (stored-more (i .0) (p .first) xs inside) refl $
           -- the next pattern, and i
           use0 W (raw (Next 𝓤 H A at-mem run .pre (to-next (i .0)))) (goes-next (i .0) (i .2)) $
-          calls-at ! fm (Next 𝓤 H A at-mem run) known-next (to-next (i .0)) (and-then ! (load ! (from ! (stop !)) (look ! 15 refl)) (no-more !)) (λ u.
-          use1 W (later (some (λ (t : FractionalMos). (‵ ftrue ⊛ ‵ (T.the-row .own t (u ∷ []))) ⊛ raw (ensured 𝓤 H A nexts.ended (nexts.clauses 𝓤 H A at-mem run) tt (pattern (i .0), tt) tt t)))) (id⊢ 𝓤 _) $ await ! tt $ pick ! (λ t.
-          split ! $ move ! (1 ∷ []) $ use1 W (raw (fact 𝓤 (t ≡ nextOf (pattern (i .0))))) (next-says 𝓤 H A at-mem run (pattern (i .0)) t) $ heard ! (t ≡ nextOf (pattern (i .0))) (λ new. split ! $ drop ! $
+          calls-at ! fm (Next 𝓤 H A at-mem run) known-next (to-next (i .0))
+          (and-then ! (load ! (from ! (stop !)) (look ! 15 refl)) (no-more !)) (λ u.
+          use1 W (later (some (λ (t : FractionalMos). (‵ ftrue ⊛ ‵ (T.the-row .own t (u ∷ [])))
+          ⊛ raw (ensured 𝓤 H A nexts.ended (nexts.clauses 𝓤 H A at-mem run) tt (pattern (i .0), tt) tt t)))) (id⊢ 𝓤 _) $
+          await ! tt $ pick ! (λ t.
+          split ! $ move ! (1 ∷ []) $ use1 W (raw (fact 𝓤 (t ≡ nextOf (pattern (i .0))))) (next-says 𝓤 H A at-mem run (pattern (i .0)) t) $
+          heard ! (t ≡ nextOf (pattern (i .0))) (λ new. split ! $ drop ! $
           facts ! T.the-row (Is T.the-row) (shows 𝓤 H A T.the-row) t (u ∷ []) (λ is-new.
           land ! (from ! (stop !)) (store ! 14 refl (LL.lawful T.the-type T′.the-laws 𝓤 H A W .typed t _ is-new .0)) $
           rewrite ! 14 (λ (w : Val). ‵ (fat fullShare T′.mir l₅ 0 w)) (ap only (LL.tells T.the-type T′.the-laws t _ is-new)) refl $
           rewrite ! 14 (λ (z : FractionalMos). ‵ (fat fullShare T′.mir l₅ 0 (T-val z))) (new ∙ nth-next-of-more (i .0) (p .first)) refl $
-          assigns-last ! (bin ! (load ! (from ! (stop !)) (look ! 12 refl)) (lit ! tt) (record { fits = next-fits })) (from ! (stop !)) (store ! 12 refl (tt, record { fits = next-fits })) $
+          assigns-last ! (bin ! (load ! (from ! (stop !)) (look ! 12 refl)) (lit ! tt) (record { fits = next-fits })) (from ! (stop !))
+          (store ! 12 refl (tt, record { fits = next-fits })) $
           forget ! 4 refl $ forget ! 6 refl $ forget ! 8 refl $
-          again ! Nearer At i (i .0 + 1, add-one-le less, subst (λ (z : FractionalMos). Is T.the-row z (T-vals z)) (new ∙ nth-next-of-more (i .0) (p .first)) (spelled t u is-new)) (add-one-dec m (i .0) less))))))
+          again ! Nearer At i (
+            i .0 + 1,
+            add-one-le less,
+            subst (λ (z : FractionalMos). Is T.the-row z (T-vals z))
+                (new ∙ nth-next-of-more (i .0) (p .first)) (spelled t u is-new),
+          ) (add-one-dec m (i .0) less))))))
         where
           less : i .0 < m
           less = ltb→lt (i .0) m (holds (ltb (i .0) m) yes-less)
@@ -263,14 +299,22 @@ module _ {M : Type 1} (𝓤 : URA M) (H : Heap 𝓤) (A : Atoms 𝓤) (W : Given
           spelled : (t : FractionalMos) (u : Val) → Is T.the-row t (u ∷ []) → Is T.the-row t (T-vals t)
           spelled t u was = subst (Is T.the-row t) (LL.tells T.the-type T′.the-laws t _ was) was
       turn-at i false no-less =
-          assigns ! (bin ! (load ! (from ! (stop !)) (look ! 12 refl)) (load ! (from ! (stop !)) (look ! 16 refl)) tt) (from ! (stop !)) (init ! 8 refl (tt, tt)) $
-          rewrite ! 8 (λ (t : Bool). ‵ (fat fullShare tyBool l₈ 0 (vbool t))) no-less refl $ leaves-loop ! (load ! (from ! (stop !)) (look ! 8 refl)) $
+          assigns ! (bin ! (load ! (from ! (stop !)) (look ! 12 refl)) (load ! (from ! (stop !)) (look ! 16 refl)) tt) (from ! (stop !))
+          (init ! 8 refl (tt, tt)) $
+          rewrite ! 8 (λ (t : Bool). ‵ (fat fullShare tyBool l₈ 0 (vbool t))) no-less refl $
+          leaves-loop ! (load ! (from ! (stop !)) (look ! 8 refl)) $
           exec ! C Λ En mir.t-7 (atRet En Post) $
-          rewrite ! 0 (λ (k : ℕ). ‵ (row T.the-row fullShare (after k) b o)) ends refl $ closes-slice ! tt T.the-row xs (after m) (after-length m) b o $
+          rewrite ! 0 (λ (k : ℕ). ‵ (row T.the-row fullShare (after k) b o)) ends refl $
+          closes-slice ! tt T.the-row xs (after m) (after-length m) b o $
           -- [obs; the borrow; the token; …]: local j's cell stands at 3 + 2 · (10 − j)
-          assigns ! (of-opd ! (load ! (from ! (fld ! refl (stop !))) (look-in ! 17 (sub ! 0 refl (whole !))))) (from ! (stop !)) (init ! 23 refl (EL.lawful N.the-type N′.the-laws 𝓤 H A W tt .typed (p .answer) _ N-is .0)) $
-          returns ! (look ! 23 refl) $ forget ! 7 refl $ forget ! 9 refl $ forget ! 11 refl $ forget ! 13 refl $ forget ! 15 refl $ forget ! 17 refl $ forget ! 19 refl $ forget ! 21 refl $ forget ! 23 refl $
-          move ! (23 ∷ 24 ∷ []) $ free1 ! $ move ! (21 ∷ 22 ∷ []) $ free1 ! $ move ! (19 ∷ 20 ∷ []) $ free1 ! $ move ! (17 ∷ 18 ∷ []) $ free1 ! $ move ! (15 ∷ 16 ∷ []) $ free1 ! $ move ! (13 ∷ 14 ∷ []) $ free1 ! $ move ! (11 ∷ 12 ∷ []) $ free1 ! $ move ! (9 ∷ 10 ∷ []) $ free1 ! $ move ! (7 ∷ 8 ∷ []) $ free1 ! $ move ! (5 ∷ 6 ∷ []) $ free1 ! $ move ! (3 ∷ 4 ∷ []) $ free1 ! $ free0 ! $
+          assigns ! (of-opd ! (load ! (from ! (fld ! refl (stop !))) (look-in ! 17 (sub ! 0 refl (whole !))))) (from ! (stop !))
+          (init ! 23 refl (EL.lawful N.the-type N′.the-laws 𝓤 H A W tt .typed (p .answer) _ N-is .0)) $
+          returns ! (look ! 23 refl) $ forget ! 7 refl $ forget ! 9 refl $ forget ! 11 refl $ forget ! 13 refl $ forget ! 15 refl $
+          forget ! 17 refl $ forget ! 19 refl $ forget ! 21 refl $ forget ! 23 refl $
+          move ! (23 ∷ 24 ∷ []) $ free1 ! $ move ! (21 ∷ 22 ∷ []) $ free1 ! $ move ! (19 ∷ 20 ∷ []) $ free1 ! $ move ! (17 ∷ 18 ∷ []) $
+          free1 ! $ move ! (15 ∷ 16 ∷ []) $ free1 ! $ move ! (13 ∷ 14 ∷ []) $ free1 ! $ move ! (11 ∷ 12 ∷ []) $ free1 ! $
+          move ! (9 ∷ 10 ∷ []) $ free1 ! $ move ! (7 ∷ 8 ∷ []) $ free1 ! $ move ! (5 ∷ 6 ∷ []) $ free1 ! $ move ! (3 ∷ 4 ∷ []) $ free1 ! $
+          free0 ! $
           by ! exits
         where
           ends : i .0 ≡ m
@@ -283,49 +327,69 @@ module _ {M : Type 1} (𝓤 : URA M) (H : Heap 𝓤) (A : Atoms 𝓤) (W : Given
   to-plan = ((tt, tt, tt, (gen, (n, tt)), (float-vals binary64 gen, (vint w64 n ∷ [], tt))), tt)
 
   goes-plan : ent 𝓤 (emp 𝓤) (Plan 𝓤 H A at-mem run .pre to-plan)
-  goes-plan = qed W [] ∵ nothing ! $ owned ! usize (Is usize) (uint-makes 𝓤 H A W w64) n (vint w64 n ∷ []) (refl, g .0) $ fjoin ! $ owned ! f64 (Is f64) (float-makes 𝓤 H A W binary64) gen _ g-gen $ fjoin ! $ nothing ! $ join ! $ nothing ! $ move ! (1 ∷ 0 ∷ []) $ frame ! $ done !
+  goes-plan = qed W [] ∵ nothing ! $ owned ! usize (Is usize) (uint-makes 𝓤 H A W w64) n (vint w64 n ∷ []) (refl, g .0) $ fjoin ! $
+      owned ! f64 (Is f64) (float-makes 𝓤 H A W binary64) gen _ g-gen $ fjoin ! $ nothing ! $ join ! $ nothing ! $ move ! (1 ∷ 0 ∷ []) $
+      frame ! $ done !
 
   -- the MIR up to the loop: the call, and the borrow is opened
-  walk : (𝓣 : Tables 𝓤 H) → FmC 𝓤 H (W .laws) (𝓣 .C) → Triple 𝓤 (𝓣 .C #next) (Next 𝓤 H A at-mem run) → Triple 𝓤 (𝓣 .C #plan) (Plan 𝓤 H A at-mem run)
-      → ent 𝓤 (onEntry 𝓤 H A f.signature (κ, tt) (q, tt) x at) (WpFn 𝓤 H (𝓣 .C) (𝓣 .Λ) code.function (vfloat binary64 gen ∷ sliceVal (b, o) n ∷ []) Post)
+  walk : (𝓣 : Tables 𝓤 H) → FmC 𝓤 H (W .laws) (𝓣 .C) → Triple 𝓤 (𝓣 .C #next) (Next 𝓤 H A at-mem run)
+      → Triple 𝓤 (𝓣 .C #plan) (Plan 𝓤 H A at-mem run)
+      → ent 𝓤 (onEntry 𝓤 H A f.signature (κ, tt) (q, tt) x at)
+      (WpFn 𝓤 H (𝓣 .C) (𝓣 .Λ) code.function (vfloat binary64 gen ∷ sliceVal (b, o) n ∷ []) Post)
   unfolding begins
   walk 𝓣 fm known-next known-plan =
       qed W ((‵ (flft κ q) ⊛ ‵ ftrue) ∷ ‵ (owns (f64 ∷ MutSlice (named 0) κ T.the-row ∷ []) x at) ∷ []) ∵
       split ! $ move ! (2 ∷ []) $ fsplit ! $ drop ! $ fsplit ! $ fsplit ! $ drop ! $ fsplit ! $ keep ! (0 ∷ 1 ∷ 3 ∷ []) $
       -- [obs; the borrow; the token]
       enter ! (𝓣 .C) (𝓣 .Λ) code.function (vfloat binary64 gen ∷ sliceVal (b, o) n ∷ []) _ $
-      alloc1 ! (λ l₀. alloc1 ! (λ l₁. alloc1 ! (λ l₂. alloc1 ! (λ l₃. alloc1 ! (λ l₄. alloc1 ! (λ l₅. alloc1 ! (λ l₆. alloc1 ! (λ l₇. alloc1 ! (λ l₈. alloc1 ! (λ l₉. alloc1 ! (λ k₀. alloc0 ! $ params1 ! $
+      alloc1 ! (λ l₀. alloc1 ! (λ l₁. alloc1 ! (λ l₂. alloc1 ! (λ l₃. alloc1 ! (λ l₄. alloc1 ! (λ l₅.
+      alloc1 ! (λ l₆. alloc1 ! (λ l₇. alloc1 ! (λ l₈. alloc1 ! (λ l₉. alloc1 ! (λ k₀. alloc0 ! $
+      params1 ! $
       -- local j's cell stands at 2 · (10 − j)
-      pass1 ! (init ! 18 refl (float-lawful 𝓤 H A W binary64 .typed gen _ g-gen .0)) $ pass1 ! (init ! 16 refl (tt, (tt, (record { fits = g .0 }, tt)))) $ pass0 ! $
-      assigns ! (of-opd ! (load ! (from ! (fld ! refl (stop !))) (look-in ! 16 (sub ! 1 refl (whole !))))) (from ! (stop !)) (init ! 6 refl (tt, record { fits = g .0 })) $
+      pass1 ! (init ! 18 refl (float-lawful 𝓤 H A W binary64 .typed gen _ g-gen .0)) $
+      pass1 ! (init ! 16 refl (tt, (tt, (record { fits = g .0 }, tt)))) $ pass0 ! $
+      assigns ! (of-opd ! (load ! (from ! (fld ! refl (stop !))) (look-in ! 16 (sub ! 1 refl (whole !))))) (from ! (stop !))
+      (init ! 6 refl (tt, record { fits = g .0 })) $
       use0 W (raw (Plan 𝓤 H A at-mem run .pre to-plan)) goes-plan $
-      calls-at ! fm (Plan 𝓤 H A at-mem run) known-plan to-plan (and-then ! (load ! (from ! (stop !)) (look ! 19 refl)) (and-then ! (load ! (from ! (stop !)) (look ! 7 refl)) (no-more !))) (λ v.
-      use1 W (later (some (λ (p : Listing). (‵ ftrue ⊛ ‵ (P.the-row .own p (v ∷ []))) ⊛ raw (ensured 𝓤 H A plans.ended (plans.clauses 𝓤 H A at-mem run) tt (gen, (n, tt)) tt p)))) (id⊢ 𝓤 _) $ await ! tt $ pick ! (λ p.
-      split ! $ move ! (1 ∷ []) $ use1 W (raw (fact 𝓤 (Planned gen n p))) (plan-says 𝓤 H A at-mem run gen n p) $ heard ! (Planned gen n p) (λ e. split ! $ drop ! $
+      calls-at ! fm (Plan 𝓤 H A at-mem run) known-plan to-plan
+      (and-then ! (load ! (from ! (stop !)) (look ! 19 refl)) (and-then ! (load ! (from ! (stop !)) (look ! 7 refl)) (no-more !))) (λ v.
+      use1 W (later (some (λ (p : Listing). (‵ ftrue ⊛ ‵ (P.the-row .own p (v ∷ [])))
+      ⊛ raw (ensured 𝓤 H A plans.ended (plans.clauses 𝓤 H A at-mem run) tt (gen, (n, tt)) tt p)))) (id⊢ 𝓤 _) $
+      await ! tt $ pick ! (λ p.
+      split ! $ move ! (1 ∷ []) $ use1 W (raw (fact 𝓤 (Planned gen n p))) (plan-says 𝓤 H A at-mem run gen n p) $
+      heard ! (Planned gen n p) (λ e. split ! $ drop ! $
       facts ! P.the-row (Is P.the-row) (shows 𝓤 H A P.the-row) p (v ∷ []) (λ was.
-      land ! (from ! (stop !)) (init ! 14 refl (LL.lawful P.the-type P′.the-laws 𝓤 H A W .typed p _ was .0)) $ rewrite ! 14 (λ (w : Val). ‵ (fat fullShare P′.mir l₃ 0 w)) (ap only (LL.tells P.the-type P′.the-laws p _ was)) refl $
-      assigns ! (of-opd ! (load ! (from ! (fld ! refl (stop !))) (look-in ! 14 (sub ! 2 refl (whole !))))) (from ! (stop !)) (init ! 12 refl (tt, record { fits = m-fits p (spelled p v was) e })) $
-      assigns ! (of-opd ! (load ! (from ! (fld ! refl (stop !))) (look-in ! 14 (sub ! 1 refl (whole !))))) (from ! (stop !)) (init ! 10 refl (LL.lawful T.the-type T′.the-laws 𝓤 H A W .typed (p .first) _ (T-is p (spelled p v was) e) .0)) $
+      land ! (from ! (stop !)) (init ! 14 refl (LL.lawful P.the-type P′.the-laws 𝓤 H A W .typed p _ was .0)) $
+      rewrite ! 14 (λ (w : Val). ‵ (fat fullShare P′.mir l₃ 0 w)) (ap only (LL.tells P.the-type P′.the-laws p _ was)) refl $
+      assigns ! (of-opd ! (load ! (from ! (fld ! refl (stop !))) (look-in ! 14 (sub ! 2 refl (whole !))))) (from ! (stop !))
+      (init ! 12 refl (tt, record { fits = m-fits p (spelled p v was) e })) $
+      assigns ! (of-opd ! (load ! (from ! (fld ! refl (stop !))) (look-in ! 14 (sub ! 1 refl (whole !))))) (from ! (stop !))
+      (init ! 10 refl (LL.lawful T.the-type T′.the-laws 𝓤 H A W .typed (p .first) _ (T-is p (spelled p v was) e) .0)) $
       rewrite ! 10 (λ (z : FractionalMos). ‵ (fat fullShare T′.mir l₅ 0 (T-val z))) (nth-next-of-none (p .first)) refl $
       assigns ! (of-opd ! (lit ! tt)) (from ! (stop !)) (init ! 8 refl (tt, record { fits = lit< tt })) $
-      move ! (22 ∷ 23 ∷ 24 ∷ []) $ opens-slice ! tt T.the-row xs b o $ rewrite ! 0 (λ (zs : List FractionalMos). ‵ (row T.the-row fullShare zs b o)) (sym (stored-none (p .first) xs)) refl $
+      move ! (22 ∷ 23 ∷ 24 ∷ []) $ opens-slice ! tt T.the-row xs b o $
+      rewrite ! 0 (λ (zs : List FractionalMos). ‵ (row T.the-row fullShare zs b o)) (sym (stored-none (p .first) xs)) refl $
       loops-at p (spelled p v was) e 𝓣 fm known-next l₀ l₁ l₂ l₃ l₄ l₅ l₆ l₇ l₈ l₉ k₀)))))))))))))))
     where
       spelled : (p : Listing) (v : Val) → Is P.the-row p (v ∷ []) → Is P.the-row p (P-val p ∷ [])
       spelled p v was = subst (Is P.the-row p) (LL.tells P.the-type P′.the-laws p _ was) was
 
-module _ {M : Type 1} (𝓤 : URA M) (H : Heap 𝓤) (A : Atoms 𝓤) (W : Given 𝓤 H A) (at-mem : Memory → SProp 𝓤) (run : Routine → Fun 𝓤) (𝓣 : Tables 𝓤 H)
+module _ {M : Type 1} (𝓤 : URA M) (H : Heap 𝓤) (A : Atoms 𝓤) (W : Given 𝓤 H A) (at-mem : Memory → SProp 𝓤) (run : Routine → Fun 𝓤)
+    (𝓣 : Tables 𝓤 H)
     (known-next : Triple 𝓤 (𝓣 .C #next) (Next 𝓤 H A at-mem run)) (known-plan : Triple 𝓤 (𝓣 .C #plan) (Plan 𝓤 H A at-mem run)) where
   walks : Walks 𝓤 H A f.ended stayed (WpFn 𝓤 H (𝓣 .C) (𝓣 .Λ) code.function) (f.clauses 𝓤 H A at-mem run)
-  walks = walked 𝓤 H A f.ended stayed (f.clauses 𝓤 H A at-mem run) (WpFn 𝓤 H (𝓣 .C) (𝓣 .Λ) code.function) (λ κs. (float-vals binary64, (slice-vals, tt))) (λ κs. (float-tells binary64, (mut-slice-tells (named 0) (κs .0) T.the-row, tt)))
+  walks = walked 𝓤 H A f.ended stayed (f.clauses 𝓤 H A at-mem run) (WpFn 𝓤 H (𝓣 .C) (𝓣 .Λ) code.function)
+      (λ κs. (float-vals binary64, (slice-vals, tt))) (λ κs. (float-tells binary64, (mut-slice-tells (named 0) (κs .0) T.the-row, tt)))
       (λ κs qs bounds a _ are. via 𝓤 _ (fst∗ 𝓤 _ (emp 𝓤))
-      (walk 𝓤 H A W at-mem run (κs .0) (qs .0) (a .1 .0 .ptr .0) (a .1 .0 .ptr .1) (a .1 .0 .name) (a .1 .0 .now) (a .0) (are .0) (are .1 .0 .0 .1) 𝓣 (fmOf 𝓤 H (W .laws) 𝓣) known-next known-plan))
+      (walk 𝓤 H A W at-mem run (κs .0) (qs .0) (a .1 .0 .ptr .0) (a .1 .0 .ptr .1) (a .1 .0 .name) (a .1 .0 .now) (a .0) (are .0)
+      (are .1 .0 .0 .1) 𝓣 (fmOf 𝓤 H (W .laws) 𝓣) known-next known-plan))
 
   goes : AllGo 𝓤 H A W 1 (f.signature .params) (f.ended .kept) stayed
   goes = (goes-none 𝓤 H A W 1 (λ _. f64) yes (λ κs x f. refl), (goes-slice 𝓤 H A W 1 0 tt (plain (λ _. T.the-row)), tt))
 
   meets : Meets 𝓤 H A f.signature (WpFn 𝓤 H (𝓣 .C) (𝓣 .Λ) code.function) (f.spec 𝓤 H A at-mem run)
-  meets = walk-meets 𝓤 H A f.ended stayed W goes (f.clauses 𝓤 H A at-mem run) (WpFn 𝓤 H (𝓣 .C) (𝓣 .Λ) code.function) (WpFn-mono 𝓤 H (W .laws) 𝓣 code.function) walks
+  meets = walk-meets 𝓤 H A f.ended stayed W goes (f.clauses 𝓤 H A at-mem run) (WpFn 𝓤 H (𝓣 .C) (𝓣 .Λ) code.function)
+      (WpFn-mono 𝓤 H (W .laws) 𝓣 code.function) walks
 
 pub children-spec : {M : Type 1} → stated.statement M
 unfolding code.routine tablesOf
@@ -333,5 +397,7 @@ children-spec 𝓤 H 𝓜 𝓖 𝓡 =
     entered 𝓤 H (tripleOf 𝓤 H (𝓖 .A) f.signature (f.spec 𝓤 H (𝓖 .A) (𝓜 .mem) (𝓡 .run)))
     (tables 𝓤 H 𝓜 𝓡 code.env .C) (tables 𝓤 H 𝓜 𝓡 code.env .Λ) #children code.function (code.unfolded 𝓤 H 𝓜 𝓡)
     (meets 𝓤 H (𝓖 .A) (givenOf 𝓤 H 𝓜 𝓖) (𝓜 .mem) (𝓡 .run) (tablesOf 𝓤 H 𝓜 (tables 𝓤 H 𝓜 𝓡 code.env))
-    (cited 𝓤 H (Next 𝓤 H (𝓖 .A) (𝓜 .mem) (𝓡 .run)) 𝓜 𝓡 code.env #next next-def.routine code.calls-mos-fractional·walks·next (next-thm.met 𝓤 H 𝓜 𝓖 𝓡))
-    (cited 𝓤 H (Plan 𝓤 H (𝓖 .A) (𝓜 .mem) (𝓡 .run)) 𝓜 𝓡 code.env #plan plan-def.routine code.calls-mos-fractional·walks·plan (plan-thm.met 𝓤 H 𝓜 𝓖 𝓡)))
+    (cited 𝓤 H (Next 𝓤 H (𝓖 .A) (𝓜 .mem) (𝓡 .run)) 𝓜 𝓡 code.env #next next-def.routine code.calls-mos-fractional·walks·next
+    (next-thm.met 𝓤 H 𝓜 𝓖 𝓡))
+    (cited 𝓤 H (Plan 𝓤 H (𝓖 .A) (𝓜 .mem) (𝓡 .run)) 𝓜 𝓡 code.env #plan plan-def.routine code.calls-mos-fractional·walks·plan
+    (plan-thm.met 𝓤 H 𝓜 𝓖 𝓡)))

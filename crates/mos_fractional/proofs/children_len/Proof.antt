@@ -21,16 +21,19 @@ enum-known-genesis-2 c = search needs
 
 count-from-requires : tie.Need-count-from-requires
 count-from-requires c κs =
-    growing-told (c .before .before .before .before .args .generator) (sym (ap fractionalOutcome (c .before .genesis2 .given .1)) ∙ c .before .before .before .new-genesis .ensures)
+    growing-told (c .before .before .before .before .args .generator)
+    (sym (ap fractionalOutcome (c .before .genesis2 .given .1)) ∙ c .before .before .before .new-genesis .ensures)
 
 returns : tie.Need-returns
 returns c =
-    same-refusal (c .before .before .before .before .args .generator) _ (sym (ap fractionalOutcome (c .before .genesis .given .1)) ∙ c .before .before .before .new-genesis .ensures)
+    same-refusal (c .before .before .before .before .args .generator) _
+    (sym (ap fractionalOutcome (c .before .genesis .given .1)) ∙ c .before .before .before .new-genesis .ensures)
 
 returns-2 : tie.Need-returns-2
 returns-2 c =
     fact-told (c .before .before .before .before .before .args .generator) (λ (m : FractionalMos). length (children m))
-    (sym (ap fractionalOutcome (c .before .before .genesis2 .given .1)) ∙ c .before .before .before .before .new-genesis .ensures) (c .count-from .ensures)
+    (sym (ap fractionalOutcome (c .before .before .genesis2 .given .1)) ∙ c .before .before .before .before .new-genesis .ensures)
+    (c .count-from .ensures)
 
 pub children-len-spec : {M : Type 1} → statement M
 children-len-spec =

@@ -21,7 +21,8 @@ enum-known-genesis-2 c = search needs
 
 nth-from-requires : tie.Need-nth-from-requires
 nth-from-requires c κs =
-    growing-told (c .before .before .before .before .args .generator) (sym (ap fractionalOutcome (c .before .genesis2 .given .1)) ∙ c .before .before .before .new-genesis .ensures)
+    growing-told (c .before .before .before .before .args .generator)
+    (sym (ap fractionalOutcome (c .before .genesis2 .given .1)) ∙ c .before .before .before .new-genesis .ensures)
 
 enum-known-found : tie.Need-enum-known-found
 enum-known-found c = search needs
@@ -31,20 +32,23 @@ enum-told c = search needs
 
 returns : tie.Need-returns
 returns c =
-    same-refusal (c .before .before .before .before .args .generator) _ (sym (ap fractionalOutcome (c .before .genesis .given .1)) ∙ c .before .before .before .new-genesis .ensures)
+    same-refusal (c .before .before .before .before .args .generator) _
+    (sym (ap fractionalOutcome (c .before .genesis .given .1)) ∙ c .before .before .before .new-genesis .ensures)
 
 returns-2 : tie.Need-returns-2
 returns-2 c =
     let start = c .before .before .before .before .before .before .before .before .args in
     fact-told (start .generator) (λ (m : FractionalMos). getElem? (children m) (start .k))
-    (sym (ap fractionalOutcome (c .before .before .before .before .before .genesis2 .given .1)) ∙ c .before .before .before .before .before .before .before .new-genesis .ensures)
+    (sym (ap fractionalOutcome (c .before .before .before .before .before .genesis2 .given .1))
+    ∙ c .before .before .before .before .before .before .before .new-genesis .ensures)
     (sym (ap childIn (c .before .found .given .1)) ∙ c .before .before .before .nth-from .ensures)
 
 returns-3 : tie.Need-returns-3
 returns-3 c =
     let start = c .before .before .before .before .before .before .before .args in
     fact-told (start .generator) (λ (m : FractionalMos). getElem? (children m) (start .k))
-    (sym (ap fractionalOutcome (c .before .before .before .before .genesis2 .given .1)) ∙ c .before .before .before .before .before .before .new-genesis .ensures)
+    (sym (ap fractionalOutcome (c .before .before .before .before .genesis2 .given .1))
+    ∙ c .before .before .before .before .before .before .new-genesis .ensures)
     (sym (ap childIn (c .enum-told .given .1)) ∙ c .before .before .nth-from .ensures)
 
 pub nth-child-spec : {M : Type 1} → statement M

@@ -34,12 +34,14 @@ add-t11 c = search needs
 returns-5 : tie.Need-returns-5
 unfolding ofBits
 returns-5 c =
-    longer-secondary _ (c .before .before .before .before .if1 .left) (c .before .before .before .if2 .left) (omega arith) (c .before .if4 .left) (c .if5 .taken)
+    longer-secondary _ (c .before .before .before .before .if1 .left) (c .before .before .before .if2 .left) (omega arith)
+    (c .before .if4 .left) (c .if5 .taken)
 
 returns-6 : tie.Need-returns-6
 unfolding ofBits
 returns-6 c =
-    none-longer _ (c .before .before .before .before .if1 .left) (c .before .before .before .if2 .left) (omega arith) (c .before .if4 .left) (c .if5 .left)
+    none-longer _ (c .before .before .before .before .if1 .left) (c .before .before .before .if2 .left) (omega arith) (c .before .if4 .left)
+    (c .if5 .left)
 
 pub child-spec : {M : Type 1} → statement M
 child-spec =

@@ -14,7 +14,8 @@ use Rattle.mos_fractional.proofs.walks.count_from.Statement.{statement}
 use Rattle.mos_fractional.proofs.walks.count_from.Tie as tie
 
 abbrev Inv-loop : tie.InvT-loop
-Inv-loop here₀ count₀ here count = Growing here × (count + length (children here) ≡ count₀ + length (children here₀)) × (count < countOf here)
+Inv-loop here₀ count₀ here count =
+    Growing here × (count + length (children here) ≡ count₀ + length (children here₀)) × (count < countOf here)
 
 abbrev μ-loop : tie.MeasureT-loop
 μ-loop here₀ count₀ here count = left here
@@ -42,8 +43,11 @@ loop-less c =
 loop-again : tie.Need-loop-again Inv-loop μ-loop
 loop-again c =
     let at = c .before .before .before .before .loop in
-    let e = sym (c .before .before .before .child .ensures) ∙ ap childIn (c .before .answer .given .1) in
-    (growing-child (at .here) _ (at .inv .0) e, omega (arith, at .inv .1, length-next (at .here) (at .inv .0) _ e), omega (arith, at .inv .2, child-grows (child-at e) (at .inv .0 .0) (at .inv .0 .1)))
+    let e = sym (c .before .before .before .child .ensures) ∙ ap childIn (c .before .answer .given .1) in (
+      growing-child (at .here) _ (at .inv .0) e,
+      omega (arith, at .inv .1, length-next (at .here) (at .inv .0) _ e),
+      omega (arith, at .inv .2, child-grows (child-at e) (at .inv .0 .0) (at .inv .0 .1)),
+    )
 
 enum-told : tie.Need-enum-told Inv-loop μ-loop
 enum-told c = search needs
@@ -51,7 +55,12 @@ enum-told c = search needs
 returns : tie.Need-returns Inv-loop μ-loop
 returns c =
     let at = c .before .before .before .loop in
-    omega (arith, at .inv .1, length-end (at .here) (at .inv .0) (sym (c .before .before .child .ensures) ∙ ap childIn (c .enum-told .given .1)))
+    omega (
+      arith,
+      at .inv .1,
+      length-end (at .here) (at .inv .0)
+          (sym (c .before .before .child .ensures) ∙ ap childIn (c .enum-told .given .1)),
+    )
 
 pub count-from-spec : {M : Type 1} → statement M
 count-from-spec =

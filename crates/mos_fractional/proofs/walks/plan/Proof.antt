@@ -18,25 +18,29 @@ enum-known-genesis-2 c = search needs
 
 count-from-requires : tie.Need-count-from-requires
 count-from-requires c κs =
-    growing-told (c .before .before .before .before .args .generator) (sym (ap fractionalOutcome (c .before .genesis2 .given .1)) ∙ c .before .before .before .new-genesis .ensures)
+    growing-told (c .before .before .before .before .args .generator)
+    (sym (ap fractionalOutcome (c .before .genesis2 .given .1)) ∙ c .before .before .before .new-genesis .ensures)
 
 returns : tie.Need-returns
 returns c =
     let start = c .before .before .before .before .before .before .args in
     planned-short (start .generator) (start .room) _
-    (sym (ap fractionalOutcome (c .before .before .before .genesis2 .given .1)) ∙ c .before .before .before .before .before .new-genesis .ensures)
+    (sym (ap fractionalOutcome (c .before .before .before .genesis2 .given .1))
+    ∙ c .before .before .before .before .before .new-genesis .ensures)
     _ (c .before .count-from .ensures) (c .if1 .taken)
 
 returns-2 : tie.Need-returns-2
 returns-2 c =
     let start = c .before .before .before .before .args in
-    planned-refused (start .generator) (start .room) _ _ (sym (ap fractionalOutcome (c .before .genesis .given .1)) ∙ c .before .before .before .new-genesis .ensures)
+    planned-refused (start .generator) (start .room) _ _
+    (sym (ap fractionalOutcome (c .before .genesis .given .1)) ∙ c .before .before .before .new-genesis .ensures)
 
 returns-3 : tie.Need-returns-3
 returns-3 c =
     let start = c .before .before .before .before .before .before .args in
     planned-whole (start .generator) (start .room) _
-    (sym (ap fractionalOutcome (c .before .before .before .genesis2 .given .1)) ∙ c .before .before .before .before .before .new-genesis .ensures)
+    (sym (ap fractionalOutcome (c .before .before .before .genesis2 .given .1))
+    ∙ c .before .before .before .before .before .new-genesis .ensures)
     _ (c .before .count-from .ensures) (c .if1 .left)
 
 pub plan-spec : {M : Type 1} → statement M

@@ -132,12 +132,15 @@ module _ {M : Type 1} (𝓤 : URA M) (H : Heap 𝓤) (A : Atoms 𝓤) (W : Given
       long : length zs ≡ n
 
     exits : (zs : List FractionalMos) → Last zs
-        → ent 𝓤 (⋆ 𝓤 H A (‵ (fobs γ (codedHoleys T.the-row .code (heres T.the-row zs))) ∷ ‵ (fbor κ (Held T.the-row (length zs) b o γ)) ∷ ‵ (flft κ q) ∷ []))
+        → ent 𝓤 (⋆ 𝓤 H A (‵ (fobs γ (codedHoleys T.the-row .code (heres T.the-row zs))) ∷ ‵ (fbor κ (Held T.the-row (length zs) b o γ))
+        ∷ ‵ (flft κ q) ∷ []))
         (Post code-val)
     exits zs last =
-        qed W (‵ (fobs γ (codedHoleys T.the-row .code (heres T.the-row zs))) ∷ ‵ (fbor κ (Held T.the-row (length zs) b o γ)) ∷ ‵ (flft κ q) ∷ []) ∵
+        qed W (‵ (fobs γ (codedHoleys T.the-row .code (heres T.the-row zs))) ∷ ‵ (fbor κ (Held T.the-row (length zs) b o γ)) ∷ ‵ (flft κ q)
+        ∷ []) ∵
         suffices ! _
-        (ends-at 𝓤 H A f.ended stayed (f.clauses 𝓤 H A at-mem run) W (((κ, tt), (q, tt), tt, x, at), tt) code-val (p .code) (tt, (zs, tt)) (tt, (last .long, tt))) $
+        (ends-at 𝓤 H A f.ended stayed (f.clauses 𝓤 H A at-mem run) W (((κ, tt), (q, tt), tt, x, at), tt) code-val (p .code) (tt, (zs, tt))
+        (tt, (last .long, tt))) $
         says ! (record { answered = e .code; content = last .content ∙ e .store xs refl }) $
         nothing ! $ move ! (3 ∷ 0 ∷ []) $ join ! $ frame ! $
         fjoin ! $
@@ -162,8 +165,10 @@ module _ {M : Type 1} (𝓤 : URA M) (H : Heap 𝓤) (A : Atoms 𝓤) (W : Given
       At zs =
           ‵ (fobs γ (codedHoleys T.the-row .code (heres T.the-row zs))) ∷ ‵ (fbor κ (Held T.the-row (length zs) b o γ)) ∷ ‵ (flft κ q)
           ∷ ‵ (froom tyPtr l₇ 0) ∷ ‵ (fdies tyPtr l₇) ∷ ‵ (froom (tyInt w64) l₆ 0) ∷ ‵ (fdies (tyInt w64) l₆)
-          ∷ ‵ (fat fullShare (tyInt w64) l₅ 0 (vint w64 n)) ∷ ‵ (fdies (tyInt w64) l₅) ∷ ‵ (fat fullShare tyBool l₄ 0 (vbool (p .stores))) ∷ ‵ (fdies tyBool l₄)
-          ∷ ‵ (fat fullShare P′.mir l₃ 0 (P-val p)) ∷ ‵ (fdies P′.mir l₃) ∷ ‵ (fat fullShare slice l₂ 0 (sliceVal (b, o) n)) ∷ ‵ (fdies slice l₂)
+          ∷ ‵ (fat fullShare (tyInt w64) l₅ 0 (vint w64 n)) ∷ ‵ (fdies (tyInt w64) l₅) ∷ ‵ (fat fullShare tyBool l₄ 0 (vbool (p .stores)))
+          ∷ ‵ (fdies tyBool l₄)
+          ∷ ‵ (fat fullShare P′.mir l₃ 0 (P-val p)) ∷ ‵ (fdies P′.mir l₃) ∷ ‵ (fat fullShare slice l₂ 0 (sliceVal (b, o) n))
+          ∷ ‵ (fdies slice l₂)
           ∷ ‵ (fat fullShare T′.mir l₁ 0 (T-val pat)) ∷ ‵ (fdies T′.mir l₁) ∷ ‵ (froom (tyInt w64) l₀ 0) ∷ ‵ (fdies (tyInt w64) l₀) ∷ []
 
       -- the code is returned
@@ -171,9 +176,12 @@ module _ {M : Type 1} (𝓤 : URA M) (H : Heap 𝓤) (A : Atoms 𝓤) (W : Given
       rest-at zs last =
           assigns ! (of-opd ! (load ! (from ! (fld ! refl (stop !))) (look-in ! 11 (sub ! 0 refl (whole !))))) (from ! (stop !))
           (init ! 17 refl (sint-lawful 𝓤 H A W w64 .typed (p .code) _ code-is .0)) $
-          returns ! (look ! 17 refl) $ forget ! 7 refl $ forget ! 9 refl $ forget ! 11 refl $ forget ! 13 refl $ forget ! 15 refl $ forget ! 17 refl $
-          move ! (17 ∷ 18 ∷ []) $ free1 ! $ move ! (15 ∷ 16 ∷ []) $ free1 ! $ move ! (13 ∷ 14 ∷ []) $ free1 ! $ move ! (11 ∷ 12 ∷ []) $ free1 ! $
-          move ! (9 ∷ 10 ∷ []) $ free1 ! $ move ! (7 ∷ 8 ∷ []) $ free1 ! $ move ! (5 ∷ 6 ∷ []) $ free1 ! $ move ! (3 ∷ 4 ∷ []) $ free1 ! $ free0 ! $
+          returns ! (look ! 17 refl) $ forget ! 7 refl $ forget ! 9 refl $ forget ! 11 refl $ forget ! 13 refl $ forget ! 15 refl $
+          forget ! 17 refl $
+          move ! (17 ∷ 18 ∷ []) $ free1 ! $ move ! (15 ∷ 16 ∷ []) $ free1 ! $ move ! (13 ∷ 14 ∷ []) $ free1 ! $ move ! (11 ∷ 12 ∷ []) $
+          free1 ! $
+          move ! (9 ∷ 10 ∷ []) $ free1 ! $ move ! (7 ∷ 8 ∷ []) $ free1 ! $ move ! (5 ∷ 6 ∷ []) $ free1 ! $ move ! (3 ∷ 4 ∷ []) $ free1 ! $
+          free0 ! $
           by ! (exits zs last)
 
       -- a store at the front, or none
@@ -183,8 +191,10 @@ module _ {M : Type 1} (𝓤 : URA M) (H : Heap 𝓤) (A : Atoms 𝓤) (W : Given
           (λ yes-stores.
           opens-slice ! tt T.the-row xs b o $
           -- [the row; the open borrow; obs; auth; …]: local j's cell stands at 4 + 2 · (7 − j)
-          assigns ! (bin ! (lit ! tt) (lit ! tt) (record { fits = lit< tt })) (from ! (stop !)) (init ! 6 refl (tt, record { fits = lit< tt })) $
-          assigns ! (bin ! (load ! (from ! (fld ! refl (stop !))) (look-in ! 14 (sub ! 0 refl (whole !)))) (load ! (from ! (stop !)) (look ! 6 refl)) tt)
+          assigns ! (bin ! (lit ! tt) (lit ! tt) (record { fits = lit< tt })) (from ! (stop !))
+          (init ! 6 refl (tt, record { fits = lit< tt })) $
+          assigns ! (bin ! (load ! (from ! (fld ! refl (stop !))) (look-in ! 14 (sub ! 0 refl (whole !))))
+          (load ! (from ! (stop !)) (look ! 6 refl)) tt)
           (from ! (stop !)) (init ! 4 refl (tt, tt)) $
           rewrite ! 4 (λ (z : ℕ). ‵ (fat fullShare tyPtr l₇ 0 (vptr b z))) (sym (place-is (mem T.the-row .size) o 0)) refl $
           elem-out ! T.the-row (Is T.the-row) (shows 𝓤 H A T.the-row) T-vals (LL.tells T.the-type T′.the-laws) fullShare xs 0 (p .child) b o
@@ -193,9 +203,11 @@ module _ {M : Type 1} (𝓤 : URA M) (H : Heap 𝓤) (A : Atoms 𝓤) (W : Given
           owned ! T.the-row (Is T.the-row) (LL.makes T.the-type T′.the-plain 𝓤 H A) (p .child) (T-vals (p .child)) child-is $
           -- [what the child owns; the element; the others; the open borrow; obs; auth; …]: local j's cell stands at 6 + 2 · (7 − j)
           assigns-last ! (of-opd ! (load ! (from ! (fld ! refl (stop !))) (look-in ! 14 (sub ! 2 refl (whole !)))))
-          (from ! (hop ! (look ! 6 refl) (stop !))) (store-raw ! 1 refl (LL.lawful T.the-type T′.the-laws 𝓤 H A W .typed (p .child) _ child-is .0)) $
+          (from ! (hop ! (look ! 6 refl) (stop !)))
+          (store-raw ! 1 refl (LL.lawful T.the-type T′.the-laws 𝓤 H A W .typed (p .child) _ child-is .0)) $
           exec ! C Λ En mir.t-5 (atRet En Post) $
-          move ! (1 ∷ 0 ∷ []) $ elem-put ! T.the-row fullShare xs 0 (p .child) (T-vals (p .child)) b o (e .fits (is-true (p .stores) yes-stores)) $
+          move ! (1 ∷ 0 ∷ []) $
+          elem-put ! T.the-row fullShare xs 0 (p .child) (T-vals (p .child)) b o (e .fits (is-true (p .stores) yes-stores)) $
           closes-slice ! tt T.the-row xs (set xs 0 (p .child)) (length-set xs 0 _) b o $
           forget ! 3 refl $ forget ! 5 refl $
           rest-at (set xs 0 (p .child))
@@ -218,13 +230,16 @@ module _ {M : Type 1} (𝓤 : URA M) (H : Heap 𝓤) (A : Atoms 𝓤) (W : Given
 
   -- the MIR up to the branch: the call, and what the plan holds
   walk : (𝓣 : Tables 𝓤 H) → FmC 𝓤 H (W .laws) (𝓣 .C) → Triple 𝓤 (𝓣 .C #plan-child) (Plan 𝓤 H A at-mem run)
-      → ent 𝓤 (onEntry 𝓤 H A f.signature (κ, tt) (q, tt) x at) (WpFn 𝓤 H (𝓣 .C) (𝓣 .Λ) code.function (T-val pat ∷ sliceVal (b, o) n ∷ []) Post)
+      → ent 𝓤 (onEntry 𝓤 H A f.signature (κ, tt) (q, tt) x at)
+      (WpFn 𝓤 H (𝓣 .C) (𝓣 .Λ) code.function (T-val pat ∷ sliceVal (b, o) n ∷ []) Post)
   walk 𝓣 fm known-plan =
       qed W ((‵ (flft κ q) ⊛ ‵ ftrue) ∷ ‵ (owns (T.the-row ∷ MutSlice (named 0) κ T.the-row ∷ []) x at) ∷ []) ∵
       split ! $ move ! (2 ∷ []) $ fsplit ! $ drop ! $ fsplit ! $ fsplit ! $ drop ! $ fsplit ! $ keep ! (0 ∷ 1 ∷ 3 ∷ []) $
       -- [obs; the borrow; the token]
       enter ! (𝓣 .C) (𝓣 .Λ) code.function (T-val pat ∷ sliceVal (b, o) n ∷ []) _ $
-      alloc1 ! (λ l₀. alloc1 ! (λ l₁. alloc1 ! (λ l₂. alloc1 ! (λ l₃. alloc1 ! (λ l₄. alloc1 ! (λ l₅. alloc1 ! (λ l₆. alloc1 ! (λ l₇. alloc0 ! $ params1 ! $
+      alloc1 ! (λ l₀. alloc1 ! (λ l₁. alloc1 ! (λ l₂. alloc1 ! (λ l₃. alloc1 ! (λ l₄. alloc1 ! (λ l₅.
+      alloc1 ! (λ l₆. alloc1 ! (λ l₇. alloc0 ! $
+      params1 ! $
       -- local j's cell stands at 2 · (7 − j)
       pass1 ! (init ! 12 refl (LL.lawful T.the-type T′.the-laws 𝓤 H A W .typed pat _ pat-is .0)) $
       pass1 ! (init ! 10 refl (tt, (tt, (record { fits = g .0 }, tt)))) $ pass0 ! $
@@ -237,19 +252,23 @@ module _ {M : Type 1} (𝓤 : URA M) (H : Heap 𝓤) (A : Atoms 𝓤) (W : Given
       (later
       (some
       (λ (p : ChildPlan).
-      (‵ ftrue ⊛ ‵ (P.the-row .own p (v ∷ []))) ⊛ raw (ensured 𝓤 H A plans.ended (plans.clauses 𝓤 H A at-mem run) tt (pat, (n, tt)) tt p)))) (id⊢ 𝓤 _) $
+      (‵ ftrue ⊛ ‵ (P.the-row .own p (v ∷ []))) ⊛ raw (ensured 𝓤 H A plans.ended (plans.clauses 𝓤 H A at-mem run) tt (pat, (n, tt)) tt p))))
+      (id⊢ 𝓤 _) $
       await ! tt $ pick ! (λ p. split ! $ move ! (1 ∷ []) $
-      use1 W (raw (fact 𝓤 (PlansChild pat n p))) (plan-says 𝓤 H A at-mem run pat n p) $ heard ! (PlansChild pat n p) (λ e. split ! $ drop ! $
+      use1 W (raw (fact 𝓤 (PlansChild pat n p))) (plan-says 𝓤 H A at-mem run pat n p) $ heard ! (PlansChild pat n p) (λ e. split ! $
+      drop ! $
       facts ! P.the-row (Is P.the-row) (shows 𝓤 H A P.the-row) p (v ∷ []) (λ was.
       land ! (from ! (stop !)) (init ! 8 refl (LL.lawful P.the-type P′.the-laws 𝓤 H A W .typed p _ was .0)) $
       rewrite ! 8 (λ (w : Val). ‵ (fat fullShare P′.mir l₃ 0 w)) (ap only (LL.tells P.the-type P′.the-laws p _ was)) refl $
-      assigns ! (of-opd ! (load ! (from ! (fld ! refl (stop !))) (look-in ! 8 (sub ! 1 refl (whole !))))) (from ! (stop !)) (init ! 6 refl (tt, tt)) $
+      assigns ! (of-opd ! (load ! (from ! (fld ! refl (stop !))) (look-in ! 8 (sub ! 1 refl (whole !))))) (from ! (stop !))
+      (init ! 6 refl (tt, tt)) $
       move ! (16 ∷ 17 ∷ 18 ∷ []) $ branch-at p (spelled p v was) e 𝓣 l₀ l₁ l₂ l₃ l₄ l₅ l₆ l₇))))))))))))
     where
       spelled : (p : ChildPlan) (v : Val) → Is P.the-row p (v ∷ []) → Is P.the-row p (P-val p ∷ [])
       spelled p v was = subst (Is P.the-row p) (LL.tells P.the-type P′.the-laws p _ was) was
 
-module _ {M : Type 1} (𝓤 : URA M) (H : Heap 𝓤) (A : Atoms 𝓤) (W : Given 𝓤 H A) (at-mem : Memory → SProp 𝓤) (run : Routine → Fun 𝓤) (𝓣 : Tables 𝓤 H)
+module _ {M : Type 1} (𝓤 : URA M) (H : Heap 𝓤) (A : Atoms 𝓤) (W : Given 𝓤 H A) (at-mem : Memory → SProp 𝓤) (run : Routine → Fun 𝓤)
+    (𝓣 : Tables 𝓤 H)
     (known-plan : Triple 𝓤 (𝓣 .C #plan-child) (Plan 𝓤 H A at-mem run)) where
   walks : Walks 𝓤 H A f.ended stayed (WpFn 𝓤 H (𝓣 .C) (𝓣 .Λ) code.function) (f.clauses 𝓤 H A at-mem run)
   walks =
@@ -259,7 +278,8 @@ module _ {M : Type 1} (𝓤 : URA M) (H : Heap 𝓤) (A : Atoms 𝓤) (W : Given
       (λ κs qs bounds a _ are.
       via 𝓤 _ (fst∗ 𝓤 _ (emp 𝓤))
       (let r = a .1 .0 in
-      walk 𝓤 H A W at-mem run (κs .0) (qs .0) (r .ptr .0) (r .ptr .1) (r .name) (r .now) (a .0) (are .0) (are .1 .0 .0 .1) 𝓣 (fmOf 𝓤 H (W .laws) 𝓣) known-plan))
+      walk 𝓤 H A W at-mem run (κs .0) (qs .0) (r .ptr .0) (r .ptr .1) (r .name) (r .now) (a .0) (are .0) (are .1 .0 .0 .1) 𝓣
+      (fmOf 𝓤 H (W .laws) 𝓣) known-plan))
 
   goes : AllGo 𝓤 H A W 1 (f.signature .params) (f.ended .kept) stayed
   goes = (goes-none 𝓤 H A W 1 (λ _. T.the-row) yes (λ κs x f. refl), (goes-slice 𝓤 H A W 1 0 tt (plain (λ _. T.the-row)), tt))
@@ -275,4 +295,5 @@ vn-fractional-child-spec 𝓤 H 𝓜 𝓖 𝓡 =
     entered 𝓤 H (tripleOf 𝓤 H (𝓖 .A) f.signature (f.spec 𝓤 H (𝓖 .A) (𝓜 .mem) (𝓡 .run)))
     (tables 𝓤 H 𝓜 𝓡 code.env .C) (tables 𝓤 H 𝓜 𝓡 code.env .Λ) #vn-fractional-child code.function (code.unfolded 𝓤 H 𝓜 𝓡)
     (meets 𝓤 H (𝓖 .A) (givenOf 𝓤 H 𝓜 𝓖) (𝓜 .mem) (𝓡 .run) (tablesOf 𝓤 H 𝓜 (tables 𝓤 H 𝓜 𝓡 code.env))
-    (cited 𝓤 H (Plan 𝓤 H (𝓖 .A) (𝓜 .mem) (𝓡 .run)) 𝓜 𝓡 code.env #plan-child plan-def.routine code.calls-vetchnoon·fractional·plan-child (plan-thm.met 𝓤 H 𝓜 𝓖 𝓡)))
+    (cited 𝓤 H (Plan 𝓤 H (𝓖 .A) (𝓜 .mem) (𝓡 .run)) 𝓜 𝓡 code.env #plan-child plan-def.routine code.calls-vetchnoon·fractional·plan-child
+    (plan-thm.met 𝓤 H 𝓜 𝓖 𝓡)))

@@ -161,7 +161,8 @@ module _ {M : Type 1} (𝓤 : URA M) (H : Heap 𝓤) (A : Atoms 𝓤) (W : Given
         pass1 ! (init ! 8 refl (float-lawful 𝓤 H A W binary64 .typed gen _ gen-is .0)) $
         pass1 ! (init ! 6 refl (tt, (tt, (record { fits = room .0 }, tt)))) $ pass0 ! $
         -- the slice once more
-        assigns ! (addr ! (from ! (fld ! refl (hop ! (look-in ! 6 (sub ! 0 refl (whole !))) (stop !))))) (from ! (stop !)) (init ! 2 refl (tt, tt)) $
+        assigns ! (addr ! (from ! (fld ! refl (hop ! (look-in ! 6 (sub ! 0 refl (whole !))) (stop !))))) (from ! (stop !))
+        (init ! 2 refl (tt, tt)) $
         assigns !
         (agg !
         (and-then ! (load ! (from ! (stop !)) (look ! 2 refl))
@@ -191,26 +192,30 @@ module _ {M : Type 1} (𝓤 : URA M) (H : Heap 𝓤) (A : Atoms 𝓤) (W : Given
         rewrite ! 7 (λ (u : Val). ‵ (fat fullShare N′.mir l₃ 0 u)) (ap only (EL.tells N.the-type N′.the-laws r _ was)) refl $
         -- `count`
         use0 W (raw (Count 𝓤 H A mem run .pre (to-count r))) (goes-count r (spelled r v was) (small r (ws .1 .0) e l)) $
-        calls-at ! fm (Count 𝓤 H A mem run) known-count (to-count r) (and-then ! (load ! (from ! (stop !)) (look ! 8 refl)) (no-more !)) (λ w.
+        calls-at ! fm (Count 𝓤 H A mem run) known-count (to-count r) (and-then ! (load ! (from ! (stop !)) (look ! 8 refl)) (no-more !))
+        (λ w.
         use1 W
         (later
         (some
         (λ (z : ℤ).
         (‵ ftrue ⊛ ‵ (i64 .own z (w ∷ []))) ⊛ raw (ensured 𝓤 H A count.ended (count.clauses 𝓤 H A mem run) tt (r, tt) tt z)))) (id⊢ 𝓤 _) $
-        await ! tt $ pick ! (λ z. split ! $ move ! (1 ∷ []) $ use1 W (raw (fact 𝓤 (z ≡ codeOf (countOutcome r)))) (count-says 𝓤 H A mem run r z) $
+        await ! tt $ pick ! (λ z. split ! $ move ! (1 ∷ []) $
+        use1 W (raw (fact 𝓤 (z ≡ codeOf (countOutcome r)))) (count-says 𝓤 H A mem run r z) $
         heard ! (z ≡ codeOf (countOutcome r)) (λ coded. split ! $ drop ! $
         peeks ! i64 (Is i64) (shows 𝓤 H A i64) z (w ∷ []) (λ is.
         -- [the result; the token; the last list; true; …]: local j's cell stands at 4 + 2 · (5 − j)
         land ! (from ! (stop !)) (init ! 14 refl (sint-lawful 𝓤 H A W w64 .typed z _ is .0)) $ returns ! (look ! 14 refl) $
         forget ! 4 refl $ forget ! 6 refl $ forget ! 8 refl $ forget ! 10 refl $ forget ! 12 refl $ forget ! 14 refl $
-        move ! (14 ∷ 15 ∷ []) $ free1 ! $ move ! (12 ∷ 13 ∷ []) $ free1 ! $ move ! (10 ∷ 11 ∷ []) $ free1 ! $ move ! (8 ∷ 9 ∷ []) $ free1 ! $
+        move ! (14 ∷ 15 ∷ []) $ free1 ! $ move ! (12 ∷ 13 ∷ []) $ free1 ! $ move ! (10 ∷ 11 ∷ []) $ free1 ! $ move ! (8 ∷ 9 ∷ []) $
+        free1 ! $
         move ! (6 ∷ 7 ∷ []) $ free1 ! $ move ! (4 ∷ 5 ∷ []) $ free1 ! $ free0 ! $
         keep ! (1 ∷ 2 ∷ 0 ∷ []) $ by ! (exits z w (ws .1 .0) (fills-listed gen r e coded) l)))))))))))))))))
       where
         spelled : (r : CountAnswer) (v : Val) → Is N.the-row r (v ∷ []) → Is N.the-row r (N-val r ∷ [])
         spelled r v was = subst (Is N.the-row r) (EL.tells N.the-type N′.the-laws r _ was) was
 
-module _ {M : Type 1} (𝓤 : URA M) (H : Heap 𝓤) (A : Atoms 𝓤) (W : Given 𝓤 H A) (mem : Memory → SProp 𝓤) (run : Routine → Fun 𝓤) (𝓣 : Tables 𝓤 H)
+module _ {M : Type 1} (𝓤 : URA M) (H : Heap 𝓤) (A : Atoms 𝓤) (W : Given 𝓤 H A) (mem : Memory → SProp 𝓤) (run : Routine → Fun 𝓤)
+    (𝓣 : Tables 𝓤 H)
     (known-list : Triple 𝓤 (𝓣 .C #mos-fractional·children) (List-all 𝓤 H A mem run))
     (known-count : Triple 𝓤 (𝓣 .C #vetchnoon-codes·count) (Count 𝓤 H A mem run)) where
   walks : Walks 𝓤 H A f.ended stayed (WpFn 𝓤 H (𝓣 .C) (𝓣 .Λ) code.function) (f.clauses 𝓤 H A mem run)
@@ -236,7 +241,8 @@ pub vn-fractional-children-spec : {M : Type 1} → stated.statement M
 unfolding code.routine tablesOf
 vn-fractional-children-spec 𝓤 H 𝓜 𝓖 𝓡 =
     entered 𝓤 H (tripleOf 𝓤 H (𝓖 .A) f.signature (f.spec 𝓤 H (𝓖 .A) (𝓜 .mem) (𝓡 .run)))
-    (tables 𝓤 H 𝓜 𝓡 code.env .C) (tables 𝓤 H 𝓜 𝓡 code.env .Λ) #vetchnoon·fractional·vn-fractional-children code.function (code.unfolded 𝓤 H 𝓜 𝓡)
+    (tables 𝓤 H 𝓜 𝓡 code.env .C) (tables 𝓤 H 𝓜 𝓡 code.env .Λ) #vetchnoon·fractional·vn-fractional-children code.function
+    (code.unfolded 𝓤 H 𝓜 𝓡)
     (meets 𝓤 H (𝓖 .A) (givenOf 𝓤 H 𝓜 𝓖) (𝓜 .mem) (𝓡 .run) (tablesOf 𝓤 H 𝓜 (tables 𝓤 H 𝓜 𝓡 code.env))
     (cited 𝓤 H (List-all 𝓤 H (𝓖 .A) (𝓜 .mem) (𝓡 .run)) 𝓜 𝓡 code.env #mos-fractional·children list-def.routine
     code.calls-mos-fractional·children (list-thm.met 𝓤 H 𝓜 𝓖 𝓡))
