@@ -1,38 +1,43 @@
+-- No child, no room for it, or a store: one law for each end.
+use mathlib.Core.Path.{refl, sym, ap, _∙_}
 use borrow.Author.Needs.{needs}
+use mir.Syntax.{w64}
+use Rattle.math.proofs.Signed.{read-back}
+use Rattle.mos_fractional.specs.Answers.{childIn}
+use Rattle.vetchnoon.proofs.FractionalCalls.{plans-none, plans-short, plans-stored}
 use Rattle.vetchnoon.proofs.fractional.plan_child.Statement.{statement}
 use Rattle.vetchnoon.proofs.fractional.plan_child.Tie as tie
-use Rattle.vetchnoon.proofs.fractional.plan_child.Reads as reads
-use Rattle.vetchnoon.proofs.fractional.plan_child.Lts as lts
-use Rattle.mos_fractional.proofs.FractionalMos.child.Reads as child-reads
-use Rattle.vetchnoon_codes.proofs.refused.Reads as refused-reads
 
--- src/fractional.rt:22:9
 child-requires : tie.Need-child-requires
 child-requires c κs = search needs
 
--- src/fractional.rt:24:33
 enum-told : tie.Need-enum-told
 enum-told c = search needs
 
--- src/fractional.rt:29:28
 enum-known-answer : tie.Need-enum-known-answer
 enum-known-answer c = search needs
 
--- src/fractional.rt:32:27
 refused-requires : tie.Need-refused-requires
 refused-requires c κs = search needs
 
--- src/fractional.rt:31:17
 returns : tie.Need-returns
-returns c = ?
+returns c =
+    let start = c .before .before .before .before .before .before .args in
+    plans-short (start .pattern) (start .room) _
+    (sym (c .before .before .before .before .before .child .ensures) ∙ ap childIn (c .before .before .before .answer .given .1))
+    (c .before .if1 .taken) (read-back w64 (c .refused .result) (record { sfits = c .refused .ok }) ∙ c .refused .ensures)
 
--- src/fractional.rt:19:1
 returns-2 : tie.Need-returns-2
-returns-2 c = ?
+returns-2 c =
+    let start = c .before .before .before .args in
+    plans-none (start .pattern) (start .room) _ (sym (c .before .before .child .ensures) ∙ ap childIn (c .enum-told .given .1)) refl
 
--- src/fractional.rt:19:1
 returns-3 : tie.Need-returns-3
-returns-3 c = ?
+returns-3 c =
+    let start = c .before .before .before .before .before .args in
+    plans-stored (start .pattern) (start .room) _
+    (sym (c .before .before .before .before .child .ensures) ∙ ap childIn (c .before .before .answer .given .1))
+    (c .if1 .left) refl
 
 pub plan-child-spec : {M : Type 1} → statement M
 plan-child-spec =

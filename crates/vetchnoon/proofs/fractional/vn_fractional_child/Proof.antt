@@ -2,7 +2,8 @@
 -- `plan_child` is that it meets its contract. Where the plan has a store, the borrow of the slice is opened for it and closed after it;
 -- both ways then go on alike (`rest-at`).
 use mathlib.Core.Path.{_≡_, refl, sym, _∙_, ap, subst}
-use Prim.Native.Nat.{ℕ, _*_, _<_, _^_}
+use Prim.Native.Nat.{ℕ, _+_, _*_, _<_, _^_}
+use native.Mathlib.Nat.{zero-mul}
 use mathlib.Core.Bool.{Bool, true, false, not}
 use mathlib.Core.List.{List, [], _∷_}
 use lib.IntN.{ℤ}
@@ -34,7 +35,7 @@ use denote.Builtin.{usize, i64}
 use denote.Ref.{RefT}
 use denote.Slice.{sliceTy, sliceVal, MutSlice, heres, Room, at-slice, slice-vals, mut-slice-tells, codedHoleys}
 use denote.Lend.{Held}
-use denote.Index.{place-is, elem-out, elem-put, opens-slice, closes-slice}
+use denote.Index.{place, place-is, elem-out, elem-put, opens-slice, closes-slice}
 use denote.Signature.{plain}
 use denote.Steps.{only, owned, facts, heard, nothing}
 use denote.Struct.Laws as LL
@@ -72,6 +73,10 @@ is-true false h = absurd h
 is-false : (t : Bool) → Holds (not t) → t ≡ false
 is-false true h = absurd h
 is-false false h = refl
+
+-- where the first element lies
+front-place : (s o : ℕ) → 0 + o ≡ place s o 0
+front-place s o = ap (λ (k : ℕ). k + o) (sym (zero-mul s)) ∙ sym (place-is s o 0)
 
 -- ---- the function
 
@@ -158,13 +163,13 @@ module _ {M : Type 1} (𝓤 : URA M) (H : Heap 𝓤) (A : Atoms 𝓤) (W : Given
       Λ = 𝓣 .Λ
 
       abbrev En : Env 𝓤 H
-      En = (tyInt w64, l₀) ∷ (T′.mir, l₁) ∷ (slice, l₂) ∷ (P′.mir, l₃) ∷ (tyBool, l₄) ∷ (tyInt w64, l₅) ∷ (tyInt w64, l₆) ∷ (tyPtr, l₇) ∷ []
+      En = (tyInt w64, l₀) ∷ (T′.mir, l₁) ∷ (slice, l₂) ∷ (P′.mir, l₃) ∷ (tyBool, l₄) ∷ (tyInt w64, l₅) ∷ (tyBool, l₆) ∷ (tyPtr, l₇) ∷ []
 
       -- [obs; the borrow; the token; …]: local j's cell stands at 3 + 2 · (7 − j)
       abbrev At : List FractionalMos → List (Item 𝓤)
       At zs =
           ‵ (fobs γ (codedHoleys T.the-row .code (heres T.the-row zs))) ∷ ‵ (fbor κ (Held T.the-row (length zs) b o γ)) ∷ ‵ (flft κ q)
-          ∷ ‵ (froom tyPtr l₇ 0) ∷ ‵ (fdies tyPtr l₇) ∷ ‵ (froom (tyInt w64) l₆ 0) ∷ ‵ (fdies (tyInt w64) l₆)
+          ∷ ‵ (froom tyPtr l₇ 0) ∷ ‵ (fdies tyPtr l₇) ∷ ‵ (fat fullShare tyBool l₆ 0 (vbool (p .stores))) ∷ ‵ (fdies tyBool l₆)
           ∷ ‵ (fat fullShare (tyInt w64) l₅ 0 (vint w64 n)) ∷ ‵ (fdies (tyInt w64) l₅) ∷ ‵ (fat fullShare tyBool l₄ 0 (vbool (p .stores)))
           ∷ ‵ (fdies tyBool l₄)
           ∷ ‵ (fat fullShare P′.mir l₃ 0 (P-val p)) ∷ ‵ (fdies P′.mir l₃) ∷ ‵ (fat fullShare slice l₂ 0 (sliceVal (b, o) n))
@@ -172,11 +177,11 @@ module _ {M : Type 1} (𝓤 : URA M) (H : Heap 𝓤) (A : Atoms 𝓤) (W : Given
           ∷ ‵ (fat fullShare T′.mir l₁ 0 (T-val pat)) ∷ ‵ (fdies T′.mir l₁) ∷ ‵ (froom (tyInt w64) l₀ 0) ∷ ‵ (fdies (tyInt w64) l₀) ∷ []
 
       -- the code is returned
-      rest-at : (zs : List FractionalMos) → Last zs → Sq W (At zs) (runs C Λ En mir.t-5 (atRet En Post))
+      rest-at : (zs : List FractionalMos) → Last zs → Sq W (At zs) (runs C Λ En mir.t-6 (atRet En Post))
       rest-at zs last =
           assigns ! (of-opd ! (load ! (from ! (fld ! refl (stop !))) (look-in ! 11 (sub ! 0 refl (whole !))))) (from ! (stop !))
           (init ! 17 refl (sint-lawful 𝓤 H A W w64 .typed (p .code) _ code-is .0)) $
-          returns ! (look ! 17 refl) $ forget ! 7 refl $ forget ! 9 refl $ forget ! 11 refl $ forget ! 13 refl $ forget ! 15 refl $
+          returns ! (look ! 17 refl) $ forget ! 5 refl $ forget ! 7 refl $ forget ! 9 refl $ forget ! 11 refl $ forget ! 13 refl $ forget ! 15 refl $
           forget ! 17 refl $
           move ! (17 ∷ 18 ∷ []) $ free1 ! $ move ! (15 ∷ 16 ∷ []) $ free1 ! $ move ! (13 ∷ 14 ∷ []) $ free1 ! $ move ! (11 ∷ 12 ∷ []) $
           free1 ! $
@@ -185,18 +190,15 @@ module _ {M : Type 1} (𝓤 : URA M) (H : Heap 𝓤) (A : Atoms 𝓤) (W : Given
           by ! (exits zs last)
 
       -- a store at the front, or none
-      branch-at : Sq W (At xs) (runs C Λ En mir.t-4 (atRet En Post))
+      branch-at : Sq W (At xs) (runs C Λ En mir.t-5 (atRet En Post))
       branch-at =
-          first ! $ branches ! (load ! (from ! (stop !)) (look ! 9 refl))
+          first ! $ branches ! (load ! (from ! (stop !)) (look ! 5 refl))
           (λ yes-stores.
           opens-slice ! tt T.the-row xs b o $
           -- [the row; the open borrow; obs; auth; …]: local j's cell stands at 4 + 2 · (7 − j)
-          assigns ! (bin ! (lit ! tt) (lit ! tt) (record { fits = lit< tt })) (from ! (stop !))
-          (init ! 6 refl (tt, record { fits = lit< tt })) $
-          assigns ! (bin ! (load ! (from ! (fld ! refl (stop !))) (look-in ! 14 (sub ! 0 refl (whole !))))
-          (load ! (from ! (stop !)) (look ! 6 refl)) tt)
-          (from ! (stop !)) (init ! 4 refl (tt, tt)) $
-          rewrite ! 4 (λ (z : ℕ). ‵ (fat fullShare tyPtr l₇ 0 (vptr b z))) (sym (place-is (mem T.the-row .size) o 0)) refl $
+          assigns ! (bin ! (load ! (from ! (fld ! refl (stop !))) (look-in ! 14 (sub ! 0 refl (whole !)))) (lit ! tt) tt) (from ! (stop !))
+          (init ! 4 refl (tt, tt)) $
+          rewrite ! 4 (λ (z : ℕ). ‵ (fat fullShare tyPtr l₇ 0 (vptr b z))) (front-place (mem T.the-row .size) o) refl $
           elem-out ! T.the-row (Is T.the-row) (shows 𝓤 H A T.the-row) T-vals (LL.tells T.the-type T′.the-laws) fullShare xs 0 (p .child) b o
           (e .fits (is-true (p .stores) yes-stores)) (λ was.
           move ! (1 ∷ []) $ drop ! $
@@ -205,18 +207,18 @@ module _ {M : Type 1} (𝓤 : URA M) (H : Heap 𝓤) (A : Atoms 𝓤) (W : Given
           assigns-last ! (of-opd ! (load ! (from ! (fld ! refl (stop !))) (look-in ! 14 (sub ! 2 refl (whole !)))))
           (from ! (hop ! (look ! 6 refl) (stop !)))
           (store-raw ! 1 refl (LL.lawful T.the-type T′.the-laws 𝓤 H A W .typed (p .child) _ child-is .0)) $
-          exec ! C Λ En mir.t-5 (atRet En Post) $
+          exec ! C Λ En mir.t-6 (atRet En Post) $
           move ! (1 ∷ 0 ∷ []) $
           elem-put ! T.the-row fullShare xs 0 (p .child) (T-vals (p .child)) b o (e .fits (is-true (p .stores) yes-stores)) $
           closes-slice ! tt T.the-row xs (set xs 0 (p .child)) (length-set xs 0 _) b o $
-          forget ! 3 refl $ forget ! 5 refl $
+          forget ! 3 refl $
           rest-at (set xs 0 (p .child))
           (record {
             content = sym (ap (λ (t : Bool). putFirst t (p .child) xs) (is-true (p .stores) yes-stores));
             long = length-set xs 0 _;
           })))
           (λ no-stores.
-          skips ! $ exec ! C Λ En mir.t-5 (atRet En Post) $
+          skips ! $ exec ! C Λ En mir.t-6 (atRet En Post) $
           rest-at xs (record { content = sym (ap (λ (t : Bool). putFirst t (p .child) xs) (is-false (p .stores) no-stores)); long = refl }))
 
   abbrev to-plan : Plan 𝓤 H A at-mem run .Ghost
@@ -262,6 +264,7 @@ module _ {M : Type 1} (𝓤 : URA M) (H : Heap 𝓤) (A : Atoms 𝓤) (W : Given
       rewrite ! 8 (λ (w : Val). ‵ (fat fullShare P′.mir l₃ 0 w)) (ap only (LL.tells P.the-type P′.the-laws p _ was)) refl $
       assigns ! (of-opd ! (load ! (from ! (fld ! refl (stop !))) (look-in ! 8 (sub ! 1 refl (whole !))))) (from ! (stop !))
       (init ! 6 refl (tt, tt)) $
+      assigns ! (of-opd ! (load ! (from ! (stop !)) (look ! 6 refl))) (from ! (stop !)) (init ! 2 refl (tt, tt)) $
       move ! (16 ∷ 17 ∷ 18 ∷ []) $ branch-at p (spelled p v was) e 𝓣 l₀ l₁ l₂ l₃ l₄ l₅ l₆ l₇))))))))))))
     where
       spelled : (p : ChildPlan) (v : Val) → Is P.the-row p (v ∷ []) → Is P.the-row p (P-val p ∷ [])
