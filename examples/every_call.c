@@ -36,6 +36,14 @@ static void holds(int line, const void *slice, const void *wanted, size_t bytes)
         holds(__LINE__, moves, wanted, sizeof wanted); \
     } while (0)
 
+/* The records of a sheet: key, sharp index and count, flat index and count, stars, lamp. */
+#define RECORDS(...) \
+    do { \
+        const struct vn_record wanted[] = {__VA_ARGS__}; \
+        holds(__LINE__, records, wanted, sizeof wanted); \
+    } while (0)
+
+static struct vn_record records[8];
 static uint16_t numbers[64];
 static int32_t moves[4 * 65535];
 static uint16_t strip[2400];
@@ -503,6 +511,117 @@ static void call_stored_strips(void)
     holds(__LINE__, text, "\1\377\0", 3);
 }
 
+/* The natural keys of Meantone[7] in twelve steps, as a .kbm file; then what other files map. */
+static void call_mappings(void)
+{
+    static const char file[] = "12\n0\n127\n60\n69\n440.000000\n12\n0\nx\n2\n3\nx\n5\nx\n7\nx\n9\n10\nx\n";
+    static const char commented[] = "!\n5\n0\n127\n60\n69\n440.000000\n00005\nx\n!2\n1\nx\n3\nx\n!end\n";
+    static const char another_size[] = "4\n0\n127\n60\n69\n440.000000\n5\nx\n1\nx\n3\nx\n";
+    static const char another_key[] = "5\n0\n127\n60\n69\n440.000000\n5\nx\n1\n1\n3\nx\n";
+    static const char both[] = "4\n0\n127\n60\n69\n440.000000\n5\nx\n1\nx\n3\nX\n";
+    const size_t len = sizeof file - 1;
+
+    IS(vn_kbm_len(1, 12, 19, 3), (int64_t)len);
+    text[len] = 42;
+    IS(vn_kbm(1, 12, 19, 3, text, len + 1), (int64_t)len);
+    TEXT(file);
+    IS(text[len], 42);
+    IS(vn_kbm(1, 12, 19, 1, text, len), (int64_t)len); /* from C; two of its numbers change places with marks */
+    TEXT("12\n0\n127\n60\n69\n440.000000\n12\n0\nx\n2\nx\n4\n5\nx\n7\nx\n9\nx\n11\n");
+    IS(vn_kbm(1, 12, 19, 3, text, len - 1), -VN_ROOM);
+    IS(vn_kbm(1, 12, 19, 7, text, 0), -VN_START);
+    IS(vn_kbm(0, 12, 19, 9, text, 0), -VN_PATTERN);
+    TEXT("12\n0\n127\n60\n69\n440.000000\n12\n0\nx\n2\nx\n4\n5\nx\n7\nx\n9\nx\n11\n");
+    IS(vn_kbm_len(1, 12, 19, 7), -VN_START);
+    IS(vn_kbm_len(3, 12, 19, 9), -VN_GENERATOR);
+    IS(vn_kbm_len(2, 65534, 65535, 4), 131119);
+
+    numbers[7] = 4711;
+    IS(vn_kbm_read(1, 12, 19, 3, (const uint8_t *)file, len, numbers, 8), 7);
+    NUMBERS(0, 2, 3, 5, 7, 9, 10, 4711);
+    IS(vn_kbm_read(2, 5, 8, 2, (const uint8_t *)commented, sizeof commented - 1, numbers, 2), 2);
+    NUMBERS(1, 3, 3, 5);
+    IS(vn_kbm_read(2, 5, 8, 2, (const uint8_t *)commented, sizeof commented - 1, numbers, 1), -VN_ROOM);
+    IS(vn_kbm_read(2, 5, 8, 2, (const uint8_t *)commented, sizeof commented - 2, numbers, 1), -VN_KBM_LINES);
+    IS(vn_kbm_read(2, 5, 8, 2, (const uint8_t *)both, sizeof both - 1, numbers, 1), -VN_KBM_LINES);
+    IS(vn_kbm_read(2, 5, 8, 2, (const uint8_t *)file, len, numbers, 1), -VN_KBM_LINES);
+    IS(vn_kbm_read(2, 5, 8, 2, (const uint8_t *)file, 0, numbers, 1), -VN_KBM_LINES);
+    IS(vn_kbm_read(2, 5, 8, 2, (const uint8_t *)another_size, sizeof another_size - 1, numbers, 1), -VN_KBM_NUMBERS);
+    IS(vn_kbm_read(2, 5, 8, 2, (const uint8_t *)another_key, sizeof another_key - 1, numbers, 1), -VN_KBM_NUMBERS);
+    IS(vn_kbm_read(2, 5, 8, 5, (const uint8_t *)file, 0, numbers, 0), -VN_START);
+    IS(vn_kbm_read(0, 12, 19, 9, (const uint8_t *)file, 0, numbers, 0), -VN_PATTERN);
+    NUMBERS(1, 3, 3, 5);
+}
+
+/* Records that ask for these keys, and hold something else behind them. */
+static void ask(const int32_t *keys, size_t count)
+{
+    size_t i;
+    memset(records, 0x5A, sizeof records);
+    for (i = 0; i < count; i++)
+        records[i].key = keys[i];
+}
+
+#define ASK(...) \
+    do { \
+        const int32_t keys[] = {__VA_ARGS__}; \
+        ask(keys, sizeof keys / sizeof *keys); \
+    } while (0)
+
+/* The bytes of the records from a place on are untouched. */
+static void records_untouched(int line, size_t from)
+{
+    static uint8_t filled[sizeof records];
+    memset(filled, 0x5A, sizeof filled);
+    holds(line, records + from, filled, sizeof records - from * sizeof records[0]);
+}
+
+static void call_sheets(void)
+{
+    struct vn_record before[3];
+
+    /* Key 1 twice, below 0, an octave above and below, both ends: each record at its own place. */
+    ASK(1, 0, 1, -1, 12, -12, INT32_MAX, INT32_MIN);
+    IS(vn_sheet(1, 12, 19, 3, records, 8), 8);
+    RECORDS({1, 3, 1, 5, 1, 0, E}, {0, 3, 0, 3, 0, 0, 0}, {1, 3, 1, 5, 1, 0, E}, {-1, 1, 1, 3, 1, 0, E},
+            {12, 3, 0, 3, 0, 0, 0}, {-12, 3, 0, 3, 0, 0, 0}, {INT32_MAX, 4, 0, 4, 0, 0, 1}, {INT32_MIN, 0, 1, 2, 1, 0, E});
+
+    /* Stars, and what lies past the list. */
+    ASK(3, 2, -1, 65537);
+    IS(vn_sheet(1, 24, 38, 3, records, 4), 4);
+    RECORDS({3, 3, 1, 5, 1, 1, 3}, {2, 3, 1, 5, 1, 0, E}, {-1, 1, 1, 3, 1, 1, 3}, {65537, 4, 1, 6, 1, 1, 3});
+    records_untouched(__LINE__, 4);
+
+    /* More flats than sharps; another letter on key 0. */
+    ASK(7);
+    IS(vn_sheet(1, 31, 49, 3, records, 1), 1);
+    RECORDS({7, 5, 1, 2, 3, 0, 2});
+    records_untouched(__LINE__, 1);
+    ASK(-1, 0);
+    IS(vn_sheet(1, 12, 19, 1, records, 2), 2);
+    RECORDS({-1, 6, 0, 6, 0, 0, 1}, {0, 1, 0, 1, 0, 0, 0});
+
+    /* A strip of two octaves: keys an octave apart have one name and two colours. */
+    ASK(1, 9, 17, 8, -1, -9, INT32_MIN);
+    IS(vn_sheet(3, 8, 13, 3, records, 7), 7);
+    RECORDS({1, 4, 0, 4, 0, 0, 1}, {9, 4, 0, 4, 0, 0, E}, {17, 4, 0, 4, 0, 0, 1}, {8, 3, 0, 3, 0, 0, 0},
+            {-1, 2, 0, 2, 0, 0, 1}, {-9, 2, 0, 2, 0, 0, E}, {INT32_MIN, 3, 0, 3, 0, 0, 0});
+
+    /* No record; and a refused layout, which touches none, asked for some and for none. */
+    ASK(1, 0, 1);
+    memcpy(before, records, sizeof before);
+    IS(vn_sheet(1, 12, 19, 3, records, 0), 0);
+    IS(vn_sheet(6, 0, 0, 9, records, 3), -VN_CHAIN);
+    IS(vn_sheet(6, 0, 0, 9, records, 0), -VN_CHAIN);
+    IS(vn_sheet(1, 0, 19, 9, records, 3), -VN_PERIOD);
+    IS(vn_sheet(3, 12, 19, 9, records, 3), -VN_GENERATOR);
+    IS(vn_sheet(0, 12, 19, 9, records, 3), -VN_PATTERN);
+    IS(vn_sheet(1, 12, 19, 7, records, 3), -VN_START);
+    IS(vn_sheet(1, 12, 19, 259, records, 0), -VN_START);
+    holds(__LINE__, records, before, sizeof before);
+    records_untouched(__LINE__, 3);
+}
+
 static void call_books(void)
 {
     uint32_t found[2];
@@ -606,6 +725,8 @@ int main(void)
     call_layers();
     call_lamps();
     call_stored_strips();
+    call_mappings();
+    call_sheets();
     call_books();
     call_starts();
     call_no_starts();

@@ -1,6 +1,7 @@
 /* What an instrument's firmware does with the library: it makes a layout, lights the lamps, keeps a book of names, and
  * shows the name of each key that is pressed, the nearest D, how far a retuning moves notes, the order in which caps are
- * filed, and the board's moves. Nothing is allocated, and every refusal is shown by its number. */
+ * filed, the board's moves, which keys a synthesizer's mapping has, and a sheet for the engraver. Nothing is allocated, and
+ * every refusal is shown by its number. */
 #include <inttypes.h>
 #include <stdio.h>
 
@@ -161,6 +162,21 @@ static void show_moves(void)
            moves[1], moves[2], moves[3]);
 }
 
+/* Shows a sheet of keys for the engraver, filled in one call: both spellings of each, and its lamp. */
+static void show_sheet(uint16_t start)
+{
+    static const char letters[] = "FCGDAEB";
+    struct vn_record sheet[4] = {{3, 0, 0, 0, 0, 0, 0}, {-1, 0, 0, 0, 0, 0, 0}, {3, 0, 0, 0, 0, 0, 0}, {24, 0, 0, 0, 0, 0, 0}};
+    int i;
+
+    if (refused("sheet", vn_sheet(CHAIN, OCTAVE, TRITAVE, start, sheet, 4)))
+        return;
+    for (i = 0; i < 4; i++)
+        printf("sheet: key %" PRId32 ", %c with %d sharps, %c with %d flats, %d stars, lamp %d\n", sheet[i].key,
+               letters[sheet[i].sharp_index], sheet[i].sharp_count, letters[sheet[i].flat_index], sheet[i].flat_count,
+               sheet[i].stars, sheet[i].lamp);
+}
+
 /* Lights the keys from one to another, both included. */
 static void light(int32_t from, int32_t to)
 {
@@ -170,6 +186,39 @@ static void light(int32_t from, int32_t to)
     for (key = from; key <= to; key++)
         printf(" %d", lamp(key));
     printf("\n");
+}
+
+/* Shows which keys a .kbm file maps, of those that go to and come from a synthesizer. */
+static void show_mapped(const uint8_t *file, size_t length)
+{
+    uint16_t keys[OCTAVE];
+    int64_t count = vn_kbm_read(CHAIN, OCTAVE, TRITAVE, START, file, length, keys, OCTAVE), i;
+
+    if (refused("mapping", count))
+        return;
+    printf("mapped keys:");
+    for (i = 0; i < count; i++)
+        printf(" %d", keys[i]);
+    printf("\n");
+}
+
+/* Hands the mapping of the natural keys to a synthesizer; a player then leaves key 0 out, names it wrongly, and cuts the file. */
+static void show_mapping(void)
+{
+    static uint8_t file[6 * OCTAVE + 35];
+    int64_t length = vn_kbm(CHAIN, OCTAVE, TRITAVE, START, file, sizeof file);
+    size_t end;
+
+    if (refused("mapping", length))
+        return;
+    end = (size_t)length;
+    printf("mapping of %d bytes, ", (int)length);
+    show_mapped(file, end);
+    file[29] = 'x'; /* key 0 */
+    show_mapped(file, end);
+    file[29] = '1';
+    show_mapped(file, end);
+    show_mapped(file, end - 1);
 }
 
 int main(void)
@@ -209,6 +258,9 @@ int main(void)
     show_retuning(TRITAVE, 30);
     show_filed_caps();
     show_moves();
+    show_mapping();
+    show_sheet(START);
+    show_sheet(FROM_NOTHING);
 
     /* Porcupine[8] in 8 equal steps: the colours of one octave are not those of the next, so the strip has two;
      * keys -8, 0, 8 and 16 are home. */

@@ -14,9 +14,11 @@ static uint8_t stack[STACK];
 static uint16_t numbers[2 * 65536];
 static int32_t moves[4 * 65536];
 static uint16_t entries[65536];
+static struct vn_record records[65536];
 static uint8_t text[1 << 22];
 static const uint8_t stored[4096];
 static const uint16_t wide[4096];
+static const uint8_t mapping[] = "12\n0\n127\n60\n69\n440.000000\n12\n0\nx\n2\n3\nx\n5\nx\n7\nx\n9\n10\nx\n";
 static int64_t key[1];
 static uint32_t found[2];
 
@@ -80,6 +82,14 @@ static uint32_t found[2];
     CALL(vn_lamp(2, 65534, 65535, 4, -1)) \
     CALL(vn_widen_strip(stored, sizeof stored, numbers, sizeof numbers / 2)) \
     CALL(vn_narrow_strip(wide, sizeof wide / 2, text, sizeof text)) \
+    CALL(vn_kbm_len(1, 41699, 65527, 6)) \
+    CALL(vn_kbm_len(2, 65534, 65535, 4)) \
+    CALL(vn_kbm(1, 41699, 65527, 6, text, sizeof text)) \
+    CALL(vn_kbm(2, 65534, 65535, 4, text, sizeof text)) \
+    CALL(vn_kbm_read(2, 65534, 65535, 4, text, sizeof text, numbers, sizeof numbers / 2)) \
+    CALL(vn_kbm_read(1, 12, 19, 3, mapping, sizeof mapping - 1, numbers, 7)) \
+    CALL(vn_sheet(1, 41699, 65527, 6, records, sizeof records / 16)) \
+    CALL(vn_sheet(2, 65534, 65535, 4, records, sizeof records / 16)) \
     CALL(vn_book_len(1, 2400, 3800, 6)) \
     CALL(vn_book(1, 2400, 3800, 6, text, sizeof text)) \
     CALL(vn_book_find(text, 266404, 2399, found, 2)) \
@@ -129,6 +139,8 @@ int main(void)
     int wrong = 0;
 
     used(COUNT); /* once before, so that the linker's work at a first use is not counted */
+    for (which = 0; which < sizeof records / sizeof *records; which++)
+        records[which].key = (int32_t)which - 32768;
     for (wanted = 0; wanted < COUNT; wanted++)
         call();
 

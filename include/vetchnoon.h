@@ -34,6 +34,8 @@
  *   VN_LETTER       16  Is the letter's place below the chain's number of letters?
  *   VN_CODE         17  Does every code of the strip have a partner among the other width's codes?
  *   VN_START        18  Is the layout's start below the chain's number of letters?
+ *   VN_KBM_LINES    19  Has a keyboard mapping its lines, none missing and none left over, each of a form that may stand there?
+ *   VN_KBM_NUMBERS  20  Are its numbers those of the layout?
  *   VN_STARS        21  Are the stars below the number of cycles? (Of a retuning: below that of both layouts?)
  * A refusal is compared as in vn_layout(chain, octave, tritave, start, out, len) == -VN_PATTERN.
  *
@@ -80,6 +82,8 @@ extern "C" {
 #define VN_LETTER 16
 #define VN_CODE 17
 #define VN_START 18
+#define VN_KBM_LINES 19
+#define VN_KBM_NUMBERS 20
 #define VN_STARS 21
 
 /* The kinds of layers, which vn_layer_kind tells. */
@@ -90,6 +94,8 @@ extern "C" {
 
 /* The version of this header. The first number changes where a call, a number above or an answer is changed or taken away,
  * the second where some are added, the third where neither is so.
+ *   7.6.0: vn_sheet and struct vn_record are added.
+ *   7.5.0: vn_kbm_len, vn_kbm and vn_kbm_read are added, of which the last asks 19 and 20.
  *   7.4.0: vn_moved, vn_move_table and vn_largest_move are added.
  *   7.3.0: vn_tritaves, vn_find_by_edo and vn_edo_report are added, of which the first two ask 15, VN_DIVISION.
  *   7.2.0: vn_to_chain_order, vn_to_key_order, vn_moves and vn_walk_moves are added.
@@ -108,7 +114,7 @@ extern "C" {
  *   2.0.0: vn_sounded_key takes signs as one number, and asks 16 and 21.
  *   1.0.0, before these numbers stood here: it took sharps and flats as two numbers, and asked 15, VN_SPELLING. */
 #define VN_VERSION_MAJOR 7
-#define VN_VERSION_MINOR 4
+#define VN_VERSION_MINOR 6
 #define VN_VERSION_PATCH 0
 
 /* The library was built for a size_t of 64 bits; with any other this line does not compile. */
@@ -324,6 +330,48 @@ int64_t vn_widen_strip(const uint8_t *strip, size_t strip_len, uint16_t *out, si
 /* Writes the strip that vn_widen_strip makes these codes of, a byte for each code. 17 has the answer no where there is none:
  * where a code is from 202 to 65,534. Asks 17, 10. */
 int64_t vn_narrow_strip(const uint16_t *strip, size_t strip_len, uint8_t *out, size_t len);
+
+/* ---- Scala keyboard mappings (.kbm files) of a layout, for other synthesizers. Seven lines come first: size, first and last
+ * note, middle note, reference note, frequency and octave degree. Then an entry for each key of the octave, rising: its number
+ * where it is mapped, else x. Each line ends with a line feed. In vn_kbm, size and octave degree are the octave; the notes are 0,
+ * 127, 60 and 69; the frequency is 440.000000; and the keys of the natural layer are mapped, of two octaves those of the first. */
+
+/* How many bytes the mapping of a layout has: at most 6 x octave + 35. Asks 1, 2, 3, 4, 18. */
+int64_t vn_kbm_len(uint16_t chain, uint16_t octave, uint16_t tritave, uint16_t start);
+
+/* Writes the mapping of a layout in ASCII, without a 0 at the end. Asks 1, 2, 3, 4, 18, 10. */
+int64_t vn_kbm(uint16_t chain, uint16_t octave, uint16_t tritave, uint16_t start, uint8_t *out, size_t len);
+
+/* Writes the keys that a mapping for a layout maps, rising: any choice of keys, at most as many as the octave has. Of what vn_kbm
+ * writes they are the natural keys. Any bytes are answered, in a time that grows with their number. Lines that begin with ! are
+ * skipped. 19 has the answer no where the others are not seven and one for each key of the octave, whatever the size line says;
+ * where the last byte is no line feed; or where a line is not a number of 1 to 5 digits, the frequency 440.000000 in its place,
+ * or, among the entries, x. 20 has it where a number is not the one that vn_kbm writes there, or would for a mapped key. Asks
+ * 1, 2, 3, 4, 18, 19, 20, 10. */
+int64_t vn_kbm_read(uint16_t chain, uint16_t octave, uint16_t tritave, uint16_t start, const uint8_t *text, size_t text_len,
+                    uint16_t *out, size_t len);
+
+/* ---- sheets: a list of records, each of which is filled from its own key */
+
+/* One key of a sheet. The caller sets the key, and the call writes what stands behind it. */
+struct vn_record {
+    int32_t key;          /* any key; it stays as it is */
+    uint16_t sharp_index; /* the letter of the sharp spelling, counted along the chain's letters from 0 */
+    uint16_t sharp_count; /* how many sharps it has */
+    uint16_t flat_index;  /* the letter of the flat spelling */
+    uint16_t flat_count;  /* how many flats it has */
+    uint16_t stars;       /* how many stars both spellings have: the cycle's number, 0 where there is one cycle */
+    uint16_t lamp;        /* the lamp code */
+};
+
+/* The library has a record in 16 bytes; with any other number this line does not compile. */
+typedef char vn_record_has_16_bytes[sizeof(struct vn_record) == 16 ? 1 : -1];
+
+/* Fills each record from its key, in list order, with what single calls give for that key: the 4 numbers of
+ * vn_layout_accidentals, the cycle of vn_generation for the octave and the layout's generator, and the code of vn_lamp. What a
+ * record held behind its key does not matter, and a key may stand in several records. Returns the number of records, which may
+ * be 0; where the layout is refused, no record is touched. Asks 1, 2, 3, 4, 18. */
+int64_t vn_sheet(uint16_t chain, uint16_t octave, uint16_t tritave, uint16_t start, struct vn_record *records, size_t len);
 
 /* ---- books of key names, and key tables */
 

@@ -1,5 +1,7 @@
 //! The C interface, as `include/vetchnoon.h` declares it.
 
+use crate::Record;
+
 unsafe extern "C" {
     pub fn vn_gcd(x: u16, y: u16) -> i64;
     pub fn vn_rem(numer: i32, denom: u16) -> i64;
@@ -186,6 +188,35 @@ unsafe extern "C" {
     pub fn vn_lamp(chain: u16, octave: u16, tritave: u16, start: u16, key: i32) -> i64;
     pub fn vn_widen_strip(strip: *const u8, strip_len: usize, out: *mut u16, len: usize) -> i64;
     pub fn vn_narrow_strip(strip: *const u16, strip_len: usize, out: *mut u8, len: usize) -> i64;
+    pub fn vn_kbm_len(chain: u16, octave: u16, tritave: u16, start: u16) -> i64;
+    pub fn vn_kbm(
+        chain: u16,
+        octave: u16,
+        tritave: u16,
+        start: u16,
+        out: *mut u8,
+        len: usize,
+    ) -> i64;
+    pub fn vn_kbm_read(
+        chain: u16,
+        octave: u16,
+        tritave: u16,
+        start: u16,
+        text: *const u8,
+        text_len: usize,
+        out: *mut u16,
+        len: usize,
+    ) -> i64;
+
+    pub fn vn_sheet(
+        chain: u16,
+        octave: u16,
+        tritave: u16,
+        start: u16,
+        records: *mut Record,
+        len: usize,
+    ) -> i64;
+
     pub fn vn_book_len(chain: u16, octave: u16, tritave: u16, start: u16) -> i64;
     pub fn vn_book(
         chain: u16,

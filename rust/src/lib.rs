@@ -121,6 +121,34 @@ impl Retuning {
     }
 }
 
+/// One key of a sheet, as C has it: the key, which a caller sets, and behind it what [`sheet`]
+/// writes.
+#[repr(C)]
+#[derive(Clone, Copy, Debug, Default, PartialEq, Eq, Hash)]
+pub struct Record {
+    pub key: i32,
+    /// The letter of the sharp spelling, by its index among the chain's letters, from 0.
+    pub sharp_index: u16,
+    pub sharp_count: u16,
+    /// The letter of the flat spelling.
+    pub flat_index: u16,
+    pub flat_count: u16,
+    /// The stars of both spellings: the cycle's number, 0 where there is one cycle.
+    pub stars: u16,
+    /// The lamp code.
+    pub lamp: u16,
+}
+
+impl Record {
+    /// A record that asks for a key.
+    pub fn new(key: i32) -> Self {
+        Self {
+            key,
+            ..Self::default()
+        }
+    }
+}
+
 /// The kinds of layers, as [`layer_kind`] writes them.
 pub const NATURAL: u16 = 0;
 pub const SHARP: u16 = 1;
@@ -366,6 +394,16 @@ filling_from_layout! {
     /// assert_eq!(codes[199..203], [2 + 2 * 198, E, 3 + 2 * 198, 3 + 2 * 197]);
     /// ```
     lamp_strip = vn_lamp_strip(; u16);
+    /// The layout's Scala keyboard mapping, a .kbm file in which the keys of the natural layer are
+    /// mapped (1, 2, 3, 4, 18, 10). It has at most 6 × octave + 35 bytes.
+    ///
+    /// ```
+    /// let seven = vetchnoon::Layout::new(2, 7, 11); // D E G A C
+    /// let mut file = vec![0; vetchnoon::kbm_len(seven).unwrap()];
+    /// vetchnoon::kbm(seven, &mut file).unwrap();
+    /// assert_eq!(file, b"7\n0\n127\n60\n69\n440.000000\n7\n0\n1\nx\n3\n4\nx\n6\n");
+    /// ```
+    kbm = vn_kbm(; u8);
     /// The book of all names of the octave (1, 2, 3, 4, 18, 10).
     book = vn_book(; u8);
 }
@@ -421,6 +459,8 @@ number_from_layout! {
     /// assert_eq!(vetchnoon::lamp(equalized, 5 - 8), Ok(1)); // an octave away, by its layer
     /// ```
     lamp = vn_lamp(key: i32) -> u16;
+    /// How many bytes the layout's Scala keyboard mapping has (1, 2, 3, 4, 18).
+    kbm_len = vn_kbm_len() -> usize;
     /// How many bytes the book of a layout has (1, 2, 3, 4, 18).
     book_len = vn_book_len() -> usize;
 }
@@ -562,6 +602,72 @@ pub fn widen_strip(strip: &[u8], out: &mut [u16]) -> Result<usize, Refused> {
 /// there is none: where a code is from 202 to 65,534.
 pub fn narrow_strip(strip: &[u16], out: &mut [u8]) -> Result<usize, Refused> {
     value(unsafe { c::vn_narrow_strip(strip.as_ptr(), strip.len(), out.as_mut_ptr(), out.len()) })
+}
+
+/// The keys that a Scala keyboard mapping for a layout maps, rising: any choice of keys, in any
+/// bytes (1, 2, 3, 4, 18, 19, 20, 10). Lines that begin with `!` are skipped.
+///
+/// ```
+/// use vetchnoon::{Layout, Refused, kbm_read};
+///
+/// let five = Layout::new(2, 5, 8);
+/// let text = b"! three keys\n5\n0\n127\n60\n69\n440.000000\n5\n0\nx\n2\nx\n4\n";
+/// let mut keys = [0; 5];
+/// assert_eq!(kbm_read(five, text, &mut keys), Ok(3));
+/// assert_eq!(keys[..3], [0, 2, 4]);
+///
+/// let cut = &text[..text.len() - 1]; // the last line is not ended
+/// assert_eq!(kbm_read(five, cut, &mut keys), Err(Refused(19)));
+/// ```
+pub fn kbm_read(layout: Layout, text: &[u8], out: &mut [u16]) -> Result<usize, Refused> {
+    let Layout {
+        chain,
+        octave,
+        tritave,
+        start,
+    } = layout;
+    let (bytes, count) = (text.as_ptr(), text.len());
+    let (keys, len) = (out.as_mut_ptr(), out.len());
+    value(unsafe { c::vn_kbm_read(chain, octave, tritave, start, bytes, count, keys, len) })
+}
+
+/// Fills each record from its key, in list order, with what [`layout_accidentals`], [`generation`]
+/// and [`lamp`] give for that key; tells how many records there are (1, 2, 3, 4, 18). Where the
+/// layout is refused, no record is touched.
+///
+/// ```
+/// use vetchnoon::{Layout, Record, Refused, sheet};
+///
+/// // F C G D A E B: key 3 is D#* or Eb*, twice.
+/// let quarter_tones = Layout::new(1, 24, 38);
+/// let mut records = [3, -1, 3].map(Record::new);
+/// assert_eq!(sheet(quarter_tones, &mut records), Ok(3));
+/// let d_sharp = Record {
+///     key: 3,
+///     sharp_index: 3,
+///     sharp_count: 1,
+///     flat_index: 5,
+///     flat_count: 1,
+///     stars: 1,
+///     lamp: 3,
+/// };
+/// assert_eq!(records[0], d_sharp);
+/// assert_eq!((records[1].key, records[1].sharp_index), (-1, 1));
+/// assert_eq!(records[2], d_sharp);
+///
+/// assert_eq!(sheet(quarter_tones, &mut []), Ok(0));
+/// assert_eq!(sheet(Layout::new(0, 12, 19), &mut records), Err(Refused(4)));
+/// assert_eq!(records[0], d_sharp);
+/// ```
+pub fn sheet(layout: Layout, records: &mut [Record]) -> Result<usize, Refused> {
+    let Layout {
+        chain,
+        octave,
+        tritave,
+        start,
+    } = layout;
+    let (list, len) = (records.as_mut_ptr(), records.len());
+    value(unsafe { c::vn_sheet(chain, octave, tritave, start, list, len) })
 }
 
 /// The part of a book, which may be any bytes, that holds a key's name (11, 12, 13). A book's

@@ -1,5 +1,4 @@
--- The number of each refusal, and what the shared answers mean (document 01, "Questions before an answer"; 15 to 18, 21 and 22 of
--- document 02).
+-- The number of each refusal, and what the shared answers mean (document 01, "Questions before an answer"; 15 to 22 of document 02).
 use Prim.Native.Nat.{ℕ}
 use Rattle.answer.specs.Outcome.{Outcome, given, refused}
 use Rattle.answer.specs.declared.Refusal.{Refusal}
@@ -21,6 +20,8 @@ use Rattle.answer.specs.declared.Refusal.the-variants.{
   Letter,
   Code,
   Start,
+  MappingLines,
+  MappingNumbers,
   Stars,
   FractionalGenerator,
 }
@@ -49,6 +50,8 @@ numberOf Division = 15
 numberOf Letter = 16
 numberOf Code = 17
 numberOf Start = 18
+numberOf MappingLines = 19
+numberOf MappingNumbers = 20
 numberOf Stars = 21
 numberOf FractionalGenerator = 22
 

@@ -4,10 +4,9 @@ use native.Mathlib.Nat.{zero-add}
 use native.Mathlib.Omega.{arith}
 use mathlib.Core.Path.{_≡_, ap, _∙_}
 use mathlib.Core.List.{List}
-use lib.ListN.{length, take, drop}
-use lib.Seq.{take-append-seam}
+use lib.ListN.{length, take}
 use Rattle.text.specs.Writing.{Wrote}
-use Rattle.text.proofs.Writing.{wrote-length, wrote-front}
+use Rattle.text.proofs.Writing.{put-there}
 use Rattle.line_input.specs.Reading.{longest, LineRead}
 use Rattle.line_input.specs.declared.Input.{Input}
 use Rattle.line_input.proofs.Enough.{first-line-is-enough, kept-output}
@@ -31,14 +30,8 @@ module _ (line : List ℕ) {xs ys : List ℕ} {next : ℕ} (long : length xs ≡
   fits : length (output line) ≤ length xs
   fits = omega (arith, is-length, few)
 
-  pub put-inside : next ≤ length ys
-  put-inside = omega (arith, few, wrote-length w)
-
-  pub put-there : take next ys ≡ output line
-  put-there =
-      ap (λ (k : ℕ). take k ys) is-length
-      ∙ ap (take (length (output line))) (wrote-front fits w)
-      ∙ take-append-seam (output line) (drop (length (output line)) xs)
+  pub front : (next ≤ length ys) × (take next ys ≡ output line)
+  front = put-there fits w
 
 module _ (buffer : List ℕ) (input : Input) (kept : ℕ) (read : LineRead buffer input) (few : kept ≡ min longest (input .taken)) where
   printed : output (take kept buffer) ≡ output (read .line)

@@ -7,10 +7,8 @@ use mathlib.Core.Path.{_≡_, sym, ap, _∙_}
 use mathlib.Core.List.{List, _++_}
 use lib.ListN.{length, take, drop, replicate, length-append, length-replicate}
 use lib.Seq.{take-append-seam, drop-append-seam, take-all}
-use Rattle.text.specs.Writing.{Wrote, joined}
-use Rattle.text.proofs.Writing.{wrote-front, wrote-length}
+use Rattle.text.specs.Writing.{joined}
 use Rattle.text.proofs.Joined.{joined-none, joined-add}
-use Rattle.text.proofs.Digits.{digits-length}
 use Rattle.layout.specs.Layouts.{Layout}
 use Rattle.layout_speller.proofs.Rounds.{short-texts}
 use Rattle.layout_table.specs.declared.parts.Table.{Table}
@@ -18,7 +16,6 @@ use Rattle.layout_table.specs.Tables.{lineLayout, refusalLine, output}
 use Rattle.layout_table.specs.Parts.{lineOf, lineFrom, TableOf}
 use Rattle.layout_table.proofs.Calls.{output-refused, output-given, table-is, line-laid}
 use Rattle.layout_table.proofs.Fitting.{tables-fit, line-room-few}
-use Rattle.layout_table.proofs.Lines.{length-refusal}
 use Rattle.answer.specs.Outcome.{given, refused}
 use Rattle.line_input.specs.Reading.{longest, LineRead}
 use Rattle.line_input.specs.declared.Input.{Input}
@@ -53,21 +50,8 @@ part-counted text buffer input past p = omega (arith, p .inside, tables-fit .pri
 
 -- ---- a refusal, in one part
 
-pub refusal-room : (n : ℕ) → n ≤ 65535 → length (refusalLine n) ≤ 16
-refusal-room n h = omega (arith, length-refusal n, digits-length n (omega (arith, h)) .few)
-
 abbrev pub start : Output
 start = record { handed = 0; taken = true }
-
--- the text that was put is at the front
-pub put-there : {xs ys text : List ℕ} {n : ℕ} → length text ≤ length xs → Wrote xs 0 text ys n → (n ≤ length ys) × (take n ys ≡ text)
-put-there {xs} {ys} {text} {n} room w =
-    let is : n ≡ length text = w .end ∙ zero-add (length text) in (
-      omega (arith, is, room, wrote-length w),
-      ap (λ (k : ℕ). take k ys) is
-          ∙ ap (take (length text)) (wrote-front room w)
-          ∙ take-append-seam text (drop (length text) xs),
-    )
 
 module _ (buffer : List ℕ) (input : Input) (number : ℕ) (r : Refusing buffer input number) (text : List ℕ) (is : text ≡ refusalLine number) where
   pub refusal-next : NextPart text buffer input start

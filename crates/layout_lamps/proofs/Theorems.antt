@@ -151,7 +151,7 @@ unfolding lampOf
 one-home l key = home-alone (eqb (key % l .octave) 0) (key % l .octave) _ refl (code-above (kindIn l key))
 
 -- a strip holds whole octaves, so a remainder by its length has the remainder by the octave
-strip-rounds : (P : ℕ) → 0 < P → (b : Bool) (key : ℤ) → remainder key (pick b (2 * P) P) % P ≡ remainder key P
+pub strip-rounds : (P : ℕ) → 0 < P → (b : Bool) (key : ℤ) → remainder key (pick b (2 * P) P) % P ≡ remainder key P
 strip-rounds P h false key = mod-eq-of-lt (remainder-below key P h)
 strip-rounds P h true key = sym (apart→remainder P h key (pos r) (q +ℤ q, sum))
   where

@@ -1,11 +1,12 @@
 -- A key's line: its length part by part, and the sum of the lines' lengths: all names, and all the rest.
-use Prim.Native.Nat.{ℕ, zero, suc, _+_}
+use Prim.Native.Nat.{ℕ, zero, suc, _+_, _≤_}
 use mathlib.Core.Path.{_≡_, refl, ap, ap₂}
 use mathlib.Core.List.{List, [], _∷_, _++_}
 use native.Mathlib.Omega.{arith}
 use lib.ListN.{length, length-append}
 use Rattle.text.specs.Writing.{joined}
 use Rattle.text.specs.Decimal.{digits}
+use Rattle.text.proofs.Digits.{digits-length}
 use Rattle.line.specs.Lines.{space, lineFeed}
 use Rattle.layout_speller.specs.Parts.{nameOf}
 use Rattle.layout_table.specs.Tables.{keyLine, refusedWord, refusalLine}
@@ -65,3 +66,6 @@ length-lines t (suc k) =
 pub length-refusal : (n : ℕ) → length (refusalLine n) ≡ length (digits n) + 9
 unfolding refusalLine
 length-refusal n = omega (arith, length-append refusedWord (digits n), length-append (refusedWord ++ digits n) (lineFeed ∷ []))
+
+pub refusal-room : (n : ℕ) → n ≤ 65535 → length (refusalLine n) ≤ 16
+refusal-room n h = omega (arith, length-refusal n, digits-length n (omega (arith, h)) .few)

@@ -25,7 +25,8 @@ pub(crate) fn answer(kind: usize, layout: IsomorphicLayout, key: i32, out: &mut 
     put_found(out, written, key);
 }
 
-fn put_length(answer: CountAnswer) {
+// How many bytes something has, alone on the line.
+pub(crate) fn put_length(answer: CountAnswer) {
     match answer {
         CountAnswer::Refused(q) => print::refusal(q),
         CountAnswer::Given(count) => print::number(count as u64),

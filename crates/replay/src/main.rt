@@ -9,6 +9,7 @@
 mod books;
 mod edo;
 mod layouts;
+mod mappings;
 mod moves;
 mod names;
 mod numbers;
@@ -18,6 +19,7 @@ mod pergens;
 mod print;
 mod reach;
 mod retunings;
+mod sheets;
 mod strips;
 mod tables;
 mod words;
@@ -153,7 +155,13 @@ fn answered_other(kind: usize, line: &[u8], end: usize, room: u16) -> bool {
     if edo::answer(line, end, room) {
         return true;
     }
-    retunings::answer(line, end, room)
+    if retunings::answer(line, end, room) {
+        return true;
+    }
+    if mappings::answer(line, end, room) {
+        return true;
+    }
+    sheets::answer(line, end)
 }
 
 fn answer_line(line: &[u8]) {

@@ -4,8 +4,8 @@ use Prim.Native.Nat.{ℕ, suc, _+_, _≤_}
 use native.Mathlib.Nat.{add-zero, zero-add, add-suc, suc-add, add-assoc}
 use native.Mathlib.Omega.{arith}
 use mathlib.Core.List.{List, [], _∷_, _++_}
-use lib.ListN.{length, set, drop, replicate, length-append, replicate-append-replicate}
-use lib.Seq.{sets, sets-eq, length-sets}
+use lib.ListN.{length, set, take, drop, replicate, length-append, replicate-append-replicate}
+use lib.Seq.{sets, sets-eq, length-sets, take-append-seam}
 use Rattle.answer.specs.Outcome.{Outcome, given}
 use Rattle.answer.specs.Lent.{counted, written, Filled}
 use Rattle.text.specs.Writing.{Room, Wrote}
@@ -68,3 +68,13 @@ room-first xs at t u h = omega (arith, length-append t u)
 
 pub room-next : {xs t ys : List ℕ} {at mid : ℕ} (u : List ℕ) → Wrote xs at t ys mid → Room xs at (t ++ u) → Room ys mid u
 room-next {xs} {t} {ys} {at} {mid} u w h = omega (arith, length-append t u, wrote-length w)
+
+-- the text that was put at the front is the part up to the place after it
+pub put-there : {xs ys text : List ℕ} {n : ℕ} → length text ≤ length xs → Wrote xs 0 text ys n → (n ≤ length ys) × (take n ys ≡ text)
+put-there {xs} {ys} {text} {n} room w =
+    let is : n ≡ length text = w .end ∙ zero-add (length text) in (
+      omega (arith, is, room, wrote-length w),
+      ap (λ (k : ℕ). take k ys) is
+          ∙ ap (take (length text)) (wrote-front room w)
+          ∙ take-append-seam text (drop (length text) xs),
+    )

@@ -1,4 +1,5 @@
 pub mod Written
 pub mod Board
+pub mod Sheets
 pub mod Examples
 pub mod FractionalPatterns

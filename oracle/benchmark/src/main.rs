@@ -20,6 +20,7 @@ fn main() {
     println!("Processor: {}", processor());
     println!("Best of {} rounds for each side.", SWEEPS * ROUNDS);
     table("the original's", rows::of_the_original(), &words);
+    table("single calls", rows::of_single_calls(), &words);
     table("a fill", rows::of_a_fill(), &words);
 }
 

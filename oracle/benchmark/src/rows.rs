@@ -6,6 +6,7 @@
 //! every call, since a call takes the four numbers.
 
 mod edo;
+mod mappings;
 
 use std::borrow::Borrow;
 use std::cell::RefCell;
@@ -28,6 +29,7 @@ use tune::layout::Layer;
 use tune::pergen::Mos;
 use tune::temperament::Val;
 use vetchnoon::Pattern;
+use vetchnoon::Record;
 use vetchnoon::Retuning;
 
 use crate::timing::Work;
@@ -92,10 +94,17 @@ pub fn of_the_original() -> Vec<Row> {
     rows.extend(SIZES.map(layout_layers));
     rows.extend(SIZES.map(pattern_layers));
     rows.extend(with_strip.map(strip));
+    rows.extend(SIZES.map(sheet));
     rows.extend(with_table.map(key_table));
+    rows.extend(mappings::rows());
     rows.extend(walks());
     rows.extend(walks_of_moves());
     rows
+}
+
+/// Sheets of an octave, beside our own calls for each of their keys.
+pub fn of_single_calls() -> Vec<Row> {
+    SIZES.map(sheet_and_single_calls).into()
 }
 
 /// Books, lists of keys and converted strips, beside a plain fill of the memory that they were
@@ -560,6 +569,86 @@ fn strip(n: Numbers) -> Row {
             codes.len() + usize::from(codes[codes.len() - 1])
         },
     )
+}
+
+/// The records of an octave's keys.
+fn records(n: Numbers) -> Vec<Record> {
+    (0..n.1.into()).map(Record::new).collect()
+}
+
+/// What is counted of a sheet.
+fn sum_of(records: &[Record]) -> usize {
+    let sum = |one: &Record| {
+        let signs = usize::from(one.sharp_count) + usize::from(one.flat_count);
+        signs + usize::from(one.stars) + usize::from(one.lamp)
+    };
+    records.iter().map(sum).sum()
+}
+
+fn filled(n: Numbers) -> impl FnMut() -> usize {
+    let given = n.layout();
+    let mut records = records(n);
+    move || {
+        vetchnoon::sheet(given, &mut records).unwrap();
+        sum_of(&records)
+    }
+}
+
+/// A sheet of an octave. The original has no such call: its caller asks for each key by itself,
+/// and for the layers of all keys once.
+fn sheet(n: Numbers) -> Row {
+    let layout = made_anew(n);
+    let mut records = records(n);
+    n.row_of_keys(
+        "a sheet of an octave; by the original's calls for each key",
+        filled(n),
+        move || {
+            let layout = layout();
+            let layers = layout.get_layers();
+            for ((key, record), layer) in (0..n.1).zip(&mut records).zip(layers) {
+                let spelt = layout.get_accidentals(key);
+                *record = Record {
+                    key: key.into(),
+                    sharp_index: spelt.sharp_index,
+                    sharp_count: spelt.sharp_count,
+                    flat_index: spelt.flat_index,
+                    flat_count: spelt.flat_count,
+                    stars: spelt.cycle.unwrap_or(0),
+                    lamp: code(n.1, key, layer),
+                };
+            }
+            sum_of(&records)
+        },
+    )
+}
+
+/// The same by our own calls for each key, of which every one makes the layout.
+fn sheet_and_single_calls(n: Numbers) -> Row {
+    let given = n.layout();
+    let mut records = records(n);
+    let mut numbers = [0; 8];
+    n.row_of_keys("a sheet of an octave", filled(n), move || {
+        vetchnoon::layout(given, &mut numbers).unwrap();
+        let generator = numbers[0];
+        for record in &mut records {
+            let key = record.key;
+            let mut spelt = [0; 4];
+            let mut generation = [0; 3];
+            vetchnoon::layout_accidentals(given, key, &mut spelt).unwrap();
+            vetchnoon::generation(given.octave, generator, key, &mut generation).unwrap();
+            let [sharp_index, sharp_count, flat_index, flat_count] = spelt;
+            *record = Record {
+                key,
+                sharp_index,
+                sharp_count,
+                flat_index,
+                flat_count,
+                stars: generation[2],
+                lamp: vetchnoon::lamp(given, key).unwrap(),
+            };
+        }
+        sum_of(&records)
+    })
 }
 
 fn key_table(n: Numbers) -> Row {

@@ -5,12 +5,14 @@ mod chains;
 mod edo;
 mod known;
 mod layouts;
+mod mappings;
 mod moves;
 mod orders;
 mod patterns;
 mod pergens;
 mod reach;
 mod retunings;
+mod sheets;
 mod strips;
 mod tables;
 
@@ -57,10 +59,12 @@ pub fn tasks(mode: Mode, seed: u64) -> Vec<Task> {
     layouts::plan(&mut tasks, mode, seed);
     reach::plan(&mut tasks, mode, seed);
     retunings::plan(&mut tasks, mode, seed);
+    sheets::plan(&mut tasks, mode, seed);
     orders::plan(&mut tasks, mode, seed);
     moves::plan(&mut tasks, mode, seed);
     patterns::plan(&mut tasks, mode, seed);
     pergens::plan(&mut tasks, mode, seed);
+    mappings::plan(&mut tasks, mode, seed);
     books::plan(&mut tasks, mode, seed);
     tables::plan(&mut tasks, mode, seed);
     strips::plan(&mut tasks, mode, seed);

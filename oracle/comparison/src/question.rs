@@ -48,6 +48,10 @@ pub enum Call {
     Lamp,
     WidenStrip,
     NarrowStrip,
+    KbmLen,
+    Kbm,
+    KbmRead,
+    Sheet,
     BookLen,
     Book,
     BookFind,
@@ -100,6 +104,10 @@ impl Call {
             Self::Lamp => "vn_lamp",
             Self::WidenStrip => "vn_widen_strip",
             Self::NarrowStrip => "vn_narrow_strip",
+            Self::KbmLen => "vn_kbm_len",
+            Self::Kbm => "vn_kbm",
+            Self::KbmRead => "vn_kbm_read",
+            Self::Sheet => "vn_sheet",
             Self::BookLen => "vn_book_len",
             Self::Book => "vn_book",
             Self::BookFind => "vn_book_find",
@@ -109,8 +117,9 @@ impl Call {
 }
 
 /// A call with its arguments, in order. Bytes are arguments as well, and so are the codes
-/// of a strip and the entries of a list that is lent; those of a lookup are the key and then
-/// the book. Questions are put by the million, so one borrows its arguments; only those that
+/// of a strip, the entries of a list that is lent and the keys of a sheet; those of a lookup are
+/// the key and then the book, those of a mapping that is read the layout and then the text.
+/// Questions are put by the million, so one borrows its arguments; only those that
 /// are reported are kept.
 #[derive(Clone, Copy, Debug)]
 pub struct Question<'a> {

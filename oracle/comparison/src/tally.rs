@@ -211,7 +211,8 @@ impl Tally {
         self.compare_lent(question, reading, Original::Silent, None, library);
     }
 
-    fn compare_lent<T: Element>(
+    /// Compares what the library wrote into what it was lent, or what it did that no call may do.
+    pub fn compare_lent<T: PartialEq + Debug>(
         &mut self,
         question: Question,
         reading: Outcome<Vec<T>>,

@@ -7,7 +7,10 @@ use reading::codes::Lamp;
 use reading::former;
 use reading::layers::Kind;
 use reading::layouts::lamps_of;
+use reading::layouts::repeated;
+use reading::mappings;
 use reading::reach;
+use reading::sheets::Record;
 use tune::layout;
 use tune::layout::Genchain;
 use tune::layout::IsomorphicLayout;
@@ -17,6 +20,7 @@ use tune::temperament::Val;
 
 use crate::asking::Answer;
 use crate::asking::ask;
+use crate::keys::asked_at;
 use crate::patterns;
 use crate::spelling;
 use crate::spelling::Accidentals;
@@ -99,6 +103,35 @@ pub fn former_strip(layout: &IsomorphicLayout) -> Answer<Outcome<Vec<u8>>> {
 fn lamps(layout: &IsomorphicLayout) -> Answer<Vec<Lamp>> {
     let kinds: Vec<Kind> = layers(layout)?.into_iter().map(kind_of).collect();
     Ok(lamps_of(layout.pergen().period().into(), &kinds))
+}
+
+/// The Scala keyboard mapping of the keys whose layer in the first octave is natural. The
+/// original has no such files (W-210).
+pub fn mapping(layout: &IsomorphicLayout) -> Answer<Vec<u8>> {
+    let octave = layout.pergen().period().into();
+    let layers = layers(layout)?.into_iter().take(octave);
+    let natural: Vec<bool> = layers.map(|layer| layer == Layer::Natural).collect();
+    Ok(mappings::written(&natural))
+}
+
+/// A sheet of keys. The original has no such call (W-208); it is asked for each key by itself,
+/// and for its layers once.
+pub fn sheet(layout: &IsomorphicLayout, keys: &[i32]) -> Answer<Vec<Record>> {
+    let strip = strip(layout)?;
+    let octave = layout.pergen().period();
+    let record = |key: i32| {
+        let spelt = accidentals(layout, asked_at(key, octave))?;
+        Ok(Record {
+            key,
+            sharp_index: spelt.sharp_index,
+            sharp_count: spelt.sharp_count,
+            flat_index: spelt.flat_index,
+            flat_count: spelt.flat_count,
+            stars: spelt.cycle.unwrap_or(0),
+            lamp: repeated(&strip, key),
+        })
+    };
+    keys.iter().copied().map(record).collect()
 }
 
 /// The names of the octave's keys.
@@ -256,6 +289,18 @@ mod tests {
         assert_eq!(chain[12..16], [101, 115, 105, 119]);
         assert_eq!(in_key_order(&along, &chain), list);
         assert_eq!(moves(&quarter_tones), Some([-1, 2, 3, -5]));
+    }
+
+    #[test]
+    fn a_sheet_of_quarter_tones() {
+        let quarter_tones = create(Genchain::Meantone7, 24, 38).unwrap().unwrap();
+        let records = sheet(&quarter_tones, &[3, -1, 3]).unwrap();
+        let keys_and_stars: Vec<(i32, u16)> =
+            records.iter().map(|one| (one.key, one.stars)).collect();
+        assert_eq!(keys_and_stars, [(3, 1), (-1, 1), (3, 1)]);
+        assert_eq!((records[1].sharp_index, records[1].flat_index), (1, 3));
+        assert_eq!(records[0], records[2]);
+        assert_eq!(sheet(&quarter_tones, &[]), Ok(vec![]));
     }
 
     #[test]

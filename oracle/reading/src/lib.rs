@@ -14,6 +14,7 @@ pub mod edo;
 pub mod former;
 pub mod layers;
 pub mod layouts;
+pub mod mappings;
 pub mod moves;
 pub mod names;
 pub mod numbers;
@@ -23,6 +24,7 @@ pub mod pergens;
 pub mod powers;
 pub mod reach;
 pub mod retunings;
+pub mod sheets;
 pub mod tables;
 
 /// A whole number, wide enough for every sum and product here.

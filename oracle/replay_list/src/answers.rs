@@ -33,12 +33,14 @@ use tune::pergen::Mos;
 use tune::pergen::PerGen;
 
 use crate::edo;
+use crate::mappings;
 use crate::questions::FreePergen;
 use crate::questions::Layout;
 use crate::questions::OfLayout;
 use crate::questions::OfPattern;
 use crate::questions::Question;
 use crate::retunings;
+use crate::sheets;
 
 /// Why there is no answer.
 pub enum Absent {
@@ -105,7 +107,10 @@ fn elements(question: &Question, text: &str) -> usize {
         Question::OfPattern(..) | Question::OfLayout(..) | Question::Book(_) if text != "-" => {
             text.split(' ').count()
         }
+        Question::ReadKbm(..) if text == "-" => 0,
         Question::Reach(..)
+        | Question::Kbm(_)
+        | Question::ReadKbm(..)
         | Question::MoveTable(_)
         | Question::ToChainOrder(..)
         | Question::ToKeyOrder(..)
@@ -172,6 +177,9 @@ fn text(question: &Question) -> Text {
             chains::chain(*code)?;
             Ok(original_chain(*code).to_string())
         }
+        Question::KbmLength(layout) => mappings::length(*layout),
+        Question::Kbm(layout) => mappings::file(*layout),
+        Question::ReadKbm(layout, text) => mappings::keys(*layout, text),
         Question::Moved(retuning, letter, signs, stars) => {
             retunings::moved(*retuning, *letter, *signs, *stars)
         }
@@ -238,6 +246,7 @@ fn text(question: &Question) -> Text {
             let (walk, created) = (walk(*pergen)?, created(*pergen)?);
             Ok(words(walk.into_iter().flat_map(|mos| moves(mos, &created))))
         }
+        Question::Sheet(layout, keys) => sheets::text(*layout, keys),
         Question::Widen(strip) => Ok(list_text(codes::widened(strip)?)),
         Question::Narrow(strip) => Ok(list_text(codes::narrowed(strip)?)),
         Question::BookLength(layout) => Ok(book(*layout)?.len().to_string()),

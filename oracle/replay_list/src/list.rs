@@ -1,7 +1,7 @@
 //! The list of questions: the bench examples of document 01, small numbers
 //! densely, limits, and numbers of every size at random; then keys below 0, other letters
 //! on key 0, strips of two octaves, stored strips, distances between keys, retunings, lists in
-//! the order of the chain, and moves.
+//! the order of the chain, moves, Scala keyboard mappings, and sheets of keys.
 
 use std::collections::HashSet;
 use std::iter;
@@ -15,6 +15,7 @@ use crate::books;
 use crate::conversions;
 use crate::edo;
 use crate::keys;
+use crate::mappings;
 use crate::moves;
 use crate::orders;
 use crate::questions::FreePergen;
@@ -25,6 +26,7 @@ use crate::questions::Question;
 use crate::random::Random;
 use crate::reach;
 use crate::retunings;
+use crate::sheets;
 use crate::starts;
 use crate::strips;
 
@@ -58,6 +60,8 @@ pub fn all() -> Vec<Question> {
     questions.extend(retunings::all());
     questions.extend(orders::all());
     questions.extend(moves::all());
+    questions.extend(mappings::all());
+    questions.extend(sheets::all());
 
     let mut asked = HashSet::new();
     questions.retain(|question| asked.insert(question.to_string()));

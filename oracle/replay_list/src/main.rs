@@ -8,12 +8,14 @@ mod conversions;
 mod edo;
 mod keys;
 mod list;
+mod mappings;
 mod moves;
 mod orders;
 mod questions;
 mod random;
 mod reach;
 mod retunings;
+mod sheets;
 mod starts;
 mod strips;
 

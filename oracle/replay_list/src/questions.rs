@@ -207,6 +207,13 @@ pub enum Question {
     NthMoves(FreePergen, u32),
     WriteMoves(Layout),
     WalkMoves(FreePergen),
+    /// The Scala keyboard mapping of a layout, which has a start, and its length; the keys that
+    /// any bytes map.
+    KbmLength(Layout),
+    Kbm(Layout),
+    ReadKbm(Layout, Vec<u8>),
+    /// A sheet of four keys; the layout has a start.
+    Sheet(Layout, [i32; 4]),
     /// Stored codes of one byte, and the way back.
     Widen(Vec<u8>),
     Narrow(Vec<u16>),
@@ -291,6 +298,7 @@ impl Display for Question {
             }
             Self::MoveTable(retuning) => write!(f, "move_table {retuning}"),
             Self::LargestMove(retuning) => write!(f, "largest_move {retuning}"),
+            Self::Sheet(layout, keys) => write!(f, "sheet {layout} {}", words(keys)),
             Self::ToChainOrder(layout, list) => {
                 write!(f, "to_chain_order {layout}{}", listed(list))
             }
@@ -300,6 +308,9 @@ impl Display for Question {
             Self::NthMoves(pergen, place) => write!(f, "nth_moves {pergen} {place}"),
             Self::WriteMoves(layout) => write!(f, "write_moves {layout}"),
             Self::WalkMoves(pergen) => write!(f, "walk_moves {pergen}"),
+            Self::KbmLength(layout) => write!(f, "kbm_len {layout}"),
+            Self::Kbm(layout) => write!(f, "kbm {layout}"),
+            Self::ReadKbm(layout, text) => write!(f, "read_kbm {layout}{}", listed(text)),
             Self::Widen(strip) => write!(f, "widen{}", listed(strip)),
             Self::Narrow(strip) => write!(f, "narrow{}", listed(strip)),
             Self::Table(line) => write!(f, "table {line}"),

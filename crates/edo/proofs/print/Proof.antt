@@ -2,7 +2,7 @@
 use mathlib.Core.Path.{refl, sym}
 use lib.Seq.{length-take-le}
 use Rattle.line_input.proofs.Enough.{kept-there}
-use Rattle.edo.proofs.Printing.{put-inside, put-there, is-output, all-printed}
+use Rattle.edo.proofs.Printing.{front, is-output, all-printed}
 use borrow.Author.Needs.{needs}
 use Rattle.edo.proofs.print.Statement.{statement}
 use Rattle.edo.proofs.print.Tie as tie
@@ -25,21 +25,21 @@ array-share-prefix-out c = search needs
 slice-aggregate-write-output : tie.Need-slice-aggregate-write-output
 slice-aggregate-write-output c =
     let p = c .before .before .put-output .ensures in
-    sym (length-take-le _ _ (put-inside _ refl (p .0) (p .1)))
+    sym (length-take-le _ _ (front _ refl (p .0) (p .1) .0))
 
 write-output-requires : tie.Need-write-output-requires
 write-output-requires c κs =
     let s = c .before .before .before .before .before .before .before in
     let p = c .before .before .put-output .ensures in
     let k = c .before .before .before .before .before .kept in
-    is-output _ _ _ (s .pre) (k .ensures) _ (put-there _ refl (p .0) (p .1))
+    is-output _ _ _ (s .pre) (k .ensures) _ (front _ refl (p .0) (p .1) .1)
 
 returns : tie.Need-returns
 returns c =
     let s = c .before .before .before .before .before .before .before .before in
     let p = c .before .before .before .put-output .ensures in
     let k = c .before .before .before .before .before .before .kept in
-    all-printed _ _ _ (s .pre) (k .ensures) _ (put-there _ refl (p .0) (p .1)) _ (c .write-output .ensures)
+    all-printed _ _ _ (s .pre) (k .ensures) _ (front _ refl (p .0) (p .1) .1) _ (c .write-output .ensures)
 
 pub print-spec : {M : Type 1} → statement M
 print-spec =

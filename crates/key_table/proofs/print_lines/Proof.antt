@@ -7,7 +7,8 @@ use lib.Seq.{length-take-le}
 use Rattle.text.specs.Writing.{joined}
 use Rattle.layout_table.specs.Parts.{lineFrom}
 use Rattle.key_table.specs.Printing.{onward}
-use Rattle.key_table.proofs.Printing.{put-there, part-room, part-next}
+use Rattle.text.proofs.Writing.{put-there}
+use Rattle.key_table.proofs.Printing.{part-room, part-next}
 use borrow.Author.Needs.{needs}
 use Rattle.key_table.proofs.print_lines.Statement.{statement}
 use Rattle.key_table.proofs.print_lines.Tie as tie

@@ -3,7 +3,9 @@ use Prim.Native.Nat.{_≤_}
 use mathlib.Core.Path.{sym}
 use native.Mathlib.Omega.{arith}
 use lib.Seq.{length-take-le}
-use Rattle.key_table.proofs.Printing.{refusal-room, put-there, refusal-next, refusal-printed}
+use Rattle.text.proofs.Writing.{put-there}
+use Rattle.layout_table.proofs.Lines.{refusal-room}
+use Rattle.key_table.proofs.Printing.{refusal-next, refusal-printed}
 use borrow.Author.Needs.{needs}
 use Rattle.key_table.proofs.print_refusal.Statement.{statement}
 use Rattle.key_table.proofs.print_refusal.Tie as tie

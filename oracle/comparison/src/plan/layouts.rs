@@ -162,7 +162,7 @@ fn limits_of_octave(tally: &mut Tally, octave: u16, mut randoms: Randoms) {
 /// Layouts whose strips had no one-byte codes: document 01's with 200 cycles, the most
 /// cycles that equalized scales of three chains have, and the largest sharp and flat
 /// layers, with an even and with an odd number of layers.
-const MANY_LAYERS: [(u16, u16, u16); 6] = [
+pub const MANY_LAYERS: [(u16, u16, u16); 6] = [
     (1, 2400, 3800),
     (0, 42_129, 65_534),
     (1, 41_699, 65_527),

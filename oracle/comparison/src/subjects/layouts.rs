@@ -96,7 +96,7 @@ impl GivenLayout {
     }
 
     /// A question about the layout as a whole.
-    fn asking(&self, call: Call) -> Question<'_> {
+    pub fn asking(&self, call: Call) -> Question<'_> {
         Question {
             call,
             arguments: &self.arguments,

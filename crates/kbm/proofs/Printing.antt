@@ -1,0 +1,90 @@
+-- The output for what is kept of a line is the output for the line: a refusal, or a mapping.
+use Prim.Native.Nat.{ℕ, _≤_, min}
+use native.Mathlib.Omega.{arith}
+use mathlib.Core.Path.{_≡_, refl, sym, ap, _∙_}
+use mathlib.Core.List.{List}
+use lib.ListN.{length, take, replicate, length-replicate}
+use Rattle.answer.specs.Outcome.{Outcome, given, refused, andThen}
+use Rattle.line.specs.declared.Line.{Line}
+use Rattle.line.specs.Lines.{lineOutcome}
+use Rattle.line.proofs.Enough.{later-bytes-ignored}
+use Rattle.line_input.specs.declared.Input.{Input}
+use Rattle.line_input.specs.Reading.{longest, LineRead}
+use Rattle.line_input.proofs.Enough.{first-line-is-enough, kept-output}
+use Rattle.layout.specs.Layouts.{Layout, layoutOutcome}
+use Rattle.layout_table.specs.Tables.{layoutOn, lineLayout, refusalLine, outputOf}
+use Rattle.layout_table.proofs.Calls.{line-laid}
+use Rattle.kbm_text.proofs.LineByLine.{mappings-fit}
+use Rattle.layout_kbm.specs.declared.parts.Mapping.{Mapping}
+use Rattle.layout_kbm.specs.Mappings.{mappingIn, getKbm}
+use Rattle.layout_kbm.specs.Parts.{isMapped, fileOf, MappingOf}
+use Rattle.kbm.specs.Printing.{kbmOutput, LineIsEnough, IsOutput, Printed, Refusing, Ready}
+use Rattle.kbm.specs.declared.Output.{Output}
+
+-- ---- the output, by what the line asks for
+
+output-by : (x y : List ℕ) → lineOutcome x ≡ lineOutcome y → kbmOutput x ≡ kbmOutput y
+unfolding kbmOutput
+output-by x y e = ap (λ (o : Outcome Line). outputOf (andThen o (λ (a : Line). getKbm (layoutOn a)))) e
+
+pub line-is-enough : LineIsEnough
+line-is-enough =
+    record {
+      eighteen = λ (line : List ℕ). output-by _ _ (later-bytes-ignored .eighteen line);
+      one-line = first-line-is-enough kbmOutput (λ line after. output-by _ _ (later-bytes-ignored .line-feed line after));
+    }
+
+by-layout : (o : Outcome Line)
+    → andThen o (λ (a : Line). getKbm (layoutOn a))
+    ≡ andThen (andThen o (λ (a : Line). layoutOutcome (layoutOn a))) (λ (l : Layout). given (mappingIn l))
+unfolding getKbm
+by-layout (given a) = refl
+by-layout (refused n) = refl
+
+module _ (line : List ℕ) where
+  output-is : outputOf (andThen (lineLayout line) (λ (l : Layout). given (mappingIn l))) ≡ kbmOutput line
+  unfolding kbmOutput lineLayout
+  output-is = ap outputOf (sym (by-layout (lineOutcome line)))
+
+  output-refused : (k n : ℕ) → k ≡ n → refused n ≡ lineLayout line → refusalLine k ≡ kbmOutput line
+  output-refused k n i e =
+      ap refusalLine i ∙ ap (λ (o : Outcome Layout). outputOf (andThen o (λ (l : Layout). given (mappingIn l)))) e ∙ output-is
+
+  output-given : (l : Layout) → given l ≡ lineLayout line → mappingIn l ≡ kbmOutput line
+  output-given l e = ap (λ (o : Outcome Layout). outputOf (andThen o (λ (x : Layout). given (mappingIn x)))) e ∙ output-is
+
+-- ---- what is kept of a line
+
+module _ (buffer : List ℕ) (input : Input) (kept : ℕ) (read : LineRead buffer input) (few : kept ≡ min longest (input .taken)) where
+  same-output : kbmOutput (take kept buffer) ≡ kbmOutput (read .line)
+  same-output = kept-output buffer input kept read few kbmOutput (line-is-enough .eighteen)
+
+  pub refusing : (k n : ℕ) → k ≡ n → refused n ≡ lineLayout (take kept buffer) → Refusing buffer input k
+  refusing k n i e = record { read = read; is-output = output-refused (take kept buffer) k n i e ∙ same-output }
+
+  pub ready : (l : Layout) → given l ≡ lineLayout (take kept buffer) → (m : Mapping) → MappingOf l m → Ready buffer input m
+  ready l e m w =
+      record {
+        read = read;
+        sound = w .sound;
+        is-output = w .file-is ∙ output-given (take kept buffer) l e ∙ same-output;
+        few = omega (arith, line-laid (take kept buffer) l e .few-keys, w .octave-is);
+      }
+
+-- ---- the buffer holds a mapping
+
+pub buffer-room : (m : Mapping) → m .keys ≤ 4096 → length (fileOf m) ≤ length (replicate {A = ℕ} 24611 0)
+unfolding fileOf
+buffer-room m h = omega (arith, mappings-fit (m .keys) (isMapped m) (omega arith), length-replicate {A = ℕ} 24611 0)
+
+-- ---- a text that is the output, handed over
+
+module _ (buffer : List ℕ) (input : Input) (text : List ℕ) where
+  pub refusal-is : (number : ℕ) → Refusing buffer input number → text ≡ refusalLine number → IsOutput text buffer input
+  refusal-is number r e = record { read = r .read; is-output = e ∙ r .is-output }
+
+  pub mapping-is : (m : Mapping) → Ready buffer input m → text ≡ fileOf m → IsOutput text buffer input
+  mapping-is m r e = record { read = r .read; is-output = e ∙ r .is-output }
+
+  pub printed : IsOutput text buffer input → (done : Output) → done .handed ≡ length text → Printed buffer input done
+  printed o done e = record { read = o .read; whole = e ∙ ap length (o .is-output) }

@@ -1,0 +1,13 @@
+pub mod LineLaws
+pub mod Bytes
+pub mod KindLaws
+pub mod StepLaws
+pub mod Scanning
+pub mod Listing
+pub mod Reading
+pub mod Comments
+pub mod Whole
+pub mod WriteLaws
+pub mod LineByLine
+pub mod ReadBack
+pub mod Examples

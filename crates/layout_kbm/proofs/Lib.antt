@@ -1,0 +1,4 @@
+pub mod Calls
+pub mod KeysRead
+pub mod Natural
+pub mod Examples

@@ -1,0 +1,4 @@
+pub mod Mappings
+pub mod Parts
+pub mod Theorems
+pub mod Examples

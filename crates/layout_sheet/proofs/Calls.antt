@@ -1,0 +1,64 @@
+-- What a sheet comes to: one law for a layout that is refused, one for a layout that is found.
+use Prim.Native.Nat.{ℕ, zero-le}
+use mathlib.Core.Path.{_≡_, sym, ap, _∙_}
+use mathlib.Core.List.{List}
+use native.Mathlib.Nat.{le-refl}
+use native.Mathlib.Omega.{arith}
+use lib.ListN.{length-map}
+use Rattle.answer.specs.Outcome.{Outcome, given, refused}
+use Rattle.answer.specs.Refusals.{numberOf}
+use Rattle.answer.specs.declared.Refusal.{Refusal}
+use Rattle.answer.specs.declared.CountAnswer.the-variants as Count
+use Rattle.layout.specs.declared.IsomorphicLayout.{IsomorphicLayout}
+use Rattle.layout.specs.declared.parts.Found.{Found}
+use Rattle.layout.specs.Layouts.{Layout, layoutOutcome}
+use Rattle.layout.specs.Parts.{layoutOf}
+use Rattle.layout.proofs.Calls.{of-refused, of-given}
+use Rattle.layout_sheet.specs.declared.Record.{Record}
+use Rattle.layout_sheet.specs.declared.parts.Common.{Common}
+use Rattle.layout_sheet.specs.Sheets.{recordIn, sheetIn}
+use Rattle.layout_sheet.specs.Answers.{getSheet, filledCount, sheetAfter}
+use Rattle.layout_sheet.specs.Parts.{CommonOf, filledTo, PreparedFor}
+use Rattle.layout_sheet.proofs.Changed.{changed-none, changed-all}
+
+pub sheet-refused : (r : IsomorphicLayout) (n : ℕ) → refused n ≡ layoutOutcome r → (records : List Record) → refused n ≡ getSheet r records
+unfolding getSheet
+sheet-refused r n e records = of-refused r _ n e
+
+pub sheet-given : (r : IsomorphicLayout) (l : Layout) → given l ≡ layoutOutcome r → (records : List Record)
+    → given (sheetIn l records) ≡ getSheet r records
+unfolding getSheet
+sheet-given r l e records = of-given r _ l e
+
+-- a refused layout: no record is filled
+pub nothing-filled : (r : IsomorphicLayout) (n : ℕ) (q : Refusal) → refused (numberOf q) ≡ layoutOutcome r → (c : Common)
+    → PreparedFor r n (record { answer = Count.Refused q; common = c; count = 0 })
+nothing-filled r n q e c =
+    record {
+      held = zero-le;
+      ready = λ some. absurd (let z : ⊥ = omega (arith, some) in z);
+      fills = λ records long. record {
+        answered = ap filledCount (sheet-refused r (numberOf q) e records);
+        content =
+            changed-none (recordIn (layoutOf (c .found))) records
+            ∙ ap (λ (o : Outcome (List Record)). sheetAfter o records) (sheet-refused r (numberOf q) e records);
+      };
+    }
+
+-- an accepted layout: all are
+pub all-filled : (r : IsomorphicLayout) (n : ℕ) (found : Found) → given (layoutOf found) ≡ layoutOutcome r → (c : Common) → CommonOf found c
+    → PreparedFor r n (record { answer = Count.Given n; common = c; count = n })
+all-filled r n found e c k =
+    let l = layoutOf (c .found) in
+    let ok : given l ≡ layoutOutcome r = ap (λ (f : Found). given (layoutOf f)) (k .found-is) ∙ e in
+    record {
+      held = le-refl n;
+      ready = λ some. k .ready;
+      fills = λ records long. record {
+        answered = ap given (sym long ∙ sym (length-map records (recordIn l))) ∙ ap filledCount (sheet-given r l ok records);
+        content =
+            ap (λ (m : ℕ). filledTo c m records) (sym long)
+            ∙ changed-all (recordIn l) records
+            ∙ ap (λ (o : Outcome (List Record)). sheetAfter o records) (sheet-given r l ok records);
+      };
+    }

@@ -1,0 +1,5 @@
+pub mod Sheets
+pub mod Answers
+pub mod Parts
+pub mod Theorems
+pub mod Examples
