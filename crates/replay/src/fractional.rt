@@ -5,10 +5,10 @@
 //     fractional_genesis DOUBLE                      the pattern that a generator's walk begins with
 //     fractional_nth DOUBLE PLACE                    the pattern at a place of the walk, from 0, or `none`
 //     fractional_len DOUBLE                          how many patterns the walk has
-//     fractional_children DOUBLE                     how many were written, or the refusal; then the eight that were lent, a comma before each
+//     fractional_children DOUBLE                     how many were written, or the refusal; then the eight lent, a comma before each
 //
-// A pattern is printed as it is read. Before the call a lent one has the counts 9 and 8 and the steps 7 and 6, so that it is seen where one is
-// left untouched.
+// A pattern is printed as it is read. Before the call a lent one has the counts 9 and 8 and the steps 7 and 6, so that it is seen where
+// one is left untouched.
 use crate::names;
 use crate::print;
 use crate::words;

@@ -1,5 +1,5 @@
--- `list_page` meets its contract: a walk of its MIR, by hand, since a slice of structs is not covered. The local array is taken apart into its
--- elements, lent as a slice for a lifetime that is made for the call, taken back when that has ended, and put together again.
+-- `list_page` meets its contract: a walk of its MIR, by hand, since a slice of structs is not covered. The local array is taken apart
+-- into its elements, lent as a slice for a lifetime that is made for the call, taken back when that has ended, and put together again.
 -- All that it knows of `children` is that it meets its contract.
 -- Assumes nothing.
 use mathlib.Core.Path.{_≡_, refl, sym, _∙_, ap, subst}
@@ -220,7 +220,8 @@ module _ {M : Type 1} (𝓤 : URA M) (H : Heap 𝓤) (A : Atoms 𝓤) (W : Given
       assigns ! (agg ! (and-then ! (load ! (from ! (stop !)) (look ! 4 refl)) (and-then ! (lit ! tt) (no-more !)))) (from ! (stop !))
       (init ! 2 refl (tt, (tt, (record { fits = lit< tt }, tt)))) $
       rewrite ! 2
-      (λ (k : ℕ). ‵ (fat fullShare (sliceTy (tyRef erased mut (pointee (T.the-row .written)))) l₆ 0 (sliceVal (l₃, 0) k))) (sym eight) refl $
+      (λ (k : ℕ). ‵ (fat fullShare (sliceTy (tyRef erased mut (pointee (T.the-row .written)))) l₆ 0 (sliceVal (l₃, 0) k)))
+      (sym eight) refl $
       -- the array is lent for a lifetime that is made here
       move ! (8 ∷ []) $ use1 W (‵ (cells (mem T.the-row) xs l₃ 0)) (apart l₃) $ lft-new ! tt (λ α. move ! (1 ∷ []) $
       use1 W
