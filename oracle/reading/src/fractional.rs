@@ -30,7 +30,7 @@ impl Fractional {
     /// is the generator's remainder by 1, with 1 added where that is below 0; the second is 1 minus it".
     pub fn genesis(generator: f64) -> Outcome<Self> {
         ask(22, generator.is_finite())?;
-        let remainder = generator % 1.0;
+        let remainder = remainder_by_1(generator);
         let first = if remainder < 0.0 {
             remainder + 1.0
         } else {
@@ -94,6 +94,13 @@ impl Fractional {
     }
 }
 
+/// What is left of a number without its whole part, with the number's own sign, of a 0 too. The
+/// difference is exact: it has no digit that the number has not. The library and the original call C's
+/// `fmod` for it, so `%` would be no other judge.
+fn remainder_by_1(number: f64) -> f64 {
+    (number - number.trunc()).copysign(number)
+}
+
 /// The walk from a generator.
 pub fn walk(generator: f64) -> Outcome<Vec<Bits>> {
     let genesis = Fractional::genesis(generator)?;
@@ -133,6 +140,18 @@ mod tests {
         assert_eq!(counts.len(), 43);
         assert_eq!(counts[..4], [[1, 1], [1, 2], [3, 2], [5, 2]]);
         assert_eq!(counts[42], [47_468, 31_867]);
+    }
+
+    #[test]
+    fn the_remainder_is_that_of_a_division() {
+        let exponents = (0..2_047).map(|exponent: u64| exponent << 52);
+        let digits = [0, 1, 0x5_5555_5555_5555, 0x8_0000_0000_0001, (1 << 52) - 1];
+        for bits in exponents.flat_map(|exponent| digits.map(|digits| exponent | digits)) {
+            for number in [f64::from_bits(bits), -f64::from_bits(bits)] {
+                let remainder = number % 1.0;
+                assert_eq!(remainder_by_1(number).to_bits(), remainder.to_bits());
+            }
+        }
     }
 
     #[test]
