@@ -71,7 +71,8 @@ sheetExamples =
     -- and here not: keys an octave apart have one name and two colours, below 0 too
     ∷ record {
       layout = layout 3 8 13;
-      before = asked (pos 1) ∷ asked (pos 9) ∷ asked (pos 17) ∷ asked (pos 8) ∷ asked (negsuc 0) ∷ asked (negsuc 8) ∷ asked (negsuc 2147483647) ∷ [];
+      before = asked (pos 1) ∷ asked (pos 9) ∷ asked (pos 17) ∷ asked (pos 8) ∷ asked (negsuc 0) ∷ asked (negsuc 8)
+          ∷ asked (negsuc 2147483647) ∷ [];
       count = given 7;
       after =
           line (pos 1) 4 0 4 0 0 1
@@ -92,13 +93,19 @@ sheetExamples =
     }
     -- none, in an accepted layout; refused layouts, whose records stay as they are, and none in one
     ∷ record { layout = layout 1 12 19; before = []; count = given 0; after = [] }
-    ∷ record { layout = layout 0 12 19; before = asked (pos 1) ∷ asked (pos 0) ∷ []; count = refused 4; after = asked (pos 1) ∷ asked (pos 0) ∷ [] }
+    ∷ record {
+      layout = layout 0 12 19;
+      before = asked (pos 1) ∷ asked (pos 0) ∷ [];
+      count = refused 4;
+      after = asked (pos 1) ∷ asked (pos 0) ∷ [];
+    }
     ∷ record { layout = beginning 7 1 12 19; before = asked (pos 1) ∷ []; count = refused 18; after = asked (pos 1) ∷ [] }
     ∷ record { layout = layout 6 0 0; before = []; count = refused 1; after = [] }
     ∷ []
 
 -- Theorem: the definitions give what the examples say.
 pub record ExamplesHold : Type 0 where
-  pub counts : map (λ (e : SheetExample). filledCount (getSheet (e .layout) (e .before))) sheetExamples ≡ map (λ (e : SheetExample). e .count) sheetExamples
+  pub counts : map (λ (e : SheetExample). filledCount (getSheet (e .layout) (e .before))) sheetExamples
+      ≡ map (λ (e : SheetExample). e .count) sheetExamples
   pub sheets : map (λ (e : SheetExample). sheetAfter (getSheet (e .layout) (e .before)) (e .before)) sheetExamples
       ≡ map (λ (e : SheetExample). e .after) sheetExamples

@@ -4,8 +4,8 @@
 // layout is found once for the whole sheet.
 // specs/: Sheets defines, Answers says what the call answers, Parts what the parts behind it promise, Theorems and Examples state what
 // holds.
-// The entry point answers every input; the module of parts asks for more, as its head says. Nothing is assumed.
-pub mod parts;
+// The entry point answers every input. Nothing is assumed.
+mod parts;
 
 use answer::CountAnswer;
 use layout::IsomorphicLayout;

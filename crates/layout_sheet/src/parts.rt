@@ -21,19 +21,19 @@ ghost use Rattle.layout_sheet.specs.Sheets.{recordIn};
 ghost use Rattle.layout_sheet.specs.Parts.{Ready, CommonOf, PreparedFor};
 
 // What all records of a sheet have in common.
-pub struct Common {
-    pub found: Found,
-    pub solved: Solved,
-    pub plan: Plan,
-    pub total: u16,
-    pub entries: u32,
+pub(crate) struct Common {
+    pub(crate) found: Found,
+    pub(crate) solved: Solved,
+    pub(crate) plan: Plan,
+    pub(crate) total: u16,
+    pub(crate) entries: u32,
 }
 
 // What a sheet comes to: the answer, and how many records are filled, by what they have in common.
-pub struct Prepared {
-    pub answer: CountAnswer,
-    pub common: Common,
-    pub count: usize,
+pub(crate) struct Prepared {
+    pub(crate) answer: CountAnswer,
+    pub(crate) common: Common,
+    pub(crate) count: usize,
 }
 
 // What all records of an accepted layout have in common.
@@ -96,7 +96,7 @@ fn none() -> Common {
 
 // A sheet of `len` records: all are filled, or none where the layout is refused (1, 2, 3, 4, 18). The loop over the records then needs no
 // other test than its own.
-pub fn prepare(layout: IsomorphicLayout, len: usize) -> Prepared
+pub(crate) fn prepare(layout: IsomorphicLayout, len: usize) -> Prepared
     ensures { λ r. ⌜ PreparedFor layout len r ⌝ }
 {
     match layout::parts::ask(layout) {

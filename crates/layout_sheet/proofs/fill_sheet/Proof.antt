@@ -1,8 +1,8 @@
--- `fill_sheet` meets its contract: a walk of its MIR, by hand, since the borrow checker does not cover a slice of records. The borrow of the
--- slice is opened once, before the loop, and closed once, after it.
+-- `fill_sheet` meets its contract: a walk of its MIR, by hand, since the borrow checker does not cover a slice of records. The borrow of
+-- the slice is opened once, before the loop, and closed once, after it.
 -- The loop's invariant: after i turns the first i records are filled, and the others as they were (`Changed`).
--- Nothing of a record's fields is used: an element is copied whole, passed to `filled`, and what that returns is stored whole. That `filled`
--- may be called is known from the loop's test: where some record is to be filled, the layout was accepted.
+-- Nothing of a record's fields is used: an element is copied whole, passed to `filled`, and what that returns is stored whole. That
+-- `filled` may be called is known from the loop's test: where some record is to be filled, the layout was accepted.
 -- Assumes nothing.
 use mathlib.Core.Path.{_≡_, refl, sym, _∙_, ap, subst}
 use Prim.Native.Nat.{ℕ, _+_, _-_, _*_, _<_, _≤_, _^_, zero-le}

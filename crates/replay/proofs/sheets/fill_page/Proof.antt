@@ -1,5 +1,5 @@
--- `fill_page` meets its contract: a walk of its MIR, by hand, since a slice of records is not covered. The local array is taken apart into its
--- elements, lent as a slice for a lifetime that is made for the call, taken back when that has ended, and put together again.
+-- `fill_page` meets its contract: a walk of its MIR, by hand, since a slice of records is not covered. The local array is taken apart into
+-- its elements, lent as a slice for a lifetime that is made for the call, taken back when that has ended, and put together again.
 -- All that it knows of `fill_sheet` is that it meets its contract.
 -- Assumes nothing.
 use mathlib.Core.Path.{_≡_, refl, sym, _∙_, ap, subst}
