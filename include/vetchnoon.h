@@ -3,8 +3,8 @@
  * Link libvetchnoon.a. Nothing is allocated, kept between calls or shared: every call may be made from any thread.
  *
  * What the library runs on
- *   x86-64 Linux, C calling convention, size_t of 64 bits. It needs memset and memcpy, which a C library has, and nothing
- *   else; it makes no system calls.
+ *   x86-64 Linux, C calling convention, size_t of 64 bits. It needs memset, memcpy and fmod, which a C library has (fmod often
+ *   in a part of its own: link with -lm), and nothing else; it makes no system calls. Only vn_fractional_children calls fmod.
  *   Stack: at most 1.25 KiB for any call, measured (1,224 bytes for vn_edo_report, 1,128 for vn_find_by_edo, 856 for
  *   vn_tritaves, 744 for vn_key_table, at most 512 for any other, with the memset and memcpy of glibc); examples/check
  *   measures it again.
@@ -96,7 +96,8 @@ extern "C" {
 
 /* The version of this header. The first number changes where a call, a number above or an answer is changed or taken away,
  * the second where some are added, the third where neither is so.
- *   7.7.0: vn_fractional_child, vn_fractional_children, which asks 22, and struct vn_fractional are added.
+ *   7.7.0: vn_fractional_child, vn_fractional_children, which asks 22, and struct vn_fractional are added. The library needs
+ *          fmod from here on, so programs are linked with -lm.
  *   7.6.0: vn_sheet and struct vn_record are added.
  *   7.5.0: vn_kbm_len, vn_kbm and vn_kbm_read are added, of which the last asks 19 and 20.
  *   7.4.0: vn_moved, vn_move_table and vn_largest_move are added.
