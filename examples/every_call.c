@@ -44,6 +44,7 @@ static void holds(int line, const void *slice, const void *wanted, size_t bytes)
     } while (0)
 
 static struct vn_record records[8];
+static struct vn_fractional patterns[65536];
 static uint16_t numbers[64];
 static int32_t moves[4 * 65535];
 static uint16_t strip[2400];
@@ -104,6 +105,129 @@ static void call_patterns(void)
     IS(key[0], -65533);
     IS(vn_mos_child(65535, 2, 2, 1, numbers, 4), -VN_SIZE);
     IS(vn_mos_coprime(1, 60000, 4, 0, numbers, 4), -VN_COPRIME_SIZE);
+}
+
+/* A pattern, whose padding may hold anything; numbers are compared by their bits, since -0.0 equals 0.0. */
+static void pattern_is(int line, size_t place, struct vn_fractional wanted)
+{
+    const struct vn_fractional *found = patterns + place;
+    is(line, found->primary_count, wanted.primary_count);
+    is(line, found->secondary_count, wanted.secondary_count);
+    holds(line, &found->primary_step, &wanted.primary_step, sizeof wanted.primary_step);
+    holds(line, &found->secondary_step, &wanted.secondary_step, sizeof wanted.secondary_step);
+}
+
+#define PATTERN(place, ...) \
+    do { \
+        const struct vn_fractional wanted = {__VA_ARGS__}; \
+        pattern_is(__LINE__, place, wanted); \
+    } while (0)
+
+/* The bytes of the patterns from a place on are untouched. */
+static void patterns_untouched(int line, size_t from)
+{
+    static uint8_t filled[sizeof patterns];
+    memset(filled, 0x5A, sizeof filled);
+    holds(line, patterns + from, filled, sizeof patterns - from * sizeof patterns[0]);
+}
+
+static int64_t child_of(uint16_t a, uint16_t b, double p, double s, size_t len)
+{
+    struct vn_fractional pattern;
+    pattern.primary_count = a;
+    pattern.secondary_count = b;
+    pattern.primary_step = p;
+    pattern.secondary_step = s;
+    memset(patterns, 0x5A, sizeof patterns);
+    return vn_fractional_child(pattern, patterns, len);
+}
+
+/* Doubles that C99 has no constant expressions for: both infinities, no number, the smallest above 0. */
+static double of_bits(uint64_t bits)
+{
+    double number;
+    memcpy(&number, &bits, sizeof number);
+    return number;
+}
+
+static void call_fractional_child(void)
+{
+    double infinity = of_bits(0x7FF0000000000000), nothing = of_bits(0x7FF8000000000001), least = of_bits(1);
+
+    IS(child_of(5, 2, 0.1875, 0.03125, 1), 1);
+    PATTERN(0, 5, 7, 0.15625, 0.03125);
+    patterns_untouched(__LINE__, 1);
+    IS(child_of(5, 2, 0.03125, 0.1875, 4), 1);
+    PATTERN(0, 7, 2, 0.03125, 0.15625);
+    patterns_untouched(__LINE__, 1);
+    IS(child_of(65534, 1, -1.5, infinity, 1), 1);
+    PATTERN(0, 65535, 1, -1.5, infinity);
+    IS(child_of(0, 0, 1.0, least, 1), 1);
+    PATTERN(0, 0, 0, 1.0, least);
+
+    /* No child: no room is asked for, and nothing written. */
+    IS(child_of(5, 2, 0.25, 0.25, 0), 0);
+    IS(child_of(5, 2, -0.0, 0.25, 0), 0);
+    IS(child_of(5, 2, 0.25, 0.0, 1), 0);
+    IS(child_of(5, 2, nothing, 0.25, 1), 0);
+    IS(child_of(5, 2, 0.25, nothing, 1), 0);
+    IS(child_of(5, 2, infinity, infinity, 1), 0);
+    IS(child_of(65535, 1, 0.5, 0.25, 1), 0);
+    patterns_untouched(__LINE__, 0);
+    IS(child_of(5, 2, 0.1875, 0.03125, 0), -VN_ROOM);
+    patterns_untouched(__LINE__, 0);
+}
+
+static int64_t walk_from(double generator, size_t len)
+{
+    memset(patterns, 0x5A, sizeof patterns);
+    return vn_fractional_children(generator, patterns, len);
+}
+
+static void call_fractional_children(void)
+{
+    double infinity = of_bits(0x7FF0000000000000), nothing = of_bits(0xFFF8000000000001), least = of_bits(1);
+
+    IS(walk_from(0.625, 4), 4);
+    PATTERN(0, 1, 1, 0.625, 0.375);
+    PATTERN(1, 1, 2, 0.25, 0.375);
+    PATTERN(2, 3, 2, 0.25, 0.125);
+    PATTERN(3, 3, 5, 0.125, 0.125);
+    patterns_untouched(__LINE__, 4);
+    IS(walk_from(-4.375, 5), 4);
+    PATTERN(3, 3, 5, 0.125, 0.125);
+    patterns_untouched(__LINE__, 4);
+    IS(walk_from(0.625, 3), -VN_ROOM);
+    IS(walk_from(0.625, 0), -VN_ROOM);
+    patterns_untouched(__LINE__, 0);
+
+    /* The fifth: so many patterns until a count would pass 65,535. */
+    IS(walk_from(of_bits(0x3FE2B803473F7AD1), 64), 43);
+    PATTERN(0, 1, 1, of_bits(0x3FE2B803473F7AD1), 1.0 - of_bits(0x3FE2B803473F7AD1));
+    IS(patterns[42].primary_count, 47468);
+    IS(patterns[42].secondary_count, 31867);
+    patterns_untouched(__LINE__, 43);
+
+    /* A step of 0; -0 where the generator is a whole number below 0. The sum with 1 is rounded. */
+    IS(walk_from(7.0, 1), 1);
+    PATTERN(0, 1, 1, 0.0, 1.0);
+    IS(walk_from(-1.0, 1), 1);
+    PATTERN(0, 1, 1, -0.0, 1.0);
+    IS(walk_from(-least, 1), 1);
+    PATTERN(0, 1, 1, 1.0, 0.0);
+    patterns_untouched(__LINE__, 1);
+
+    /* The longest walk. */
+    IS(walk_from(least, 65536), 65535);
+    PATTERN(65534, 65535, 1, least, 1.0);
+    patterns_untouched(__LINE__, 65535);
+    IS(walk_from(least, 65534), -VN_ROOM);
+
+    /* 22 goes before 10. */
+    IS(walk_from(infinity, 64), -VN_FRACTIONAL_GENERATOR);
+    IS(walk_from(-infinity, 0), -VN_FRACTIONAL_GENERATOR);
+    IS(walk_from(nothing, 0), -VN_FRACTIONAL_GENERATOR);
+    patterns_untouched(__LINE__, 0);
 }
 
 static void call_chains(void)
@@ -713,6 +837,8 @@ int main(void)
     call_numbers();
     call_pergens();
     call_patterns();
+    call_fractional_child();
+    call_fractional_children();
     call_chains();
     call_tritaves();
     call_divisions();

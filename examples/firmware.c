@@ -1,7 +1,8 @@
 /* What an instrument's firmware does with the library: it makes a layout, lights the lamps, keeps a book of names, and
  * shows the name of each key that is pressed, the nearest D, how far a retuning moves notes, the order in which caps are
- * filed, the board's moves, which keys a synthesizer's mapping has, and a sheet for the engraver. Nothing is allocated, and
- * every refusal is shown by its number. */
+ * filed, the board's moves, which keys a synthesizer's mapping has, a sheet for the engraver, and the patterns of a fractional
+ * generator. Nothing is allocated, and every refusal is shown by its number. */
+#include <float.h>
 #include <inttypes.h>
 #include <stdio.h>
 
@@ -177,6 +178,20 @@ static void show_sheet(uint16_t start)
                sheet[i].stars, sheet[i].lamp);
 }
 
+/* Shows for a theory class how the patterns of a generator, a part of the octave, go on: the counts of the first eight. */
+static void show_patterns(double generator)
+{
+    static struct vn_fractional patterns[65535];
+    int64_t count = vn_fractional_children(generator, patterns, 65535), i;
+
+    if (refused("patterns", count))
+        return;
+    printf("generator %.6f, %" PRId64 " patterns:", generator, count);
+    for (i = 0; i < count && i < 8; i++)
+        printf(" %d+%d", patterns[i].primary_count, patterns[i].secondary_count);
+    printf("\n");
+}
+
 /* Lights the keys from one to another, both included. */
 static void light(int32_t from, int32_t to)
 {
@@ -225,6 +240,7 @@ int main(void)
 {
     uint16_t layout[8]; /* generator, cycles, reduced period, inverse, counts, steps */
     int64_t length;
+    double largest = DBL_MAX;
 
     show_division(OCTAVE); /* Meantone[7] and Meantone[5]; the first is taken below */
     show_division(16);
@@ -261,6 +277,9 @@ int main(void)
     show_mapping();
     show_sheet(START);
     show_sheet(FROM_NOTHING);
+    show_patterns(0.5849625007211562); /* the fifth */
+    show_patterns(0.625);
+    show_patterns(largest * 2); /* infinite */
 
     /* Porcupine[8] in 8 equal steps: the colours of one octave are not those of the next, so the strip has two;
      * keys -8, 0, 8 and 16 are home. */

@@ -15,6 +15,8 @@ static uint16_t numbers[2 * 65536];
 static int32_t moves[4 * 65536];
 static uint16_t entries[65536];
 static struct vn_record records[65536];
+static struct vn_fractional patterns[65536];
+static const struct vn_fractional pattern = {5, 2, 0.1875, 0.03125};
 static uint8_t text[1 << 22];
 static const uint8_t stored[4096];
 static const uint16_t wide[4096];
@@ -41,6 +43,11 @@ static uint32_t found[2];
     CALL(vn_mos_parents(46368, 28657, 1, 0, numbers, sizeof numbers / 2)) \
     CALL(vn_mos_layers(5, 2, 9000, 7000, numbers, sizeof numbers / 2)) \
     CALL(vn_mos_key(5, 2, 2, 1, -32768, 32767, key, 1)) \
+    CALL(vn_fractional_child(pattern, patterns, 1)) \
+    CALL(vn_fractional_children(0.5849625007211562, patterns, sizeof patterns / 24)) \
+    CALL(vn_fractional_children(-1234567.891, patterns, sizeof patterns / 24)) \
+    CALL(vn_fractional_children(1e-300, patterns, sizeof patterns / 24)) \
+    CALL(vn_fractional_children(1e+300, patterns, sizeof patterns / 24)) \
     CALL(vn_chain_letters(0, numbers, 9)) \
     CALL(vn_chain_name(3, text, 12)) \
     CALL(vn_start(5)) \

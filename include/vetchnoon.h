@@ -3,8 +3,8 @@
  * Link libvetchnoon.a. Nothing is allocated, kept between calls or shared: every call may be made from any thread.
  *
  * What the library runs on
- *   x86-64 Linux, C calling convention, size_t of 64 bits. It needs memset and memcpy, which a C library has, and nothing
- *   else; it makes no system calls.
+ *   x86-64 Linux, C calling convention, size_t of 64 bits. It needs memset, memcpy and fmod, which a C library has (fmod often
+ *   in a part of its own: link with -lm), and nothing else; it makes no system calls. Only vn_fractional_children calls fmod.
  *   Stack: at most 1.25 KiB for any call, measured (1,224 bytes for vn_edo_report, 1,128 for vn_find_by_edo, 856 for
  *   vn_tritaves, 744 for vn_key_table, at most 512 for any other, with the memset and memcpy of glibc); examples/check
  *   measures it again.
@@ -37,6 +37,7 @@
  *   VN_KBM_LINES    19  Has a keyboard mapping its lines, none missing and none left over, each of a form that may stand there?
  *   VN_KBM_NUMBERS  20  Are its numbers those of the layout?
  *   VN_STARS        21  Are the stars below the number of cycles? (Of a retuning: below that of both layouts?)
+ *   VN_FRACTIONAL_GENERATOR 22  Is the fractional generator a number, and not infinite?
  * A refusal is compared as in vn_layout(chain, octave, tritave, start, out, len) == -VN_PATTERN.
  *
  * What a key is
@@ -85,6 +86,7 @@ extern "C" {
 #define VN_KBM_LINES 19
 #define VN_KBM_NUMBERS 20
 #define VN_STARS 21
+#define VN_FRACTIONAL_GENERATOR 22
 
 /* The kinds of layers, which vn_layer_kind tells. */
 #define VN_NATURAL 0
@@ -94,6 +96,8 @@ extern "C" {
 
 /* The version of this header. The first number changes where a call, a number above or an answer is changed or taken away,
  * the second where some are added, the third where neither is so.
+ *   7.7.0: vn_fractional_child, vn_fractional_children, which asks 22, and struct vn_fractional are added. The library needs
+ *          fmod from here on, so programs are linked with -lm.
  *   7.6.0: vn_sheet and struct vn_record are added.
  *   7.5.0: vn_kbm_len, vn_kbm and vn_kbm_read are added, of which the last asks 19 and 20.
  *   7.4.0: vn_moved, vn_move_table and vn_largest_move are added.
@@ -114,7 +118,7 @@ extern "C" {
  *   2.0.0: vn_sounded_key takes signs as one number, and asks 16 and 21.
  *   1.0.0, before these numbers stood here: it took sharps and flats as two numbers, and asked 15, VN_SPELLING. */
 #define VN_VERSION_MAJOR 7
-#define VN_VERSION_MINOR 6
+#define VN_VERSION_MINOR 7
 #define VN_VERSION_PATCH 0
 
 /* The library was built for a size_t of 64 bits; with any other this line does not compile. */
@@ -186,6 +190,32 @@ int64_t vn_mos_layers(uint16_t primary_count, uint16_t secondary_count, uint16_t
 /* Writes 1 number, the key p primary and s secondary steps from the origin. Asks 7, 10. */
 int64_t vn_mos_key(uint16_t primary_count, uint16_t secondary_count, uint16_t primary_step, uint16_t secondary_step,
                    int16_t p, int16_t s, int64_t *out, size_t len);
+
+/* ---- step patterns from a fractional generator, a part of the octave such as 0.585 for a fifth: no step counts are needed. Steps
+ * are doubles of IEEE 754, and each sum and subtraction rounds once, to the nearest. */
+
+/* A pattern. */
+struct vn_fractional {
+    uint16_t primary_count;   /* how many primary steps it has */
+    uint16_t secondary_count; /* how many secondary steps */
+    double primary_step;      /* how large they are, as parts of the octave */
+    double secondary_step;
+};
+
+/* The library has a pattern in 24 bytes, and a double in 8; with any other numbers these lines do not compile. */
+typedef char vn_fractional_has_24_bytes[sizeof(struct vn_fractional) == 24 ? 1 : -1];
+typedef char vn_double_has_8_bytes[sizeof(double) == 8 ? 1 : -1];
+
+/* Writes the child of a pattern, which is handed over by value; 0 elements where there is none: where a step is 0, both are equal,
+ * one is not a number, or the counts' sum passes 65,535. The sum becomes the count of the shorter step, and the difference the
+ * longer step. Any struct is answered, also with steps that are infinite or below 0. Asks 10. */
+int64_t vn_fractional_child(struct vn_fractional pattern, struct vn_fractional *out, size_t len);
+
+/* Writes the whole walk of children from a generator, the genesis first: counts 1 and 1; the primary step is the generator's
+ * remainder by 1, with 1 added where that is below 0, and the secondary one 1 minus it. A generator of k / 65,536, k from 0 to
+ * 65,535, has the walk of period 65,536 and generator k, each step divided by 65,536. There are at most 65,535 patterns.
+ * Asks 22, 10. */
+int64_t vn_fractional_children(double generator, struct vn_fractional *out, size_t len);
 
 /* ---- chains of letters, by their code from 0 to 5 */
 

@@ -4,7 +4,7 @@
 //! The files come from the folder that `TUNE_SRC` names, a checkout of
 //! Woyten/tune at 0b79b5a85a, or else from the planning folder beside the
 //! repository. A file is compiled as it is, up to its test module, which the
-//! planning folder leaves out. A checksum guards against any other text. Two
+//! planning folder leaves out. A checksum guards against any other text. Three
 //! functions of our own are appended, see `APPENDED`.
 
 use std::env;
@@ -36,10 +36,33 @@ const MODULES: [(&str, u64); 5] = [
 /// its source. `create_layout` is private there, and the public callers choose
 /// octave and tritave by floating-point arithmetic, so a layout could not be
 /// asked for by its two step counts. The origin is a private field, which the
-/// original sets by the chain alone; all of its code reads it from there.
-const APPENDED: [(&str, &str); 1] = [(
-    "layout",
-    "
+/// original sets by the chain alone; all of its code reads it from there. The
+/// fields of a pattern are private too, and of fractional steps only those from
+/// a generator on could be asked for.
+const APPENDED: [(&str, &str); 2] = [
+    (
+        "pergen",
+        "
+/// Appended by the oracle's build script, to reach a pattern's private fields.
+pub fn fractional_mos_for_oracle(
+    num_primary_steps: u16,
+    num_secondary_steps: u16,
+    primary_step: f64,
+    secondary_step: f64,
+) -> Mos<f64, u16> {
+    Mos {
+        num_primary_steps,
+        num_secondary_steps,
+        primary_step,
+        secondary_step,
+        size: 1,
+    }
+}
+",
+    ),
+    (
+        "layout",
+        "
 /// Appended by the oracle's build script, to reach the private `create_layout`.
 pub fn create_layout_for_oracle(genchain: Genchain, val: &Val) -> Option<IsomorphicLayout> {
     genchain.create_layout(val, false)
@@ -50,7 +73,8 @@ pub fn begin_layout_for_oracle(layout: &mut IsomorphicLayout, genchain_origin: u
     layout.acc_format.genchain_origin = genchain_origin;
 }
 ",
-)];
+    ),
+];
 
 fn main() {
     if let Err(reason) = bring_original() {

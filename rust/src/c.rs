@@ -1,5 +1,6 @@
 //! The C interface, as `include/vetchnoon.h` declares it.
 
+use crate::Fractional;
 use crate::Record;
 
 unsafe extern "C" {
@@ -37,6 +38,9 @@ unsafe extern "C" {
     ) -> i64;
     pub fn vn_mos_find(period: u16, generator: u16, steps: u16, out: *mut u16, len: usize) -> i64;
     pub fn vn_walk_moves(period: u16, generator: u16, out: *mut i32, len: usize) -> i64;
+
+    pub fn vn_fractional_child(pattern: Fractional, out: *mut Fractional, len: usize) -> i64;
+    pub fn vn_fractional_children(generator: f64, out: *mut Fractional, len: usize) -> i64;
 
     pub fn vn_chain_letters(chain: u16, out: *mut u16, len: usize) -> i64;
     pub fn vn_chain_name(chain: u16, out: *mut u8, len: usize) -> i64;

@@ -149,6 +149,17 @@ impl Record {
     }
 }
 
+/// A step pattern from a fractional generator, as C has it: two counts, and two steps that are
+/// parts of the octave.
+#[repr(C)]
+#[derive(Clone, Copy, Debug, Default, PartialEq)]
+pub struct Fractional {
+    pub primary_count: u16,
+    pub secondary_count: u16,
+    pub primary_step: f64,
+    pub secondary_step: f64,
+}
+
 /// The kinds of layers, as [`layer_kind`] writes them.
 pub const NATURAL: u16 = 0;
 pub const SHARP: u16 = 1;
@@ -263,6 +274,52 @@ filling! {
     /// }
     /// ```
     walk_moves = vn_walk_moves(period: u16, generator: u16; i32);
+    /// The child of a pattern, or nothing: where a step is 0, both are equal, one is not a number,
+    /// or the counts' sum passes 65,535 (10). Any record is answered.
+    ///
+    /// ```
+    /// use vetchnoon::{Fractional, Refused, fractional_child};
+    ///
+    /// let diatonic = Fractional {
+    ///     primary_count: 5,
+    ///     secondary_count: 2,
+    ///     primary_step: 0.1875,
+    ///     secondary_step: 0.03125,
+    /// };
+    /// let mut child = [Fractional::default()];
+    /// assert_eq!(fractional_child(diatonic, &mut child), Ok(1));
+    /// let chromatic = Fractional {
+    ///     secondary_count: 7,
+    ///     primary_step: 0.15625,
+    ///     ..diatonic
+    /// };
+    /// assert_eq!(child, [chromatic]);
+    /// assert_eq!(fractional_child(diatonic, &mut []), Err(Refused(10)));
+    ///
+    /// let equalized = Fractional {
+    ///     primary_step: 0.03125,
+    ///     ..diatonic
+    /// };
+    /// assert_eq!(fractional_child(equalized, &mut []), Ok(0));
+    /// ```
+    fractional_child = vn_fractional_child(pattern: Fractional; Fractional);
+    /// The walk of patterns from a generator, a part of the octave, the genesis first (22, 10).
+    /// There are at most 65,535.
+    ///
+    /// ```
+    /// use vetchnoon::{Fractional, Refused, fractional_children};
+    ///
+    /// let fifth = 1.5_f64.log2();
+    /// let mut walk = [Fractional::default(); 64];
+    /// assert_eq!(fractional_children(fifth, &mut walk), Ok(43));
+    /// assert_eq!((walk[0].primary_step, walk[0].secondary_step), (fifth, 1.0 - fifth));
+    /// let counts = |place: usize| (walk[place].primary_count, walk[place].secondary_count);
+    /// assert_eq!([0, 3, 42].map(counts), [(1, 1), (5, 2), (47468, 31867)]);
+    ///
+    /// assert_eq!(fractional_children(fifth, &mut walk[..42]), Err(Refused(10)));
+    /// assert_eq!(fractional_children(f64::INFINITY, &mut walk), Err(Refused(22)));
+    /// ```
+    fractional_children = vn_fractional_children(generator: f64; Fractional);
     /// A chain's letters in order, as code points (1, 10).
     chain_letters = vn_chain_letters(chain: u16; u16);
     /// A chain's name (1, 10).

@@ -25,6 +25,7 @@ use Rattle.answer.specs.declared.Refusal.the-variants.{
   MappingLines,
   MappingNumbers,
   Stars,
+  FractionalGenerator,
 }
 use Rattle.answer.specs.Outcome.{Outcome, given, refused, ask, andThen}
 use Rattle.answer.specs.Refusals.{numberOf}
@@ -52,10 +53,11 @@ pub record ExamplesHold : Type 0 where
   pub numbers : map numberOf inOrder ≡ 1 ∷ 2 ∷ 3 ∷ 4 ∷ 5 ∷ 6 ∷ 7 ∷ 8 ∷ 10 ∷ 11 ∷ 12 ∷ 13 ∷ 14 ∷ []
   -- document 02: "15 when n is outside 1 to 400", "16 when the letter's place is not below the number of letters", "17 when an old strip
   -- holds a code from 202 to 254, or ..", "18 when the start is not below the number of letters", "19 when a line is missing or left over,
-  -- or ..", "20 when one of the other six head numbers differs from ours or ..", "21 when the stars are not below" the cycles
+  -- or ..", "20 when one of the other six head numbers differs from ours or ..", "21 when the stars are not below" the cycles, "22 when the
+  -- generator is infinite or not a number"
   pub later-numbers :
-      map numberOf (Division ∷ Letter ∷ Code ∷ Start ∷ MappingLines ∷ MappingNumbers ∷ Stars ∷ [])
-      ≡ 15 ∷ 16 ∷ 17 ∷ 18 ∷ 19 ∷ 20 ∷ 21 ∷ []
+      map numberOf (Division ∷ Letter ∷ Code ∷ Start ∷ MappingLines ∷ MappingNumbers ∷ Stars ∷ FractionalGenerator ∷ [])
+      ≡ 15 ∷ 16 ∷ 17 ∷ 18 ∷ 19 ∷ 20 ∷ 21 ∷ 22 ∷ []
   -- "the first no gives its number and nothing else", "a yes to all gives the answer"
   pub first-no : stopped ≡ refused 2
   pub all-yes : accepted ≡ given 7

@@ -1,4 +1,4 @@
--- The number of each refusal, and what the shared answers mean (document 01, "Questions before an answer"; 15 to 21 of document 02).
+-- The number of each refusal, and what the shared answers mean (document 01, "Questions before an answer"; 15 to 22 of document 02).
 use Prim.Native.Nat.{ℕ}
 use Rattle.answer.specs.Outcome.{Outcome, given, refused}
 use Rattle.answer.specs.declared.Refusal.{Refusal}
@@ -23,6 +23,7 @@ use Rattle.answer.specs.declared.Refusal.the-variants.{
   MappingLines,
   MappingNumbers,
   Stars,
+  FractionalGenerator,
 }
 use Rattle.answer.specs.declared.NumberAnswer.{NumberAnswer}
 use Rattle.answer.specs.declared.NumberAnswer.the-variants as Number
@@ -52,6 +53,7 @@ numberOf Start = 18
 numberOf MappingLines = 19
 numberOf MappingNumbers = 20
 numberOf Stars = 21
+numberOf FractionalGenerator = 22
 
 -- A number that was given, or the number of the question.
 abbrev pub numberOutcome : NumberAnswer → Outcome ℕ

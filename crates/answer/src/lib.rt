@@ -1,6 +1,6 @@
 // What every entry point answers: a value, or the number of the first question that it says no to.
 //
-// Holds thirteen questions of document 01 ("Questions before an answer") and seven of document 02 as one enum with their numbers,
+// Holds thirteen questions of document 01 ("Questions before an answer") and eight of document 02 as one enum with their numbers,
 // and the answers that several crates share. Number 9 stays reserved: its answer is always yes since lamp codes have two bytes
 // (document 02, W-207), so no call asks it.
 // specs/: an outcome and how questions are asked (Outcome), the numbers (Refusals), what a lent slice holds
@@ -50,6 +50,8 @@ pub enum Refusal {
     MappingNumbers,
     // 21: are the stars below the cycles? (document 02)
     Stars,
+    // 22: is the fractional generator a number, and not infinite? (document 02)
+    FractionalGenerator,
 }
 
 impl Refusal {
@@ -78,6 +80,7 @@ impl Refusal {
             Refusal::MappingLines => 19,
             Refusal::MappingNumbers => 20,
             Refusal::Stars => 21,
+            Refusal::FractionalGenerator => 22,
         }
     }
 }

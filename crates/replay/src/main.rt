@@ -8,6 +8,7 @@
 // original, and where it has none, by a reading of document 01. docs/DIFFERENCES.md says how they were made.
 mod books;
 mod edo;
+mod fractional;
 mod layouts;
 mod mappings;
 mod moves;
@@ -161,7 +162,10 @@ fn answered_other(kind: usize, line: &[u8], end: usize, room: u16) -> bool {
     if mappings::answer(line, end, room) {
         return true;
     }
-    sheets::answer(line, end)
+    if sheets::answer(line, end) {
+        return true;
+    }
+    fractional::answer(line, end)
 }
 
 fn answer_line(line: &[u8]) {

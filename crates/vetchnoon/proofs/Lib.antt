@@ -3,3 +3,4 @@ pub mod Pairs
 pub mod Boards
 pub mod SheetCodes
 pub mod Examples
+pub mod FractionalCalls

@@ -6,6 +6,7 @@
 //! every call, since a call takes the four numbers.
 
 mod edo;
+mod fractional;
 mod mappings;
 
 use std::borrow::Borrow;
@@ -99,6 +100,7 @@ pub fn of_the_original() -> Vec<Row> {
     rows.extend(mappings::rows());
     rows.extend(walks());
     rows.extend(walks_of_moves());
+    rows.extend(fractional::rows());
     rows
 }
 

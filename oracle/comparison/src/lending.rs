@@ -8,15 +8,22 @@ use std::fmt::Debug;
 
 use judge::shown::shown;
 use reading::Outcome;
+use reading::fractional::Bits;
+use vetchnoon::Fractional;
 use vetchnoon::Refused;
 
 use crate::tally::outcome;
 
 /// An element of a lent slice.
-pub trait Element: Copy + PartialEq + Debug {
+pub trait Element: Copy {
+    /// What is compared of an element.
+    type Read: Clone + PartialEq + Debug;
+
     /// What an element holds before a call. Two rounds hold different values at
     /// each place, so no output can be taken for what was there.
     fn before(place: usize, round: Round) -> Self;
+
+    fn read(self) -> Self::Read;
 }
 
 #[derive(Clone, Copy, Debug)]
@@ -29,6 +36,8 @@ pub enum Round {
 macro_rules! elements {
     ($($type:ty),*) => {$(
         impl Element for $type {
+            type Read = Self;
+
             fn before(place: usize, round: Round) -> Self {
                 let pattern = (place as $type).wrapping_mul(37).wrapping_add(0x5a);
                 match round {
@@ -36,11 +45,36 @@ macro_rules! elements {
                     Round::Longer | Round::Short => !pattern,
                 }
             }
+
+            fn read(self) -> Self {
+                self
+            }
         }
     )*};
 }
 
 elements!(u8, u16, i32, u32, i64);
+
+/// A pattern of fractional steps, which are compared bit for bit.
+impl Element for Fractional {
+    type Read = Bits;
+
+    fn before(place: usize, round: Round) -> Self {
+        Self {
+            primary_count: u16::before(place, round),
+            secondary_count: u16::before(place + 1, round),
+            primary_step: f64::from_bits(i64::before(place + 2, round) as u64),
+            secondary_step: f64::from_bits(i64::before(place + 3, round) as u64),
+        }
+    }
+
+    fn read(self) -> Bits {
+        Bits {
+            counts: [self.primary_count, self.secondary_count],
+            steps: [self.primary_step, self.secondary_step].map(f64::to_bits),
+        }
+    }
+}
 
 /// Elements before and behind a lent slice.
 const GUARD: usize = 4;
@@ -57,7 +91,7 @@ pub const SLICE_HOLDS_OUTPUT: u8 = 10;
 pub fn lent<T: Element>(
     room: usize,
     call: impl Fn(&mut [T]) -> Result<usize, Refused>,
-) -> Result<Outcome<Vec<T>>, String> {
+) -> Result<Outcome<Vec<T::Read>>, String> {
     let exact = exact_and_longer(room, &call)?;
     if room > 0 {
         let expected = exact.as_ref().err().copied().unwrap_or(SLICE_HOLDS_OUTPUT);
@@ -71,7 +105,7 @@ pub fn lent<T: Element>(
 pub fn lent_after_room<T: Element>(
     room: usize,
     call: impl Fn(&mut [T]) -> Result<usize, Refused>,
-) -> Result<Outcome<Vec<T>>, String> {
+) -> Result<Outcome<Vec<T::Read>>, String> {
     let exact = exact_and_longer(room, &call)?;
     one_short(room, SLICE_HOLDS_OUTPUT, &call)?;
     Ok(exact)
@@ -80,7 +114,7 @@ pub fn lent_after_room<T: Element>(
 fn exact_and_longer<T: Element>(
     room: usize,
     call: &impl Fn(&mut [T]) -> Result<usize, Refused>,
-) -> Result<Outcome<Vec<T>>, String> {
+) -> Result<Outcome<Vec<T::Read>>, String> {
     let exact = filled(room, Round::Exact, call)?;
     let longer = filled(room + MORE, Round::Longer, call)?;
     if longer != exact {
@@ -108,7 +142,7 @@ fn one_short<T: Element>(
 pub fn lent_once<T: Element>(
     length: usize,
     call: impl Fn(&mut [T]) -> Result<usize, Refused>,
-) -> Result<Outcome<Vec<T>>, String> {
+) -> Result<Outcome<Vec<T::Read>>, String> {
     filled(length, Round::Exact, &call)
 }
 
@@ -117,7 +151,7 @@ fn filled<T: Element>(
     length: usize,
     round: Round,
     call: &impl Fn(&mut [T]) -> Result<usize, Refused>,
-) -> Result<Outcome<Vec<T>>, String> {
+) -> Result<Outcome<Vec<T::Read>>, String> {
     let lent = GUARD..GUARD + length;
     let mut elements: Vec<T> = (0..length + 2 * GUARD)
         .map(|place| T::before(place, round))
@@ -131,13 +165,18 @@ fn filled<T: Element>(
     let output = lent.start..lent.start + written;
     let changed = (0..elements.len())
         .filter(|place| !output.contains(place))
-        .find(|place| elements[*place] != T::before(*place, round));
+        .find(|place| elements[*place].read() != T::before(*place, round).read());
     match changed {
         Some(place) => Err(format!(
             "answered {answer:?} and changed element {} of a slice of {length}",
             place as i64 - GUARD as i64
         )),
-        None => Ok(answer.map(|_| elements[output].to_vec())),
+        None => Ok(answer.map(|_| {
+            elements[output]
+                .iter()
+                .map(|element| element.read())
+                .collect()
+        })),
     }
 }
 

@@ -3,6 +3,7 @@
 mod books;
 mod chains;
 mod edo;
+mod fractional;
 mod known;
 mod layouts;
 mod mappings;
@@ -62,6 +63,7 @@ pub fn tasks(mode: Mode, seed: u64) -> Vec<Task> {
     sheets::plan(&mut tasks, mode, seed);
     orders::plan(&mut tasks, mode, seed);
     moves::plan(&mut tasks, mode, seed);
+    fractional::plan(&mut tasks, mode, seed);
     patterns::plan(&mut tasks, mode, seed);
     pergens::plan(&mut tasks, mode, seed);
     mappings::plan(&mut tasks, mode, seed);

@@ -20,6 +20,8 @@ pub enum Call {
     MosKey,
     MosFind,
     WalkMoves,
+    FractionalChild,
+    FractionalChildren,
     ChainLetters,
     ChainName,
     Start,
@@ -76,6 +78,8 @@ impl Call {
             Self::MosKey => "vn_mos_key",
             Self::MosFind => "vn_mos_find",
             Self::WalkMoves => "vn_walk_moves",
+            Self::FractionalChild => "vn_fractional_child",
+            Self::FractionalChildren => "vn_fractional_children",
             Self::ChainLetters => "vn_chain_letters",
             Self::ChainName => "vn_chain_name",
             Self::Start => "vn_start",
@@ -118,7 +122,8 @@ impl Call {
 
 /// A call with its arguments, in order. Bytes are arguments as well, and so are the codes
 /// of a strip, the entries of a list that is lent and the keys of a sheet; those of a lookup are
-/// the key and then the book, those of a mapping that is read the layout and then the text.
+/// the key and then the book, those of a mapping that is read the layout and then the text. A
+/// fractional number is two arguments, the upper and the lower 32 of its bits.
 /// Questions are put by the million, so one borrows its arguments; only those that
 /// are reported are kept.
 #[derive(Clone, Copy, Debug)]

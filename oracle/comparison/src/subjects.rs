@@ -4,6 +4,7 @@
 pub mod books;
 pub mod chains;
 pub mod edo;
+pub mod fractional;
 pub mod keys;
 pub mod layouts;
 pub mod mappings;

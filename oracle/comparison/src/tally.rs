@@ -158,8 +158,8 @@ impl Tally {
     pub fn compare_filling<T: Element>(
         &mut self,
         question: Question,
-        reading: Outcome<Vec<T>>,
-        original: Original<Vec<T>>,
+        reading: Outcome<Vec<T::Read>>,
+        original: Original<Vec<T::Read>>,
         class: Option<Class>,
         call: impl Fn(&mut [T]) -> Result<usize, Refused>,
     ) {
@@ -174,8 +174,8 @@ impl Tally {
         &mut self,
         question: Question,
         room: usize,
-        reading: Outcome<Vec<T>>,
-        original: Original<Vec<T>>,
+        reading: Outcome<Vec<T::Read>>,
+        original: Original<Vec<T::Read>>,
         class: Option<Class>,
         call: impl Fn(&mut [T]) -> Result<usize, Refused>,
     ) {
@@ -188,7 +188,7 @@ impl Tally {
         &mut self,
         question: Question,
         room: usize,
-        reading: Outcome<Vec<T>>,
+        reading: Outcome<Vec<T::Read>>,
         call: impl Fn(&mut [T]) -> Result<usize, Refused>,
     ) {
         let library = lending::lent_after_room(room, call);
@@ -200,7 +200,7 @@ impl Tally {
         &mut self,
         question: Question,
         length: usize,
-        reading: &Outcome<Vec<T>>,
+        reading: &Outcome<Vec<T::Read>>,
         call: impl Fn(&mut [T]) -> Result<usize, Refused>,
     ) {
         let reading = match reading {

@@ -8,11 +8,13 @@
 use std::fmt;
 use std::fmt::Debug;
 
+use reading::fractional::Bits;
 use tune::layout::IsomorphicLayout;
 use tune::pergen::AccidentalsFormat;
 use tune::pergen::Mos;
 
 use crate::asking::Answer;
+use crate::fractional;
 use crate::layouts;
 use crate::layouts::CHAINS;
 use crate::numbers;
@@ -33,6 +35,7 @@ pub enum Class {
     CoprimeProduct,
     CoprimeSum,
     KeyBeyond32Bits,
+    FractionalGenerator,
     OctaveZero,
     OctaveZeroWithoutGenerator,
     NameOfKey,
@@ -53,7 +56,7 @@ pub enum Shape {
 }
 
 impl Class {
-    pub const ALL: [Self; 14] = [
+    pub const ALL: [Self; 15] = [
         Self::DenominatorZero,
         Self::PeriodZero,
         Self::NoSymbols,
@@ -64,6 +67,7 @@ impl Class {
         Self::CoprimeProduct,
         Self::CoprimeSum,
         Self::KeyBeyond32Bits,
+        Self::FractionalGenerator,
         Self::OctaveZero,
         Self::OctaveZeroWithoutGenerator,
         Self::NameOfKey,
@@ -83,6 +87,7 @@ impl Class {
             Self::CoprimeProduct => "`Mos::coprime`, a product beyond 65,535",
             Self::CoprimeSum => "`Mos::coprime`, the sum beyond 65,535",
             Self::KeyBeyond32Bits => "`Mos::get_key`, the sum beyond 32 signed bits",
+            Self::FractionalGenerator => "fractional generator, infinite or not a number",
             Self::OctaveZero => "layout, octave 0",
             Self::OctaveZeroWithoutGenerator => "layout, octave 0, generator not whole or negative",
             Self::NameOfKey => "layout, name of a key",
@@ -106,7 +111,7 @@ impl Class {
             | Self::NameOfKey
             | Self::LayersOfLayout => Shape::Overflow,
             Self::OctaveZeroWithoutGenerator => Shape::NoAnswer,
-            Self::OriginNotBelowSymbols => Shape::NamedAnswer,
+            Self::OriginNotBelowSymbols | Self::FractionalGenerator => Shape::NamedAnswer,
         }
     }
 }
@@ -124,6 +129,8 @@ pub enum Input {
     PatternLayers(Pattern),
     Coprime(Pattern),
     Key(Pattern, i16, i16),
+    /// The bits of a fractional generator.
+    FractionalWalk(u64),
     /// Chain code, octave, tritave.
     Layout(u16, u16, u16),
     /// Chain code, octave, tritave, key.
@@ -133,7 +140,7 @@ pub enum Input {
 
 /// The smallest inputs of each class. `gcd_u16`, `simplify_u16` and `odd_factors_u16`
 /// answer everything; `i32_dr_u` calls the first two functions here.
-pub const SMALLEST: [(Class, &[Input]); 14] = [
+pub const SMALLEST: [(Class, &[Input]); 15] = [
     (
         Class::DenominatorZero,
         &[Input::Quotient(0, 0), Input::Remainder(0, 0)],
@@ -181,6 +188,14 @@ pub const SMALLEST: [(Class, &[Input]); 14] = [
         // Each product fits. With two counts above 0 the steps' sum is at most 65,535,
         // and so the sum of the products fits too.
         &[Input::Key([0, 0, 2, 65_535], i16::MIN, i16::MIN)],
+    ),
+    (
+        Class::FractionalGenerator,
+        &[
+            // Infinity has the smallest bits, then come those that are no numbers.
+            Input::FractionalWalk(f64::INFINITY.to_bits()),
+            Input::FractionalWalk(f64::INFINITY.to_bits() + 1),
+        ],
     ),
     (Class::OctaveZero, &[Input::Layout(0, 0, 0)]),
     (Class::OctaveZeroWithoutGenerator, &[Input::Layout(3, 0, 1)]),
@@ -233,6 +248,12 @@ impl Input {
             Self::Coprime(pattern) => of_pattern(pattern, |mos| patterns::coprime(mos).map(sized)),
             Self::Key(pattern, primary, secondary) => {
                 of_pattern(pattern, |mos| patterns::key(mos, primary, secondary))
+            }
+            Self::FractionalWalk(bits) => {
+                // Which bits a step has that is no number, is left open.
+                let answer = fractional::walk(f64::from_bits(bits))?;
+                let steps = |pattern: Bits| (pattern.counts, pattern.steps.map(f64::from_bits));
+                text(Ok(answer.into_iter().map(steps).collect::<Vec<_>>()))
             }
             Self::Layout(code, octave, tritave) => of_layout(code, octave, tritave, |layout| {
                 Ok(patterns::numbers(layout.mos()))
@@ -303,6 +324,13 @@ impl fmt::Display for Input {
             Self::Coprime(pattern) => write!(f, "Mos {pattern:?}, coprime()"),
             Self::Key(pattern, primary, secondary) => {
                 write!(f, "Mos {pattern:?}, get_key({primary}, {secondary})")
+            }
+            Self::FractionalWalk(bits) => {
+                let generator = f64::from_bits(*bits);
+                write!(
+                    f,
+                    "Mos::<f64>::new_genesis({generator}), bits {bits:016x}, children()"
+                )
             }
             Self::Layout(code, octave, tritave) => write!(f, "layout {code} {octave} {tritave}"),
             Self::NoteName(code, octave, tritave, key) => {

@@ -10,6 +10,7 @@
 pub mod asking;
 pub mod classes;
 pub mod edo;
+pub mod fractional;
 pub mod keys;
 pub mod layouts;
 pub mod numbers;

@@ -26,6 +26,7 @@ usage: judge QUESTION
   mos COUNT COUNT STEP STEP                   a given pattern, primary before secondary
   key COUNT COUNT STEP STEP PRIMARY SECONDARY the key at a place of its board
   walk PERIOD GENERATOR                       the patterns from the genesis on
+  fractional GENERATOR                        the patterns from a fractional generator on
   layout CODE OCTAVE TRITAVE                  a layout and the keys of its octave
   edo STEPS                                   the layouts of an octave of so many steps
   edo_report                                  their numbers by chain, over 1 to 400 steps
@@ -33,7 +34,8 @@ usage: judge QUESTION
 
 Chain codes: 0 Mavila[9], 1 Meantone[7], 2 Meantone[5], 3 Porcupine[8],
 4 Tetracot[7], 5 Hanson[7]. Numbers are 0 to 65535; a numerator has 32 signed
-bits, a denominator 32 bits, a place 16 signed bits.
+bits, a denominator 32 bits, a place 16 signed bits; a fractional generator is a
+decimal number.
 
 A part that the original has no answer for is printed as none. A part at which
 it panics is printed as panicked, with the message and the place in its source.
@@ -59,6 +61,7 @@ enum Question {
         period: u16,
         generator: u16,
     },
+    Fractional(f64),
     Layout {
         chain: Genchain,
         octave: u16,
@@ -114,6 +117,7 @@ fn parse(words: &[&str]) -> Option<Question> {
             period: period.parse().ok()?,
             generator: generator.parse().ok()?,
         },
+        ["fractional", generator] => Question::Fractional(generator.parse().ok()?),
         ["layout", code, octave, tritave] => Question::Layout {
             chain: layouts::chain(code.parse().ok()?)?,
             octave: octave.parse().ok()?,
@@ -148,6 +152,7 @@ fn answer(question: &Question, out: &mut impl Write) -> io::Result<()> {
         Question::Mos(pattern) => report::mos(out, pattern),
         Question::Key(pattern, primary, secondary) => report::key(out, pattern, primary, secondary),
         Question::Walk { period, generator } => report::walk(out, period, generator),
+        Question::Fractional(generator) => report::fractional(out, generator),
         Question::Layout {
             chain,
             octave,

@@ -10,6 +10,7 @@ use judge::asking::Answer;
 use judge::classes;
 use judge::edo;
 use judge::edo::Listed;
+use judge::fractional;
 use judge::layouts;
 use judge::numbers;
 use judge::patterns;
@@ -141,6 +142,18 @@ pub fn walk(out: &mut impl Write, period: u16, generator: u16) -> io::Result<()>
         Ok(walk) => walk
             .into_iter()
             .try_for_each(|mos| writeln!(out, "pattern {}", words::pattern(mos))),
+        Err(panicked) => writeln!(out, "{panicked}"),
+    }
+}
+
+/// Steps are shown with as many digits as tell them from all other doubles.
+pub fn fractional(out: &mut impl Write, generator: f64) -> io::Result<()> {
+    match fractional::walk(generator) {
+        Ok(walk) => walk.into_iter().try_for_each(|pattern| {
+            let [primary, secondary] = pattern.steps.map(f64::from_bits);
+            let counts = words(pattern.counts);
+            writeln!(out, "pattern {counts} {primary:?} {secondary:?}")
+        }),
         Err(panicked) => writeln!(out, "{panicked}"),
     }
 }

@@ -53,6 +53,21 @@ fn a_layout_with_cycles() {
 }
 
 #[test]
+fn a_fractional_walk() {
+    assert_eq!(
+        answer("fractional -0.375"),
+        "\
+pattern 1 1 0.625 0.375
+pattern 1 2 0.25 0.375
+pattern 3 2 0.25 0.125
+pattern 3 5 0.125 0.125
+"
+    );
+    assert_eq!(answer("fractional -1"), "pattern 1 1 -0.0 1.0\n");
+    assert_eq!(answer("fractional inf"), "pattern 1 1 NaN NaN\n");
+}
+
+#[test]
 fn no_layout_and_a_panic_are_answers() {
     assert_eq!(answer("layout 0 12 19"), "none\n");
     assert_eq!(

@@ -3,8 +3,8 @@
 //!
 //! It is written from the documents' sentences alone. It judges where the
 //! original panics, refuses without a number, or has nothing of the kind: refusal
-//! numbers, lamp strips, books and the key table program. Numbers are exact, so
-//! nothing here can overflow; searches go through all candidates where that is
+//! numbers, lamp strips, books and the key table program. Numbers are exact, but for
+//! fractional steps, so nothing here can overflow; searches go through all candidates where that is
 //! the document's wording. It is slow and meant to be.
 
 pub mod books;
@@ -12,6 +12,7 @@ pub mod chains;
 pub mod codes;
 pub mod edo;
 pub mod former;
+pub mod fractional;
 pub mod layers;
 pub mod layouts;
 pub mod mappings;

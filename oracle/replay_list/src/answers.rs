@@ -33,6 +33,7 @@ use tune::pergen::Mos;
 use tune::pergen::PerGen;
 
 use crate::edo;
+use crate::fractional;
 use crate::mappings;
 use crate::questions::FreePergen;
 use crate::questions::Layout;
@@ -247,6 +248,11 @@ fn text(question: &Question) -> Text {
             Ok(words(walk.into_iter().flat_map(|mos| moves(mos, &created))))
         }
         Question::Sheet(layout, keys) => sheets::text(*layout, keys),
+        Question::FractionalChild(pattern) => fractional::child_text(*pattern),
+        Question::FractionalGenesis(generator) => fractional::genesis_text(*generator),
+        Question::FractionalNth(generator, place) => fractional::nth_text(*generator, *place),
+        Question::FractionalLen(generator) => fractional::len_text(*generator),
+        Question::FractionalChildren(generator) => fractional::children_text(*generator),
         Question::Widen(strip) => Ok(list_text(codes::widened(strip)?)),
         Question::Narrow(strip) => Ok(list_text(codes::narrowed(strip)?)),
         Question::BookLength(layout) => Ok(book(*layout)?.len().to_string()),

@@ -1,7 +1,8 @@
 //! The list of questions: the bench examples of document 01, small numbers
 //! densely, limits, and numbers of every size at random; then keys below 0, other letters
 //! on key 0, strips of two octaves, stored strips, distances between keys, retunings, lists in
-//! the order of the chain, moves, Scala keyboard mappings, and sheets of keys.
+//! the order of the chain, moves, Scala keyboard mappings, sheets of keys, and patterns from
+//! fractional generators.
 
 use std::collections::HashSet;
 use std::iter;
@@ -14,6 +15,7 @@ use crate::answers::created_layout;
 use crate::books;
 use crate::conversions;
 use crate::edo;
+use crate::fractional;
 use crate::keys;
 use crate::mappings;
 use crate::moves;
@@ -62,6 +64,7 @@ pub fn all() -> Vec<Question> {
     questions.extend(moves::all());
     questions.extend(mappings::all());
     questions.extend(sheets::all());
+    questions.extend(fractional::all());
 
     let mut asked = HashSet::new();
     questions.retain(|question| asked.insert(question.to_string()));

@@ -6,6 +6,7 @@ mod answers;
 mod books;
 mod conversions;
 mod edo;
+mod fractional;
 mod keys;
 mod list;
 mod mappings;

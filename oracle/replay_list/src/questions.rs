@@ -8,9 +8,13 @@ use std::fmt::Formatter;
 use judge::patterns::Pattern;
 use judge::words::words;
 use reading::Outcome;
+use reading::fractional::Bits;
 use reading::layouts;
 use reading::pergens::Pergen;
 use reading::retunings;
+
+use crate::fractional::double_text;
+use crate::fractional::pattern_text;
 
 /// A chain code, the step counts of octave and tritave, and a start, where it is not to be
 /// the chain's own.
@@ -214,6 +218,13 @@ pub enum Question {
     ReadKbm(Layout, Vec<u8>),
     /// A sheet of four keys; the layout has a start.
     Sheet(Layout, [i32; 4]),
+    /// The child of a pattern with fractional steps; and of a fractional generator, by its bits,
+    /// the genesis, the pattern at a place from 0, the number of patterns, and a walk of eight.
+    FractionalChild(Bits),
+    FractionalGenesis(u64),
+    FractionalNth(u64, u32),
+    FractionalLen(u64),
+    FractionalChildren(u64),
     /// Stored codes of one byte, and the way back.
     Widen(Vec<u8>),
     Narrow(Vec<u16>),
@@ -299,6 +310,21 @@ impl Display for Question {
             Self::MoveTable(retuning) => write!(f, "move_table {retuning}"),
             Self::LargestMove(retuning) => write!(f, "largest_move {retuning}"),
             Self::Sheet(layout, keys) => write!(f, "sheet {layout} {}", words(keys)),
+            Self::FractionalChild(pattern) => {
+                write!(f, "fractional_child {}", pattern_text(*pattern))
+            }
+            Self::FractionalGenesis(generator) => {
+                write!(f, "fractional_genesis {}", double_text(*generator))
+            }
+            Self::FractionalNth(generator, place) => {
+                write!(f, "fractional_nth {} {place}", double_text(*generator))
+            }
+            Self::FractionalLen(generator) => {
+                write!(f, "fractional_len {}", double_text(*generator))
+            }
+            Self::FractionalChildren(generator) => {
+                write!(f, "fractional_children {}", double_text(*generator))
+            }
             Self::ToChainOrder(layout, list) => {
                 write!(f, "to_chain_order {layout}{}", listed(list))
             }

@@ -5,6 +5,7 @@ use judge::classes::Input;
 use judge::classes::SMALLEST;
 
 use super::Task;
+use crate::subjects::fractional;
 use crate::subjects::layouts::GivenLayout;
 use crate::subjects::numbers;
 use crate::subjects::patterns;
@@ -43,6 +44,7 @@ fn compare_input(tally: &mut Tally, input: Input) {
         Input::Key(pattern, primary, secondary) => {
             GivenPattern::new(pattern).compare_key(tally, primary, secondary);
         }
+        Input::FractionalWalk(bits) => fractional::walk(tally, f64::from_bits(bits)),
         Input::Layout(code, octave, tritave) => {
             GivenLayout::new(code, octave, tritave).compare(tally);
         }

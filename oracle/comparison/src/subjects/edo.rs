@@ -97,7 +97,7 @@ pub fn compare_report(tally: &mut Tally) {
 
 /// A call with slices of all lengths from 0 to more than the output has; a refusal with all
 /// that might hold an output.
-fn compare_in_every_length<T: Element>(
+fn compare_in_every_length<T: Element<Read = T>>(
     tally: &mut Tally,
     question: Question,
     reading: Outcome<Vec<T>>,

@@ -58,7 +58,7 @@ pub fn narrow_to(tally: &mut Tally, strip: &[u16], expected: Expected<u8>) {
 }
 
 /// A conversion either way. It writes as many codes as it reads.
-fn convert_to<C: Copy + Into<i64>, T: Element>(
+fn convert_to<C: Copy + Into<i64>, T: Element<Read = T>>(
     tally: &mut Tally,
     call: Call,
     library: impl Fn(&[C], &mut [T]) -> Result<usize, Refused>,

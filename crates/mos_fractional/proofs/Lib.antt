@@ -1,0 +1,9 @@
+pub mod Descent
+pub mod Walking
+pub mod Rounding
+pub mod Exact
+pub mod Products
+pub mod Remainders
+pub mod Storing
+pub mod Theorems
+pub mod Examples
