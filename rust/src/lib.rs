@@ -93,6 +93,11 @@ impl Layout {
     pub fn beginning(self, start: u16) -> Self {
         Self { start, ..self }
     }
+
+    /// The four numbers, in the order of the calls.
+    fn numbers(self) -> [u16; 4] {
+        [self.chain, self.octave, self.tritave, self.start]
+    }
 }
 
 /// Two layouts of one chain, octave and start, with one tritave before a retuning and another
@@ -677,12 +682,7 @@ pub fn narrow_strip(strip: &[u16], out: &mut [u8]) -> Result<usize, Refused> {
 /// assert_eq!(kbm_read(five, cut, &mut keys), Err(Refused(19)));
 /// ```
 pub fn kbm_read(layout: Layout, text: &[u8], out: &mut [u16]) -> Result<usize, Refused> {
-    let Layout {
-        chain,
-        octave,
-        tritave,
-        start,
-    } = layout;
+    let [chain, octave, tritave, start] = layout.numbers();
     let (bytes, count) = (text.as_ptr(), text.len());
     let (keys, len) = (out.as_mut_ptr(), out.len());
     value(unsafe { c::vn_kbm_read(chain, octave, tritave, start, bytes, count, keys, len) })
@@ -717,12 +717,7 @@ pub fn kbm_read(layout: Layout, text: &[u8], out: &mut [u16]) -> Result<usize, R
 /// assert_eq!(records[0], d_sharp);
 /// ```
 pub fn sheet(layout: Layout, records: &mut [Record]) -> Result<usize, Refused> {
-    let Layout {
-        chain,
-        octave,
-        tritave,
-        start,
-    } = layout;
+    let [chain, octave, tritave, start] = layout.numbers();
     let (list, len) = (records.as_mut_ptr(), records.len());
     value(unsafe { c::vn_sheet(chain, octave, tritave, start, list, len) })
 }

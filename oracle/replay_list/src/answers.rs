@@ -89,6 +89,16 @@ pub fn answered(question: Question) -> (String, String) {
     (question.to_string(), answer)
 }
 
+/// Every question is refused, and not for its room alone.
+#[cfg(test)]
+pub fn assert_refused(questions: Vec<Question>) {
+    for question in questions {
+        let (line, answer) = answered(question);
+        assert!(answer.starts_with("refused "), "{line}");
+        assert_ne!(answer, "refused 10\n", "{line}");
+    }
+}
+
 /// Question 10 comes after 1 to 8 and 17, and before those on a book.
 fn text_in_room(question: &Question, room: usize) -> Text {
     if let Question::Find(layout, _) = question {

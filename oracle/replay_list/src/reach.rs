@@ -103,6 +103,7 @@ fn of_large_layouts(random: &mut Random) -> Vec<Question> {
 mod tests {
     use super::*;
     use crate::answers::answered;
+    use crate::answers::assert_refused;
 
     #[test]
     fn the_nearest_d_and_what_is_in_reach() {
@@ -116,10 +117,7 @@ mod tests {
 
     #[test]
     fn every_refusal_is_one() {
-        for question in refused() {
-            let (line, answer) = answered(question);
-            assert!(answer.starts_with("refused "), "{line}");
-        }
+        assert_refused(refused());
     }
 
     #[test]
