@@ -20,7 +20,8 @@ use Rattle.layout_layers.proofs.PlanLaws.{count-is, layers-are}
 use Rattle.layout_layers.proofs.Theorems.{entries-are-counted}
 use Rattle.layout_lamps.specs.Lamps.{lampIn, stripLengthIn, stripIn}
 use Rattle.layout_lamps.specs.Answers.{getStrip, getLamp}
-use Rattle.layout_lamps.specs.Parts.{codeOf, planStrip}
+use Rattle.layout_layers.specs.LampCodes.{codeOf}
+use Rattle.layout_lamps.specs.Parts.{planStrip}
 use Rattle.layout_lamps.proofs.StripLaws.{strip-is, lamp-is, lamp-home}
 use Rattle.layout_lamps.proofs.Theorems.{strips-are-whole}
 

@@ -26,7 +26,8 @@ use Rattle.layout_layers.specs.Parts.{listed}
 use Rattle.layout_layers.proofs.SpreadLaws.{length-listed, listed-at}
 use Rattle.layout_layers.proofs.PlanLaws.{kind-sharp}
 use Rattle.layout_layers.proofs.Theorems.{key-zero-is-natural}
-use Rattle.layout_lamps.specs.Lamps.{lampCode, lampOf, codesOf, stripOf, lampable, every, lampIn, stripLengthIn, stripIn, kindAt, kindIn, byteCode, byteLampIn, byteStripIn, hadLampsIn}
+use Rattle.layout_layers.specs.LampCodes.{lampCode}
+use Rattle.layout_lamps.specs.Lamps.{lampOf, codesOf, stripOf, lampable, every, lampIn, stripLengthIn, stripIn, kindAt, kindIn, byteCode, byteLampIn, byteStripIn, hadLampsIn}
 use Rattle.layout_lamps.specs.Theorems.{StripsConvert, OldStripsConvert}
 use Rattle.layout_lamps.proofs.StripLaws.{lamps-by-count-at, met-at, in-the-strip-at}
 

@@ -1,9 +1,10 @@
 -- By computing both sides.
 use mathlib.Core.Path.{refl}
-use Rattle.layout_lamps.specs.Lamps.{lampCode, kindAt, byteCode, byteStripIn, hadLampsIn}
+use Rattle.layout_layers.specs.LampCodes.{lampCode}
+use Rattle.layout_lamps.specs.Lamps.{kindAt, byteCode, byteStripIn, hadLampsIn}
 use Rattle.layout_lamps.specs.Answers.{getStrip, getLamp}
 use Rattle.layout_lamps.specs.Examples.{ExamplesHold}
 
 pub examples-hold : ExamplesHold
 unfolding getStrip getLamp lampCode kindAt byteCode byteStripIn hadLampsIn
-examples-hold = record { codes = refl; bytes = refl; last = refl; strips = refl; lamps = refl; long = refl; old = refl; had = refl; earlier = refl }
+examples-hold = record { bytes = refl; strips = refl; lamps = refl; long = refl; old = refl; had = refl; earlier = refl }

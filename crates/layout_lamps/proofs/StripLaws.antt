@@ -23,13 +23,15 @@ use Rattle.layout_layers.specs.declared.Layer.{Layer}
 use Rattle.layout_layers.specs.declared.Layer.the-variants.{Natural, Sharp, Enharmonic, Flat}
 use Rattle.layout_layers.specs.declared.parts.Plan.{Plan}
 use Rattle.layout_layers.specs.KeyLayers.{equalized, layerCount, kindOf, numberIn, countIn}
-use Rattle.layout_layers.specs.Parts.{keysOf, Spread, InTurns, totalOf, Sound, PlanOf, planNumber, turnsOf, listed, Fronted, planLayers}
+use Rattle.layout_layers.specs.Parts.{keysOf, Spread, InTurns, totalOf, Sound, PlanOf, planNumber, turnsOf, listed, Fronted, planLayers, limit, planEntries}
 use Rattle.layout_layers.proofs.SpreadLaws.{length-listed, listed-at, spread-none, spread-one, spread-then, spread-of, spread-as, spread-front}
 use Rattle.layout_layers.proofs.ChainLaws.{some-places}
+use Rattle.layout_layers.proofs.LampCodeLaws.{limit-coded, codes-written}
 use Rattle.layout_layers.proofs.PlanLaws.{number-is, keys-are, turns-fill, kind-natural, kind-sharp, kind-enharmonic, kind-flat, turn-below}
 use Rattle.layout_layers.proofs.Theorems.{counts-fit, each-number-is-met, first-keys}
-use Rattle.layout_lamps.specs.Lamps.{lampCode, kindAt, lampOf, codesOf, stripOf, lampable, every, lampIn, stripLengthIn, stripIn, hadLampsIn, kindIn}
-use Rattle.layout_lamps.specs.Parts.{codeOf, InFront, Numbers, codeAt, planCodes, homed, planStrip, planLamp}
+use Rattle.layout_layers.specs.LampCodes.{lampCode, codeOf}
+use Rattle.layout_lamps.specs.Lamps.{kindAt, lampOf, codesOf, stripOf, lampable, every, lampIn, stripLengthIn, stripIn, hadLampsIn, kindIn}
+use Rattle.layout_lamps.specs.Parts.{planCodes, homed, planStrip, planLamp}
 
 pub equal-or-not : (i j : ℕ) → Dec (i ≡ j)
 equal-or-not i j = by (eqb i j) refl
@@ -61,26 +63,6 @@ few-layers T j h = by (eqb j 0) (ltb (2 * j) T) (eqb (2 * j) T) refl refl
     by false false false e f =
         lt-ltb (T - j - 1) 100 (omega (arith, ltb-false (2 * j) T e, eqb-false (2 * j) T f))
 
--- the codes, by what the code tests
-module _ (T j : ℕ) (in-range : j < T) where
-  pub code-first : j ≡ 0 → 1 ≡ codeOf T j
-  unfolding codeOf lampCode
-  code-first e = ap lampCode (kind-natural T j e)
-
-  module _ (some : j ≡ 0 → ⊥) where
-    pub code-low : j < T - j → 2 * j ≡ codeOf T j
-    unfolding codeOf lampCode
-    code-low h = (let q : 2 * j ≡ 2 + 2 * (j - 1) = omega (arith, some) in q) ∙ ap lampCode (kind-sharp T j some (omega arith))
-
-    pub code-half : j ≡ T - j → 65535 ≡ codeOf T j
-    unfolding codeOf lampCode
-    code-half e = ap lampCode (kind-enharmonic T j some (omega (arith, e)))
-
-    pub code-high : T - j < j → 2 * (T - j) + 1 ≡ codeOf T j
-    unfolding codeOf lampCode
-    code-high h =
-        (let q : 2 * (T - j) + 1 ≡ 3 + 2 * (T - j - 1) = omega arith in q) ∙ ap lampCode (kind-flat T j some (omega arith) refl)
-
 -- a key's number is below T
 pub number-below : (p : Plan) → Sound p → (i j T : ℕ) → j ≡ planNumber p i → T ≡ totalOf p → j < T
 number-below p sound i j T e is =
@@ -97,7 +79,7 @@ module _ (p : Plan) (T key : ℕ) where
   unfolding planLamp
   plan-other h j c e q = simp (ne-eqb key 0 h) (q ∙ ap (codeOf T) e)
 
--- ---- layers turned into codes, where they stand
+-- ---- the codes of all entries
 
 abbrev pub entriesOf : Plan → ℕ
 entriesOf p = turnsOf p * p .chain .«num_cycles»
@@ -110,27 +92,16 @@ length-strip p T =
     length-listed (planNumber p) (entriesOf p)
     ∙ sym (length-set (set (planCodes p T) 0 0) (keysOf (p .chain)) 0 ∙ length-set (planCodes p T) 0 0 ∙ length-codes p T)
 
--- one more
-pub colour-none : (T : ℕ) (xs : List ℕ) → Spread (InFront 0) (codeAt T xs) xs xs
-colour-none T xs = spread-none xs (λ i h. let z : ⊥ = omega (arith, h) in z)
+-- a layout has a number at least
+some-numbers : (p : Plan) → Sound p → (T : ℕ) → T ≡ totalOf p → T ≡ 0 → ⊥
+some-numbers p sound T is e = omega (arith, number-below p sound 0 (planNumber p 0) T refl is, e)
 
--- a place that was not reached holds what it held
-pub not-reached : (T k : ℕ) {xs ys : List ℕ} → Spread (InFront k) (codeAt T xs) xs ys → getD ys k 0 ≡ getD xs k 0
-not-reached T k s = s .same k (λ h. let z : ⊥ = omega (arith, h) in z)
+-- all numbers are below T
+pub counted-within : (p : Plan) → Sound p → (T : ℕ) → T ≡ totalOf p → totalOf p ≤ limit T
+counted-within p sound T is = omega (arith, is, limit-coded T (some-numbers p sound T is))
 
-pub colour-more : (T k c : ℕ) {xs ys : List ℕ} → k < length xs → Spread (InFront k) (codeAt T xs) xs ys → c ≡ codeOf T (getD ys k 0)
-    → Spread (InFront (k + 1)) (codeAt T xs) xs (set ys k c)
-colour-more T k c {xs} {ys} h s e =
-    spread-then
-    (λ i t. by i t (equal-or-not i k))
-    (λ i t. omega (arith, t))
-    (λ i t. omega (arith, t))
-    s
-    (spread-one (codeAt T xs) ys k c (omega (arith, h, s .kept)) (e ∙ ap (codeOf T) (not-reached T k s)))
-  where
-    by : (i : ℕ) → i < k + 1 → Dec (i ≡ k) → (i ≡ k) ⊎ ((i ≡ k → ⊥) × (i < k))
-    by i t (yes q) = inl q
-    by i t (no q) = inr (q, omega (arith, t, q))
+pub strip-coded : (p : Plan) → Sound p → (T : ℕ) (xs ys : List ℕ) → T ≡ totalOf p → Fronted (planEntries p T) xs ys → Fronted (planCodes p T) xs ys
+strip-coded p sound T xs ys is f = subst (λ (text : List ℕ). Fronted text xs ys) (codes-written p T (some-numbers p sound T is)) f
 
 -- a text in front leaves a slice as long as it was
 pub front-kept : (text xs ys : List ℕ) → length text ≤ length xs → Fronted text xs ys → length ys ≡ length xs
@@ -139,45 +110,6 @@ front-kept text xs ys room f =
     ∙ length-append text (drop (length text) xs)
     ∙ ap (λ (k : ℕ). length text + k) (length-drop (length text) xs)
     ∙ omega (arith, room)
-
-module _ (p : Plan) (T : ℕ) (xs ys : List ℕ) (layers : Fronted (planLayers p) xs ys) where
-  abbrev count : ℕ
-  count = entriesOf p
-
-  long : length (planLayers p) ≡ count
-  long = length-listed (planNumber p) count
-
-  pub layer-there : (i : ℕ) → i < count → getD ys i 0 ≡ planNumber p i
-  layer-there i h =
-      ap (λ (zs : List ℕ). getD zs i 0) layers
-      ∙ List·getD-append (planLayers p) (drop (length (planLayers p)) xs) 0 i (omega (arith, h, long))
-      ∙ listed-at (planNumber p) count i h
-
-  pub numbers-there : Sound p → T ≡ totalOf p → (n : ℕ) → n ≡ length (planLayers p) → length (planLayers p) ≤ length xs → Numbers n T ys
-  numbers-there sound is n e room = record {
-    held = omega (arith, e, front-kept (planLayers p) xs ys room layers, room);
-    below = λ i h. number-below p sound i (getD ys i 0) T (layer-there i (omega (arith, h, e, long))) is;
-  }
-
-  -- all of them
-  pub codes-there : {zs : List ℕ} (n : ℕ) → n ≡ length (planLayers p) → length (planLayers p) ≤ length xs
-      → Spread (InFront n) (codeAt T ys) ys zs → Fronted (planCodes p T) xs zs
-  codes-there {zs} n e room s =
-      let f : ℕ → ℕ = λ i. codeOf T (planNumber p i) in
-      let as-turns : Spread (InTurns 1 count) f ys zs
-      = spread-of (λ i t. subst (λ (k : ℕ). k < count) (sym (div-one i)) t) (λ i t. subst (λ (k : ℕ). k < count) (div-one i) t)
-      (spread-as (λ i t. ap (codeOf T) (layer-there i t)) (subst (λ (k : ℕ). Spread (InFront k) (codeAt T ys) ys zs) (e ∙ long) s)) in
-      let front : Fronted (listed f (count * 1)) ys zs
-      = spread-front 1 count f (omega arith) (omega (arith, front-kept (planLayers p) xs ys room layers, room, long, mul-one count)) as-turns in
-      subst (λ (k : ℕ). Fronted (listed f k) ys zs) (mul-one count) front
-      ∙ ap (λ (l : List ℕ). planCodes p T ++ l) behind
-    where
-      behind : drop (length (planCodes p T)) ys ≡ drop (length (planCodes p T)) xs
-      behind =
-          ap (λ (k : ℕ). drop k ys) (length-codes p T ∙ sym long)
-          ∙ ap (drop (length (planLayers p))) layers
-          ∙ drop-append-seam (planLayers p) (drop (length (planLayers p)) xs)
-          ∙ ap (λ (k : ℕ). drop k xs) (long ∙ sym (length-codes p T))
 
 -- ---- home, stored over the codes of key 0 and of the octave
 

@@ -27,7 +27,8 @@ use Rattle.layout_layers.specs.declared.Layer.{Layer}
 use Rattle.layout_layers.specs.declared.Layer.the-variants.{Natural, Sharp, Enharmonic, Flat}
 use Rattle.layout_layers.specs.KeyLayers.{equalized, kindOf, numberIn, countIn}
 use Rattle.layout_layers.proofs.Theorems.{counts-fit, numbers-are-below}
-use Rattle.layout_lamps.specs.Lamps.{lampCode, kindAt, lampOf, codesOf, stripOf, lampIn, stripLengthIn, kindIn}
+use Rattle.layout_layers.specs.LampCodes.{lampCode}
+use Rattle.layout_lamps.specs.Lamps.{kindAt, lampOf, codesOf, stripOf, lampIn, stripLengthIn, kindIn}
 use Rattle.layout_lamps.specs.Answers.{getLamp}
 use Rattle.layout_lamps.specs.Theorems.{CodesFit, CodesTellKindsApart, NoCodeIsShared, LampsByCount, OneHome, HomeKeys, StripsAreWhole, FirstOctaveStays, HomeChangesOneEntry}
 use Rattle.layout_lamps.proofs.StripLaws.{lamps-by-count-at, equal-or-not, between}

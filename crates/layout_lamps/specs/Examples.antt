@@ -9,7 +9,7 @@ use Rattle.answer.specs.Lent.{counted}
 use Rattle.layout.specs.declared.IsomorphicLayout.{IsomorphicLayout}
 use Rattle.layout.specs.Examples.{layout}
 use Rattle.layout_layers.specs.declared.Layer.the-variants.{Natural, Sharp, Enharmonic, Flat}
-use Rattle.layout_lamps.specs.Lamps.{lampCode, earlierLampIn, byteCode, byteStripIn, hadLampsIn}
+use Rattle.layout_lamps.specs.Lamps.{earlierLampIn, byteCode, byteStripIn, hadLampsIn}
 use Rattle.layout.specs.Answers.{ofLayout}
 use Rattle.layout.specs.Layouts.{Layout}
 use Rattle.layout_lamps.specs.Answers.{getStrip, getLamp}
@@ -88,10 +88,8 @@ lampExamples =
 
 -- Theorem: the definitions give what the examples say.
 pub record ExamplesHold : Type 0 where
-  pub codes : map lampCode (Natural ∷ Sharp 0 ∷ Sharp 99 ∷ Flat 0 ∷ Flat 99 ∷ Enharmonic 7 ∷ []) ≡ 1 ∷ 2 ∷ 200 ∷ 3 ∷ 201 ∷ 65535 ∷ []
-  -- document 01's, before W-207
+  -- document 01's codes, before W-207; `layout_layers` has examples of today's
   pub bytes : map byteCode (Natural ∷ Sharp 0 ∷ Sharp 99 ∷ Flat 0 ∷ Flat 99 ∷ Enharmonic 7 ∷ []) ≡ 1 ∷ 2 ∷ 101 ∷ 102 ∷ 201 ∷ 255 ∷ []
-  pub last : map lampCode (Sharp 32766 ∷ Flat 32765 ∷ []) ≡ 65534 ∷ 65533 ∷ []
   pub strips : map (λ (e : StripExample). getStrip (e .layout)) stripExamples ≡ map (λ (e : StripExample). e .strip) stripExamples
   pub lamps : map (λ (e : LampExample). getLamp (e .layout) (e .key)) lampExamples ≡ map (λ (e : LampExample). e .code) lampExamples
   pub long : counted (getStrip (layout 1 2400 3800)) ≡ given 2400

@@ -9,14 +9,8 @@ use Rattle.mos.specs.declared.Mos.{Mos}
 use Rattle.layout.specs.Layouts.{Layout}
 use Rattle.layout_layers.specs.declared.Layer.{Layer}
 use Rattle.layout_layers.specs.declared.Layer.the-variants.{Natural, Sharp, Enharmonic, Flat}
+use Rattle.layout_layers.specs.LampCodes.{lampCode}
 use Rattle.layout_layers.specs.KeyLayers.{entryCount, layerNumber, layerCount, kindOf}
-
--- "natural 1, sharp k 2 + 2 × k, flat k 3 + 2 × k, enharmonic 65,535" (document 02, W-207)
-unfoldable pub lampCode : Layer → ℕ
-lampCode Natural = 1
-lampCode (Sharp k) = 2 + 2 * k
-lampCode (Enharmonic k) = 65535
-lampCode (Flat k) = 3 + 2 * k
 
 -- "home 0"
 abbrev pub home : ℕ

@@ -1,31 +1,12 @@
 -- What the parts behind the calls promise: the strip by the plan that the code follows.
-use Prim.Native.Nat.{ℕ, _*_, _≤_, _<_}
+use Prim.Native.Nat.{ℕ, _*_}
 use mathlib.Core.List.{List}
-use lib.ListN.{length, getD, set}
+use lib.ListN.{set}
 use lib.Dec.{eqb}
 use Rattle.answer.specs.Choice.{pick}
 use Rattle.layout_layers.specs.declared.parts.Plan.{Plan}
-use Rattle.layout_layers.specs.KeyLayers.{kindOf}
+use Rattle.layout_layers.specs.LampCodes.{codeOf}
 use Rattle.layout_layers.specs.Parts.{keysOf, planNumber, turnsOf, listed}
-use Rattle.layout_lamps.specs.Lamps.{lampCode}
-
--- The code of a layer's number, of T.
-unfoldable pub codeOf : (T j : ℕ) → ℕ
-unfolding lampCode kindOf
-codeOf T j = lampCode (kindOf T j)
-
--- The elements at the front of a slice.
-abbrev pub InFront : (count : ℕ) → ℕ → Type 0
-InFront count i = i < count
-
--- They are layer numbers, of T.
-pub record Numbers (count T : ℕ) (slice : List ℕ) : Type 0 where
-  pub held : count ≤ length slice
-  pub below : (i : ℕ) → i < count → getD slice i 0 < T
-
--- The code of the number that stands at a place.
-abbrev pub codeAt : (T : ℕ) → List ℕ → ℕ → ℕ
-codeAt T slice i = codeOf T (getD slice i 0)
 
 -- The codes of all entries, key 0's as any other's.
 abbrev pub planCodes : Plan → (T : ℕ) → List ℕ

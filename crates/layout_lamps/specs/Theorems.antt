@@ -14,7 +14,8 @@ use Rattle.layout_layers.specs.declared.Layer.the-variants.{Flat}
 use Rattle.layout_layers.specs.KeyLayers.{equalized, countIn}
 use Rattle.lamp_codes.specs.Answers.{getWidened, getNarrowed}
 use Rattle.layout_lamps.specs.Answers.{getLamp}
-use Rattle.layout_lamps.specs.Lamps.{lampCode, lampIn, stripLengthIn, stripIn, octaveStripIn, earlierLampIn, kindIn, byteStripIn, hadLampsIn}
+use Rattle.layout_layers.specs.LampCodes.{lampCode}
+use Rattle.layout_lamps.specs.Lamps.{lampIn, stripLengthIn, stripIn, octaveStripIn, earlierLampIn, kindIn, byteStripIn, hadLampsIn}
 
 -- Theorem: "Question 9 then always has the answer yes": in every octave of at most 65,535 keys every code is a number of 16 bits.
 abbrev pub CodesFit : Type 0

@@ -58,7 +58,10 @@ pub fn lamp(layout: IsomorphicLayout, key: i32) -> NumberAnswer
             }
             let solved = euclid::solve(found.octave, found.generator);
             let number = layout_layers::parts::number_of(plan, solved.generator_inverse, place);
-            NumberAnswer::Given(parts::code(layout_layers::parts::total_of(plan), number))
+            NumberAnswer::Given(layout_layers::parts::code(
+                layout_layers::parts::total_of(plan),
+                number,
+            ))
         }
     }
 }

@@ -194,6 +194,10 @@ module _ (c : Chain) (u : Unbroken c) where
   pub turn-room : (turn : ℕ) {len : ℕ} → turn < R → keysOf c ≤ len → turn * n + n ≤ len
   turn-room turn h l = omega (arith, mul-le-mul-right n h, suc-mul turn n)
 
+  -- of one cycle
+  pub single-inside : (turn len : ℕ) → n ≡ 1 → turn < R → keysOf c ≤ len → turn < len
+  single-inside turn len one h held = omega (arith, h, held, ap (λ (k : ℕ). R * k) one, mul-one R)
+
   -- part of the way
   pub ahead-part : (s r : Spot) (h : ℕ → ℕ) (k m count : ℕ) {a b : List ℕ} → Ahead c s count a → Walk c s r k h a b → k + m ≤ count → Ahead c r m b
   ahead-part s r h k m count ahead w l =

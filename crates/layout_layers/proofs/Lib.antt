@@ -3,6 +3,8 @@ pub mod SpreadLaws
 pub mod ChainLaws
 pub mod Advance
 pub mod PlanLaws
+pub mod LampCodeLaws
+pub mod Rulers
 pub mod Calls
 pub mod Theorems
 pub mod Counts

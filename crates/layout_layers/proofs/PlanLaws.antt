@@ -33,7 +33,7 @@ use Rattle.layout.proofs.PatternShape.{PatternShape, pattern-shape}
 use Rattle.layout_layers.specs.declared.parts.Plan.{Plan}
 use Rattle.layout_layers.specs.declared.Layer.the-variants.{Natural, Sharp, Enharmonic, Flat}
 use Rattle.layout_layers.specs.KeyLayers.{equalized, entryCount, listedLayer, alternating, alternateLayer, layerOf, layerNumber, keyLayers, layerCount, kindOf, numberIn, layersIn, countIn}
-use Rattle.layout_layers.specs.Parts.{placeOf, keysOf, Spread, InTurns, runLayer, listedNumber, layersOfPlan, totalOf, Sound, PlanOf, turnLayer, planNumber, turnsOf, listed, Fronted, planLayers}
+use Rattle.layout_layers.specs.Parts.{placeOf, keysOf, Spread, InTurns, runLayer, listedNumber, layersOfPlan, totalOf, Sound, PlanOf, turnLayer, planNumber, turnsOf, listed, Fronted, planLayers, shownAs, planEntries}
 use Rattle.layout_layers.proofs.RunPlaces.{numbered-below}
 use Rattle.layout_layers.proofs.SpreadLaws.{length-listed, spread-front}
 use Rattle.layout_layers.proofs.ChainLaws.{place-below}
@@ -176,19 +176,21 @@ module _ (p : Plan) (sound : Sound p) where
   pub turn-below : (turn : ℕ) → turnLayer p turn * n + n ≤ totalOf p
   turn-below turn = block-fits (turnLayer p turn) (layersOfPlan p) n (layer-below turn)
 
-  pub turn-fits : (turn layer : ℕ) → layer ≡ turnLayer p turn → layer * n + n ≤ 65535
-  turn-fits turn layer e =
-      omega (arith, ap (λ (k : ℕ). k * n) e, turn-below turn, sound .layers-fit)
+  pub turn-within : (turn layer most : ℕ) → layer ≡ turnLayer p turn → totalOf p ≤ most → layer * n + n ≤ most
+  turn-within turn layer most e h = omega (arith, ap (λ (k : ℕ). k * n) e, turn-below turn, h)
 
-  pub listed-fits : p .equalized ≡ false → length (dropEmpty (runSizes (p .runs))) * n ≤ 65535
-  listed-fits t = omega (arith, listed-most p t refl, sound .layers-fit)
+  pub turn-fits : (turn layer : ℕ) → layer ≡ turnLayer p turn → layer * n + n ≤ 65535
+  turn-fits turn layer e = turn-within turn layer 65535 e (sound .layers-fit)
+
+  pub listed-within : (most : ℕ) → p .equalized ≡ false → totalOf p ≤ most → length (dropEmpty (runSizes (p .runs))) * n ≤ most
+  listed-within most t h = omega (arith, listed-most p t refl, h)
 
   -- entries that are stored in any order are the list
-  pub entries-front : (turns : ℕ) {xs ys : List ℕ} → turns ≡ turnsOf p → length (planLayers p) ≤ length xs → Spread (InTurns n turns) (planNumber p) xs ys
-      → Fronted (planLayers p) xs ys
-  entries-front turns {xs} {ys} e room s =
-      subst (λ (k : ℕ). Fronted (listed (planNumber p) (k * n)) xs ys) e
-      (spread-front n turns (planNumber p) (sound .unbroken .some-cycles) (omega (arith, length-plan p e)) s)
+  pub entries-front : (T turns : ℕ) {xs ys : List ℕ} → turns ≡ turnsOf p → length (planLayers p) ≤ length xs
+      → Spread (InTurns n turns) (λ i. shownAs T (planNumber p i)) xs ys → Fronted (planEntries p T) xs ys
+  entries-front T turns {xs} {ys} e room s =
+      subst (λ (k : ℕ). Fronted (listed (λ i. shownAs T (planNumber p i)) (k * n)) xs ys) e
+      (spread-front n turns (λ i. shownAs T (planNumber p i)) (sound .unbroken .some-cycles) (omega (arith, length-plan p e)) s)
 
 -- ---- the plan of a layout
 

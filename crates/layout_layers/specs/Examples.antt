@@ -9,6 +9,7 @@ use Rattle.layout.specs.Examples.{layout}
 use Rattle.layout_layers.specs.declared.Layer.{Layer}
 use Rattle.layout_layers.specs.declared.Layer.the-variants.{Natural, Sharp, Enharmonic, Flat}
 use Rattle.layout_layers.specs.KeyLayers.{kindOf}
+use Rattle.layout_layers.specs.LampCodes.{lampCode}
 use Rattle.layout_layers.specs.Answers.{getLayers, getLayerCount, getLayer}
 
 -- ---- numbers: how many, and those of the keys
@@ -112,4 +113,7 @@ pub record ExamplesHold : Type 0 where
   pub numbers : map (λ (e : NumbersExample). getLayers (e .layout)) numbersExamples ≡ map (λ (e : NumbersExample). e .numbers) numbersExamples
   pub kinds : map (λ (e : KindsExample). kindsIn (e .layout)) kindsExamples ≡ map (λ (e : KindsExample). e .kinds) kindsExamples
   pub keys : map (λ (e : KeyExample). getLayer (e .layout) (e .key)) keyExamples ≡ map (λ (e : KeyExample). e .number) keyExamples
+  pub codes : map lampCode (Natural ∷ Sharp 0 ∷ Sharp 99 ∷ Flat 0 ∷ Flat 99 ∷ Enharmonic 7 ∷ []) ≡ 1 ∷ 2 ∷ 200 ∷ 3 ∷ 201 ∷ 65535 ∷ []
+  -- the last of each kind that 16 bits hold
+  pub last-codes : map lampCode (Sharp 32766 ∷ Flat 32765 ∷ []) ≡ 65534 ∷ 65533 ∷ []
   pub no-number : map (kindOf 5) (2 ∷ 3 ∷ 5 ∷ 9 ∷ []) ≡ Sharp 1 ∷ Flat 1 ∷ Flat 0 ∷ Flat 0 ∷ []

@@ -1,5 +1,6 @@
 pub mod KeyLayers
 pub mod Answers
+pub mod LampCodes
 pub mod Parts
 pub mod Theorems
 pub mod Examples

@@ -3,19 +3,22 @@ use Prim.Native.Nat.{ℕ, _+_, _*_, _-_, _/_, _%_, _≤_, _<_}
 use mathlib.Core.Path.{_≡_}
 use mathlib.Core.List.{List, [], _∷_, _++_}
 use lib.ListN.{length, getD, drop}
+use lib.Dec.{eqb}
 use Rattle.answer.specs.Choice.{pick}
 use Rattle.text.specs.Writing.{joined}
 use Rattle.mos.specs.Patterns.{primaries, secondaries, primary, secondary, cyclesOf}
 use Rattle.pergen.specs.Pergen.{inverse}
 use Rattle.mos_layers.specs.declared.Runs.{Runs}
 use Rattle.mos_layers.specs.Layers.{allSizes, dropEmpty, numbered}
-use Rattle.mos_layers.specs.Parts.{runSizes}
+use Rattle.mos_layers.specs.Parts.{runAt, runSizes}
 use Rattle.mos_layers.specs.Theorems.{sum}
 use Rattle.layout.specs.Layouts.{Layout, cyclesIn, reducedIn}
 use Rattle.layout_layers.specs.declared.chain.Chain.{Chain}
 use Rattle.layout_layers.specs.declared.chain.Spot.{Spot}
 use Rattle.layout_layers.specs.declared.parts.Plan.{Plan}
+use Rattle.layout_layers.specs.declared.ruler.Ruler.{Ruler}
 use Rattle.layout_layers.specs.KeyLayers.{equalized, alternating}
+use Rattle.layout_layers.specs.LampCodes.{codeOf}
 
 -- ---- the chain
 
@@ -149,3 +152,35 @@ Fronted text before after = after ≡ text ++ drop (length text) before
 -- All entries.
 abbrev pub planLayers : Plan → List ℕ
 planLayers p = listed (planNumber p) (turnsOf p * p .chain .«num_cycles»)
+
+-- What a writer of entries writes for a number: the number itself where T is 0, and else its code, of T.
+unfoldable pub shownAs : (T j : ℕ) → ℕ
+unfolding codeOf
+shownAs T j = pick (eqb T 0) j (codeOf T j)
+
+-- The numbers that it writes something for are below this.
+abbrev pub limit : ℕ → ℕ
+limit T = pick (eqb T 0) 65535 T
+
+-- All entries as they are written.
+abbrev pub planEntries : Plan → (T : ℕ) → List ℕ
+planEntries p T = listed (λ i. shownAs T (planNumber p i)) (turnsOf p * p .chain .«num_cycles»)
+
+-- ---- a ruler of the runs
+
+-- A ruler says of each of its runs where it begins in the list of layers, and how many layers there are before it.
+pub record Marked (r : Ruler) : Type 0 where
+  pub begins-are : (i : ℕ) → i < 8 → getD (r .begins) i 0 ≡ sum (joined (runAt (r .runs .sizes) (r .runs .times)) i)
+  pub firsts-are : (i : ℕ) → i < 8 → getD (r .firsts) i 0 ≡ length (dropEmpty (joined (runAt (r .runs .sizes) (r .runs .times)) i))
+  pub places-fit : sum (runSizes (r .runs)) ≤ 65535
+
+-- The ruler of a plan's runs.
+pub record RulerOf (p : Plan) (r : Ruler) : Type 0 where
+  pub runs-are : r .runs ≡ p .runs
+  pub marked : Marked r
+
+-- A place is in one of `count` runs from `run` on, of eight that begin at these places.
+pub record Among (begins : List ℕ) (place run count : ℕ) : Type 0 where
+  pub are-runs : run + count ≤ 8
+  pub begun : getD begins run 0 ≤ place
+  pub not-past : run + count < 8 → place < getD begins (run + count) 0

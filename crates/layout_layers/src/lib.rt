@@ -2,11 +2,12 @@
 //
 // Holds the layer number of each key, how many numbers there are, and what a number means: natural, sharp, enharmonic or
 // flat (document 01, "Step patterns", the last paragraph). A player colours the keys by them.
-// specs/: KeyLayers defines, Answers says what each call answers, Theorems and Examples state what holds.
-// `parts` holds the plan that whole-octave work goes by, `chain` the walk that it goes along. Every entry point answers every input.
-// Nothing is assumed.
+// specs/: KeyLayers defines, LampCodes too, Answers says what each call answers, Theorems and Examples state what holds.
+// `parts` holds the plan that whole-octave work goes by, `chain` the walk that it goes along, `ruler` what a table finds layers by.
+// Every entry point answers every input. Nothing is assumed.
 pub mod chain;
 pub mod parts;
+pub mod ruler;
 
 use answer::CountAnswer;
 use answer::NumberAnswer;

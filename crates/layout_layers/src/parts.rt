@@ -22,6 +22,7 @@ ghost use Rattle.mos_layers.specs.Theorems.{sum};
 ghost use Rattle.mos_layers.specs.Layers.{dropEmpty};
 ghost use Rattle.layout.specs.Parts.{layoutOf, Laid};
 ghost use Rattle.layout_layers.specs.KeyLayers.{alternating};
+ghost use Rattle.layout_layers.specs.LampCodes.{codeOf};
 ghost use Rattle.layout_layers.specs.Parts.{
   inverseOf,
   keysOf,
@@ -41,6 +42,9 @@ ghost use Rattle.layout_layers.specs.Parts.{
   turnsOf,
   Fronted,
   planLayers,
+  planEntries,
+  shownAs,
+  limit,
 };
 
 // What all keys of a layout have in common.
@@ -142,7 +146,7 @@ fn layer_at(runs: Runs, place: u16) -> u16
 }
 
 // The place on the chain that a degree has, `start` places behind the first letter.
-fn chain_place(start: u16, degree: u16, reduced_period: u16) -> u16
+pub(crate) fn chain_place(start: u16, degree: u16, reduced_period: u16) -> u16
     requires { ⌜ (start < «reduced_period») × (degree < «reduced_period») ⌝ }
     ensures { λ r. ⌜ r ≡ (start + degree) % «reduced_period» ⌝ }
 {
@@ -232,33 +236,80 @@ pub fn entries(plan: Plan) -> usize
     (turns_of(plan) as usize) * (chain.num_cycles as usize)
 }
 
-// The numbers of one scale degree, a number for each cycle.
-fn put_turn(out: &mut [u16], cycles: u16, turn: u32, layer: u16)
-    requires { ⌜ (0 < cycles) × (turn * cycles + cycles ≤ length (now out)) × (layer * cycles + cycles ≤ 65535) ⌝ }
-    ensures { λ r. ⌜ Spread (InTurn cycles turn) (λ i. layer * cycles + i % cycles) (now (out .entry)) (now (out .exit)) ⌝ }
+// The lamp code of a layer's number, of as many as `total` says. Sharp layers go up by even codes, flat ones down by odd codes: no kind is
+// made.
+pub fn code(total: u16, number: u16) -> u16
+    requires { ⌜ number < total ⌝ }
+    ensures { λ r. ⌜ r ≡ codeOf total number ⌝ }
 {
-    if cycles == 1 {
-        out[turn as usize] = layer;
-        return;
+    if number == 0 {
+        return 1;
     }
+    let left = total - number;
+    if number < left {
+        return 2 * number;
+    }
+    if number == left {
+        return 65535;
+    }
+    2 * left + 1
+}
+
+// What is written for a number: the number itself where `total` is 0, and else its code, of as many as `total` says.
+fn shown(total: u16, number: u16) -> u16
+    requires { ⌜ number < limit total ⌝ }
+    ensures { λ r. ⌜ r ≡ shownAs total number ⌝ }
+{
+    if total == 0 {
+        return number;
+    }
+    code(total, number)
+}
+
+// The entries of one scale degree, one for each cycle: numbers, or, where `total` is not 0, codes; so all writers below. The number is
+// carried, so that many codes are computed side by side.
+fn put_turn(out: &mut [u16], cycles: u16, turn: u32, layer: u16, total: u16)
+    requires { ⌜ (0 < cycles) × (turn * cycles + cycles ≤ length (now out)) × (layer * cycles + cycles ≤ limit total) ⌝ }
+    ensures { λ r. ⌜ Spread (InTurn cycles turn) (λ i. shownAs total (layer * cycles + i % cycles)) (now (out .entry)) (now (out .exit)) ⌝ }
+{
     let at = (turn as usize) * (cycles as usize);
-    let base = layer * cycles;
+    let mut number = layer * cycles;
     let mut c: u16 = 0;
     while c < cycles {
-        out[at + (c as usize)] = base + c;
+        out[at + (c as usize)] = shown(total, number);
+        number += 1;
         c += 1;
     }
 }
 
-// One layer: its numbers, at as many places of the chain as its size says.
-fn put_layer(out: &mut [u16], chain: Chain, from: Spot, size: u16, layer: u16) -> Spot
-    requires { ⌜ Ahead chain from size (now out) × (layer * chain .«num_cycles» + chain .«num_cycles» ≤ 65535) ⌝ }
-    ensures { λ r. ⌜ Walk chain from r size (λ i. layer * chain .«num_cycles» + i % chain .«num_cycles») (now (out .entry)) (now (out .exit)) ⌝ }
+// One layer where there is one cycle: one entry, at as many places of the chain as the layer's size says.
+fn put_single(out: &mut [u16], chain: Chain, from: Spot, size: u16, entry: u16) -> Spot
+    requires { ⌜ (chain .«num_cycles» ≡ 1) × Ahead chain from size (now out) ⌝ }
+    ensures { λ r. ⌜ Walk chain from r size (λ i. entry) (now (out .entry)) (now (out .exit)) ⌝ }
 {
     let mut spot = from;
     let mut k: u16 = 0;
     while k < size {
-        put_turn(out, chain.num_cycles, spot.turn, layer);
+        out[spot.turn as usize] = entry;
+        spot = chain::next_spot(chain, spot);
+        k += 1;
+    }
+    spot
+}
+
+// One layer: its entries, at as many places of the chain as its size says.
+fn put_layer(out: &mut [u16], chain: Chain, from: Spot, size: u16, layer: u16, total: u16) -> Spot
+    requires { ⌜ Ahead chain from size (now out) × (layer * chain .«num_cycles» + chain .«num_cycles» ≤ limit total) ⌝ }
+    ensures { λ r. ⌜ Walk chain from r size (λ i. shownAs total (layer * chain .«num_cycles» + i % chain .«num_cycles»)) (now (out .entry)) (now (out .exit)) ⌝ }
+{
+    if chain.num_cycles == 1 {
+        let entry = shown(total, layer);
+        return put_single(out, chain, from, size, entry);
+    }
+    let mut spot = from;
+    let mut k: u16 = 0;
+    while k < size {
+        put_turn(out, chain.num_cycles, spot.turn, layer, total);
         spot = chain::next_spot(chain, spot);
         k += 1;
     }
@@ -266,9 +317,17 @@ fn put_layer(out: &mut [u16], chain: Chain, from: Spot, size: u16, layer: u16) -
 }
 
 // A run: as many layers of one size as `times` says, numbered from `first` on; none where they are empty.
-fn put_run(out: &mut [u16], chain: Chain, from: Spot, size: u16, times: u16, first: u16) -> Spot
-    requires { ⌜ Ahead chain from (times * size) (now out) × ((first + length (dropEmpty (replicate times size))) * chain .«num_cycles» ≤ 65535) ⌝ }
-    ensures { λ r. ⌜ Walk chain from r (times * size) (runNumber chain (from .place) size first) (now (out .entry)) (now (out .exit)) ⌝ }
+fn put_run(
+    out: &mut [u16],
+    chain: Chain,
+    from: Spot,
+    size: u16,
+    times: u16,
+    first: u16,
+    total: u16,
+) -> Spot
+    requires { ⌜ Ahead chain from (times * size) (now out) × ((first + length (dropEmpty (replicate times size))) * chain .«num_cycles» ≤ limit total) ⌝ }
+    ensures { λ r. ⌜ Walk chain from r (times * size) (λ i. shownAs total (runNumber chain (from .place) size first i)) (now (out .entry)) (now (out .exit)) ⌝ }
 {
     if size == 0 {
         return from;
@@ -276,60 +335,66 @@ fn put_run(out: &mut [u16], chain: Chain, from: Spot, size: u16, times: u16, fir
     let mut spot = from;
     let mut k: u16 = 0;
     while k < times {
-        spot = put_layer(out, chain, spot, size, first + k);
+        spot = put_layer(out, chain, spot, size, first + k, total);
         k += 1;
     }
     spot
 }
 
-// All entries, along the chain.
-fn put_chain(out: &mut [u16], plan: Plan)
-    requires { ⌜ Sound plan × (plan .equalized ≡ false) × (keysOf (plan .chain) ≤ length (now out)) ⌝ }
-    ensures { λ r. ⌜ Spread (InTurns (plan .chain .«num_cycles») (plan .chain .«reduced_period»)) (listedNumber (plan .runs) (plan .chain)) (now (out .entry)) (now (out .exit)) ⌝ }
+// All entries, along the chain. The plan's numbers are read one by one: they were stored so, and a copy of them all at once would wait for
+// each of those stores.
+fn put_chain(out: &mut [u16], plan: Plan, total: u16)
+    requires { ⌜ Sound plan × (totalOf plan ≤ limit total) × (plan .equalized ≡ false) × (keysOf (plan .chain) ≤ length (now out)) ⌝ }
+    ensures { λ r. ⌜ Spread (InTurns (plan .chain .«num_cycles») (plan .chain .«reduced_period»)) (λ i. shownAs total (listedNumber (plan .runs) (plan .chain) i)) (now (out .entry)) (now (out .exit)) ⌝ }
 {
     let runs = plan.runs;
     let sizes = runs.sizes;
     let times = runs.times;
-    let chain = plan.chain;
+    let chain = Chain {
+        num_cycles: plan.chain.num_cycles,
+        reduced_period: plan.chain.reduced_period,
+        advance: plan.chain.advance,
+        start: plan.chain.start,
+    };
     let mut spot = chain::first_spot(chain);
     let mut first: u16 = 0;
     let mut i: usize = 0;
     while i < 8 {
         let size = sizes[i];
         let count = times[i];
-        spot = put_run(out, chain, spot, size, count, first);
+        spot = put_run(out, chain, spot, size, count, first, total);
         first += layers_in(size, count);
         i += 1;
     }
 }
 
 // The entries of the first scale degrees of an equalized scale.
-fn put_alternating(out: &mut [u16], plan: Plan, turns: u32)
-    requires { ⌜ Sound plan × (plan .equalized ≡ true) × (turns ≤ 131070) × (turns * plan .chain .«num_cycles» ≤ length (now out)) ⌝ }
-    ensures { λ r. ⌜ Spread (InTurns (plan .chain .«num_cycles») turns) (planNumber plan) (now (out .entry)) (now (out .exit)) ⌝ }
+fn put_alternating(out: &mut [u16], plan: Plan, turns: u32, total: u16)
+    requires { ⌜ Sound plan × (totalOf plan ≤ limit total) × (plan .equalized ≡ true) × (turns ≤ 131070) × (turns * plan .chain .«num_cycles» ≤ length (now out)) ⌝ }
+    ensures { λ r. ⌜ Spread (InTurns (plan .chain .«num_cycles») turns) (λ i. shownAs total (planNumber plan i)) (now (out .entry)) (now (out .exit)) ⌝ }
 {
     let chain = plan.chain;
     let mut turn: u32 = 0;
     while turn < turns {
         let layer = alternate(plan.letters, plan.secondaries, plan.offset, turn);
-        put_turn(out, chain.num_cycles, turn, layer);
+        put_turn(out, chain.num_cycles, turn, layer, total);
         turn += 1;
     }
 }
 
 // All entries at the front of a slice that is known to hold them.
-pub fn put_layers(out: &mut [u16], plan: Plan)
-    requires { ⌜ Sound plan × (length (planLayers plan) ≤ length (now out)) ⌝ }
-    ensures { λ r. ⌜ Fronted (planLayers plan) (now (out .entry)) (now (out .exit)) ⌝ }
+pub fn put_entries(out: &mut [u16], plan: Plan, total: u16)
+    requires { ⌜ Sound plan × (totalOf plan ≤ limit total) × (length (planLayers plan) ≤ length (now out)) ⌝ }
+    ensures { λ r. ⌜ Fronted (planEntries plan total) (now (out .entry)) (now (out .exit)) ⌝ }
 {
     if plan.equalized {
-        put_alternating(out, plan, turns_of(plan));
+        put_alternating(out, plan, turns_of(plan), total);
         return;
     }
-    put_chain(out, plan);
+    put_chain(out, plan, total);
 }
 
-// All entries at the front of a slice that holds them (10).
+// The numbers of all entries at the front of a slice that holds them (10).
 pub(crate) fn write_layers(plan: Plan, out: &mut [u16]) -> CountAnswer
     requires { ⌜ Sound plan ⌝ }
     ensures { λ r. ⌜ Filled (heldIn (length (now (out .entry))) (planLayers plan)) (countOutcome r) (now (out .entry)) (now (out .exit)) ⌝ }
@@ -338,6 +403,6 @@ pub(crate) fn write_layers(plan: Plan, out: &mut [u16]) -> CountAnswer
     if out.len() < count {
         return CountAnswer::Refused(Refusal::Room);
     }
-    put_layers(out, plan);
+    put_entries(out, plan, 0);
     CountAnswer::Given(count)
 }

@@ -27,7 +27,8 @@ use Rattle.layout_layers.specs.KeyLayers.{equalized}
 use Rattle.layout_layers.specs.Parts.{inverseOf, planNumber}
 use Rattle.layout_layers.proofs.PlanLaws.{count-is}
 use Rattle.layout_lamps.specs.Lamps.{lampIn, stripLengthIn}
-use Rattle.layout_lamps.specs.Parts.{codeOf, planLamp}
+use Rattle.layout_layers.specs.LampCodes.{codeOf}
+use Rattle.layout_lamps.specs.Parts.{planLamp}
 use Rattle.layout_lamps.proofs.StripLaws.{octave-lamp-is, lamp-is, lamp-home}
 use Rattle.layout_lamps.proofs.Theorems.{strip-rounds}
 use Rattle.layout_sheet.specs.declared.Record.{Record}

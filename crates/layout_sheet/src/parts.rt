@@ -141,7 +141,7 @@ fn lamp_at(common: Common, place: u32, index: u16, step: Step) -> u16
     }
     let solved = common.solved;
     let number = layout_layers::parts::number_of(plan, solved.generator_inverse, place);
-    layout_lamps::parts::code(common.total, number)
+    layout_layers::parts::code(common.total, number)
 }
 
 // One record, filled from its key: what single calls would have given. Spellings and lamp go by one degree and cycle.

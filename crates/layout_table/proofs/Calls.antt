@@ -24,7 +24,8 @@ use Rattle.layout.specs.Parts.{Laid}
 use Rattle.layout.proofs.Calls.{of-refused, of-given}
 use Rattle.layout.proofs.Finding.{laid, octave-is}
 use Rattle.layout_layers.specs.declared.parts.Plan.{Plan}
-use Rattle.layout_layers.specs.Parts.{inverseOf, totalOf, PlanOf}
+use Rattle.layout_layers.specs.declared.ruler.Ruler.{Ruler}
+use Rattle.layout_layers.specs.Parts.{inverseOf, totalOf, PlanOf, RulerOf}
 use Rattle.layout_layers.proofs.PlanLaws.{count-is}
 use Rattle.layout_speller.specs.declared.speller.Speller.{Speller}
 use Rattle.layout_speller.specs.Parts.{SpellerOf}
@@ -44,9 +45,9 @@ pub line-parts : (l : Layout) (key : ℕ) → keyLine key (listedName l key) (la
 unfolding lineIn
 line-parts l key = refl
 
-module _ (l : Layout) (ok : Laid l) (s : Speller) (names : SpellerOf l s) (p : Plan) (w : PlanOf l p) (T : ℕ) (is : T ≡ totalOf p) where
+module _ (l : Layout) (ok : Laid l) (s : Speller) (names : SpellerOf l s) (p : Plan) (w : PlanOf l p) (u : Ruler) (marked : RulerOf p u) (T : ℕ) (is : T ≡ totalOf p) where
   abbrev made : Table
-  made = record { speller = s; plan = p; total = T; keys = l .octave }
+  made = record { speller = s; plan = p; ruler = u; total = T; keys = l .octave }
 
   sound : Sound made
   unfolding solvedOf
@@ -55,6 +56,7 @@ module _ (l : Layout) (ok : Laid l) (s : Speller) (names : SpellerOf l s) (p : P
       record {
         names = names .sound;
         layers = w .sound;
+        ruler-is = marked;
         total-is = is;
         keys-are = names .octave-is;
         cycles-agree = w .cycles-are ∙ sym (ap (λ (x : Solved). x .«num_cycles») solved);

@@ -14,6 +14,7 @@ use Rattle.layout_table.specs.Tables.{keyLine, lineIn, lineRoom}
 pub record Sound (t : Table) : Type 0 where
   pub names : Speller.Sound (t .speller)
   pub layers : Layers.Sound (t .plan)
+  pub ruler-is : Layers.RulerOf (t .plan) (t .ruler)
   pub total-is : t .total ≡ Layers.totalOf (t .plan)
   pub keys-are : t .keys ≡ t .speller .solved .«reduced_period» * t .speller .solved .«num_cycles»
   pub cycles-agree : t .plan .chain .«num_cycles» ≡ t .speller .solved .«num_cycles»

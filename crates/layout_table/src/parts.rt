@@ -7,6 +7,8 @@ use genchain::rows;
 use layout::parts::Found;
 use layout::parts::FoundAnswer;
 use layout_layers::parts::Plan;
+use layout_layers::ruler;
+use layout_layers::ruler::Ruler;
 use layout_speller::speller;
 use layout_speller::speller::Speller;
 use line::LineAnswer;
@@ -28,6 +30,7 @@ ghost use Rattle.text.specs.Writing.{Room, Wrote, joined};
 ghost use Rattle.pergen.specs.Parts.{Walkable, At};
 ghost use Rattle.layout.specs.Parts.{layoutOf, foundOutcome, Laid};
 ghost use Rattle.notes.specs.Parts.{planText, ShortLetters};
+ghost use Rattle.layout_lamps.specs.Parts.{planLamp};
 ghost use Rattle.layout_table.specs.Tables.{keyLine, lineLayout, refusalLine};
 ghost use Rattle.layout_table.specs.Parts.{
   Sound,
@@ -42,6 +45,7 @@ ghost use Rattle.layout_table.specs.Parts.{
 pub struct Table {
     pub speller: Speller,
     pub plan: Plan,
+    pub ruler: Ruler,
     pub total: u16,
     pub keys: u16,
 }
@@ -70,6 +74,7 @@ pub fn table_of(found: Found) -> Table
     Table {
         speller: speller::speller_of(row, found),
         plan,
+        ruler: ruler::ruler_of(plan),
         total: layout_layers::parts::total_of(plan),
         keys: found.octave,
     }
@@ -88,6 +93,18 @@ fn step_at(solved: Solved, key: u16) -> Step
     }
 }
 
+// The lamp code of a key, where the walk from key to key stands at it: key 0 is home.
+fn lamp_at(table: Table, key: u16, step: Step) -> u16
+    requires { ⌜ Sound table × At (table .speller .solved) key step ⌝ }
+    ensures { λ r. ⌜ r ≡ planLamp (table .plan) (table .total) key ⌝ }
+{
+    if key == 0 {
+        return 0;
+    }
+    let number = ruler::number_at(table.plan, table.ruler, key, step.degree, step.cycle);
+    layout_layers::parts::code(table.total, number)
+}
+
 // How many bytes the lines of all keys have without their names.
 fn numbers_length(table: Table) -> usize
     requires { ⌜ Sound table ⌝ }
@@ -98,7 +115,7 @@ fn numbers_length(table: Table) -> usize
     let mut step = stepping::first(solved);
     let mut key: u16 = 0;
     while key < table.keys {
-        let lamp = layout_lamps::parts::code_at(table.plan, table.total, key, step);
+        let lamp = lamp_at(table, key, step);
         total += decimal::number_len(key) + decimal::number_len(lamp) + 3;
         step = stepping::next(solved, step);
         key += 1;
@@ -139,7 +156,7 @@ pub fn put_lines(out: &mut [u8], table: Table, from: u16, count: u16) -> usize
     while past < count {
         let key = from + past;
         let name = speller::plan_at(table.speller, step);
-        let lamp = layout_lamps::parts::code_at(table.plan, table.total, key, step);
+        let lamp = lamp_at(table, key, step);
         place = put_line(out, place, key, name, lamp);
         step = stepping::next(solved, step);
         past += 1;

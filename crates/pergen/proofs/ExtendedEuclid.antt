@@ -97,7 +97,7 @@ module _ (p g r₀ r₁ c₀ c₁ : ℕ) (negative : Bool) (s : Going p g r₀ r
     next-is-whole = next-whole p g (r₀ / r₁) r₀ r₁ (r₀ % r₁) c₀ c₁ (div-add-mod' r₀ r₁) (s .whole)
 
     -- the next coefficient is at most the period
-    pub next-small : c₀ + r₀ / r₁ * c₁ ≤ p
+    next-small : c₀ + r₀ / r₁ * c₁ ≤ p
     unfolding next
     next-small = omega (arith, next-is-whole, le-mul-of-pos-right (c₀ + r₀ / r₁ * c₁) some)
 
@@ -105,9 +105,9 @@ module _ (p g r₀ r₁ c₀ c₁ : ℕ) (negative : Bool) (s : Going p g r₀ r
     next-leaves true h₀ h₁ = next-backward p g (r₀ / r₁) r₀ r₁ (r₀ % r₁) c₀ c₁ (div-add-mod' r₀ r₁) h₀ h₁
     next-leaves false h₀ h₁ = next-forward p g (r₀ / r₁) r₀ r₁ (r₀ % r₁) c₀ c₁ (div-add-mod' r₀ r₁) h₀ h₁
 
-    pub step : Going p g r₁ (r₀ % r₁) c₁ (c₀ + r₀ / r₁ * c₁) (not negative)
+    step-divided : Going p g r₁ (r₀ % r₁) c₁ (c₀ + r₀ / r₁ * c₁) (not negative)
     unfolding next
-    step =
+    step-divided =
         record {
           same = sym (gcd-step r₀ r₁ some) ∙ s .same;
           some₀ = some;
@@ -118,6 +118,16 @@ module _ (p g r₀ r₁ c₀ c₁ : ℕ) (negative : Bool) (s : Going p g r₀ r
           left₀ = s .left₁;
           left₁ = next-leaves negative (s .left₀) (s .left₁);
         }
+
+    -- by a quotient and a remainder that were found without a division
+    module _ (turns rest : ℕ) (is-turns : turns ≡ r₀ / r₁) (is-rest : rest ≡ r₀ % r₁) where
+      pub turns-small : c₀ + turns * c₁ ≤ p
+      turns-small = subst (λ (q : ℕ). c₀ + q * c₁ ≤ p) (sym is-turns) next-small
+
+      pub step : Going p g r₁ rest c₁ (c₀ + turns * c₁) (not negative)
+      step =
+          subst (λ (r : ℕ). Going p g r₁ r c₁ (c₀ + turns * c₁) (not negative)) (sym is-rest)
+          (subst (λ (q : ℕ). Going p g r₁ (r₀ % r₁) c₁ (c₀ + q * c₁) (not negative)) (sym is-turns) step-divided)
 
   module _ (none : r₁ ≡ 0) where
     last-whole : c₁ * r₀ ≡ p

@@ -2,7 +2,7 @@
 use crate::Cycle;
 use crate::Generation;
 ghost use mathlib.Core.Path.{_≡_};
-ghost use Prim.Native.Nat.{_%_, _≤_, _<_};
+ghost use Prim.Native.Nat.{_/_, _%_, _≤_, _<_};
 ghost use Rattle.pergen.specs.Parts.{BezoutOf, forward, solvedOf, generationFrom};
 
 // The greatest common divisor, the period divided by it, and how many generators leave the divisor on division by the period:
@@ -12,6 +12,36 @@ struct Bezout {
     cofactor: u16,
     coefficient: u16,
     negative: bool,
+}
+
+// How often one number goes into another, and what is left.
+struct Division {
+    turns: u32,
+    rest: u32,
+}
+
+// In a Euclid one number often goes into the other just once: then nothing is divided.
+fn divide(number: u32, divisor: u32) -> Division
+    requires { ⌜ 0 < divisor ⌝ }
+    ensures { λ r. ⌜ (r .turns ≡ number / divisor) × (r .rest ≡ number % divisor) ⌝ }
+{
+    if number < divisor {
+        return Division {
+            turns: 0,
+            rest: number,
+        };
+    }
+    let left = number - divisor;
+    if left < divisor {
+        return Division {
+            turns: 1,
+            rest: left,
+        };
+    }
+    Division {
+        turns: number / divisor,
+        rest: number % divisor,
+    }
 }
 
 // The extended Euclid. The coefficients' signs alternate, so their sizes are carried and one flag. c1 r0 + c0 r1 stays the period,
@@ -26,11 +56,10 @@ fn extended_gcd(period: u16, generator: u16) -> Bezout
     let mut c1: u32 = 1;
     let mut negative = true;
     while r1 != 0 {
-        let turns = r0 / r1;
-        let r2 = r0 % r1;
-        let c2 = c0 + turns * c1;
+        let next = divide(r0, r1);
+        let c2 = c0 + next.turns * c1;
         r0 = r1;
-        r1 = r2;
+        r1 = next.rest;
         c0 = c1;
         c1 = c2;
         negative = !negative;

@@ -4,7 +4,7 @@
 // them.
 use crate::writer::put_byte;
 ghost use mathlib.Core.Path.{_≡_};
-ghost use Prim.Native.Nat.{_+_, _<_};
+ghost use Prim.Native.Nat.{_+_, _≤_, _<_};
 ghost use mathlib.Core.List.{[], _∷_, _++_};
 ghost use Rattle.text.specs.Writing.{Room, Wrote};
 ghost use Rattle.text.specs.Decimal.{digits, DigitsLength, digitAt, numberAt};
@@ -34,6 +34,39 @@ pub fn number_len(n: u16) -> usize
     5
 }
 
+// The digits of a number, one function for each length: none calls itself, so that a number is written in one piece of code.
+fn put_two(out: &mut [u8], at: usize, n: u16) -> usize
+    requires { ⌜ (10 ≤ n) × (n < 100) × Room (now out) at (digits n) ⌝ }
+    ensures { λ r. ⌜ Wrote (now (out .entry)) at (digits n) (now (out .exit)) r ⌝ }
+{
+    let next = put_byte(out, at, 48 + (n / 10) as u8);
+    put_byte(out, next, 48 + (n % 10) as u8)
+}
+
+fn put_three(out: &mut [u8], at: usize, n: u16) -> usize
+    requires { ⌜ (100 ≤ n) × (n < 1000) × Room (now out) at (digits n) ⌝ }
+    ensures { λ r. ⌜ Wrote (now (out .entry)) at (digits n) (now (out .exit)) r ⌝ }
+{
+    let next = put_two(out, at, n / 10);
+    put_byte(out, next, 48 + (n % 10) as u8)
+}
+
+fn put_four(out: &mut [u8], at: usize, n: u16) -> usize
+    requires { ⌜ (1000 ≤ n) × (n < 10000) × Room (now out) at (digits n) ⌝ }
+    ensures { λ r. ⌜ Wrote (now (out .entry)) at (digits n) (now (out .exit)) r ⌝ }
+{
+    let next = put_three(out, at, n / 10);
+    put_byte(out, next, 48 + (n % 10) as u8)
+}
+
+fn put_five(out: &mut [u8], at: usize, n: u16) -> usize
+    requires { ⌜ (10000 ≤ n) × Room (now out) at (digits n) ⌝ }
+    ensures { λ r. ⌜ Wrote (now (out .entry)) at (digits n) (now (out .exit)) r ⌝ }
+{
+    let next = put_four(out, at, n / 10);
+    put_byte(out, next, 48 + (n % 10) as u8)
+}
+
 // The digits of a number at a place, the highest first, without leading zeros; the place after them.
 pub fn put_number(out: &mut [u8], at: usize, n: u16) -> usize
     requires { ⌜ Room (now out) at (digits n) ⌝ }
@@ -42,8 +75,16 @@ pub fn put_number(out: &mut [u8], at: usize, n: u16) -> usize
     if n < 10 {
         return put_byte(out, at, 48 + n as u8);
     }
-    let next = put_number(out, at, n / 10);
-    put_byte(out, next, 48 + (n % 10) as u8)
+    if n < 100 {
+        return put_two(out, at, n);
+    }
+    if n < 1000 {
+        return put_three(out, at, n);
+    }
+    if n < 10000 {
+        return put_four(out, at, n);
+    }
+    put_five(out, at, n)
 }
 
 // The same with one byte right behind the digits.

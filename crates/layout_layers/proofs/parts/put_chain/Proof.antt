@@ -8,8 +8,8 @@ use Rattle.mos_layers.specs.Layers.{dropEmpty}
 use Rattle.mos_layers.specs.Theorems.{sum}
 use Rattle.mos_layers.specs.Parts.{runAt}
 use Rattle.mos_layers.proofs.Sizes.{count-none, count-more}
-use Rattle.layout_layers.specs.Parts.{Walk, listedNumber}
-use Rattle.layout_layers.proofs.PlanLaws.{listed-fits}
+use Rattle.layout_layers.specs.Parts.{Walk, listedNumber, shownAs, limit}
+use Rattle.layout_layers.proofs.PlanLaws.{listed-within}
 use Rattle.layout_layers.proofs.RunPlaces.{count-within}
 use Rattle.layout_layers.proofs.ChainLaws.{chain-start, chain-ahead, chain-fits, chain-more, chain-done}
 use borrow.Author.Needs.{needs}
@@ -17,20 +17,20 @@ use Rattle.layout_layers.proofs.parts.put_chain.Statement.{statement}
 use Rattle.layout_layers.proofs.parts.put_chain.Tie as tie
 
 abbrev Inv-loop : tie.InvT-loop
-Inv-loop out₀ sizes times chain spot₀ first₀ i₀ out spot first i =
-    Walk chain spot₀ spot (sum (joined (runAt sizes times) i)) (listedNumber (record { sizes = sizes; times = times }) chain) out₀ out × (first ≡ length (dropEmpty (joined (runAt sizes times) i))) × (i ≤ 8)
+Inv-loop out₀ total sizes times chain spot₀ first₀ i₀ out spot first i =
+    Walk chain spot₀ spot (sum (joined (runAt sizes times) i)) (λ j. shownAs total (listedNumber (record { sizes = sizes; times = times }) chain j)) out₀ out × (first ≡ length (dropEmpty (joined (runAt sizes times) i))) × (i ≤ 8)
 
 abbrev μ-loop : tie.MeasureT-loop
-μ-loop out₀ sizes times chain spot₀ first₀ i₀ out spot first i = 8 - i
+μ-loop out₀ total sizes times chain spot₀ first₀ i₀ out spot first i = 8 - i
 
 first-spot-requires : tie.Need-first-spot-requires Inv-loop μ-loop
-first-spot-requires c κs = c .before .before .before .before .before .pre .0 .unbroken
+first-spot-requires c κs = c .before .before .before .before .pre .0 .unbroken
 
 loop-holds : tie.Need-loop-holds Inv-loop μ-loop
 loop-holds c =
-    let start = c .before .before .before .before .before .before in
+    let start = c .before .before .before .before .before in
     let runs = start .args .plan .runs in
-    (chain-start (start .args .plan .chain) (start .pre .0 .unbroken) runs (λ j. j) (c .first-spot .result) _ (c .first-spot .ensures .0), count-none (runAt (runs .sizes) (runs .times)), omega arith)
+    (chain-start (start .args .plan .chain) (start .pre .0 .unbroken) runs (shownAs (start .args .total)) (c .first-spot .result) _ (c .first-spot .ensures .0), count-none (runAt (runs .sizes) (runs .times)), omega arith)
 
 mul-size : tie.Need-mul-size Inv-loop μ-loop
 mul-size c = omega arith
@@ -46,12 +46,12 @@ array-read-count c = omega arith
 
 put-run-requires : tie.Need-put-run-requires Inv-loop μ-loop
 put-run-requires c κs =
-    let start = c .before .before .before .before .before .before .before .before .before in
+    let start = c .before .before .before .before .before .before .before .before in
     let loop = c .before .before .loop in
     let plan = start .args .plan in
     let more = c .before .loop-test .taken in (
-      chain-ahead (plan .chain) (start .pre .0 .unbroken) (plan .runs) (λ j. j) (loop .i) more (c .before .before .before .first-spot .result) (loop .spot) (c .before .before .before .first-spot .ensures .1) (loop .inv .0) (start .pre .0 .runs-fill) (start .pre .2),
-      chain-fits (plan .chain) (start .pre .0 .unbroken) (plan .runs) (λ j. j) (loop .i) more (loop .first) 65535 (loop .inv .1) (listed-fits plan (start .pre .0) (start .pre .1)),
+      chain-ahead (plan .chain) (start .pre .0 .unbroken) (plan .runs) (shownAs (start .args .total)) (loop .i) more (c .before .before .before .first-spot .result) (loop .spot) (c .before .before .before .first-spot .ensures .1) (loop .inv .0) (start .pre .0 .runs-fill) (start .pre .3),
+      chain-fits (plan .chain) (start .pre .0 .unbroken) (plan .runs) (shownAs (start .args .total)) (loop .i) more (loop .first) (limit (start .args .total)) (loop .inv .1) (listed-within plan (start .pre .0) _ (start .pre .2) (start .pre .1)),
     )
 
 layers-in-requires : tie.Need-layers-in-requires Inv-loop μ-loop
@@ -59,7 +59,7 @@ layers-in-requires c κs = search needs
 
 add-first : tie.Need-add-first Inv-loop μ-loop
 add-first c =
-    let start = c .before .before .before .before .before .before .before .before .before .before .before .before .before in
+    let start = c .before .before .before .before .before .before .before .before .before .before .before .before in
     let loop = c .before .before .before .before .before .before .loop in
     let plan = start .args .plan in
     omega (arith, count-within (plan .runs) (loop .i) (c .before .before .before .before .before .loop-test .taken) (loop .first) (c .layers-in .result) (loop .inv .1) (c .layers-in .ensures), start .pre .0 .runs-fill)
@@ -72,11 +72,11 @@ loop-less c = omega arith
 
 loop-again : tie.Need-loop-again Inv-loop μ-loop
 loop-again c =
-    let start = c .before .before .before .before .before .before .before .before .before .before .before .before .before in
+    let start = c .before .before .before .before .before .before .before .before .before .before .before .before in
     let loop = c .before .before .before .before .before .before .loop in
     let plan = start .args .plan in
     let more = c .before .before .before .before .before .loop-test .taken in (
-      chain-more (plan .chain) (start .pre .0 .unbroken) (plan .runs) (λ j. j) (loop .i) more (c .before .before .before .before .before .before .before .first-spot .result) (loop .spot) (c .before .before .before .before .before .before .before .first-spot .ensures .1) (loop .inv .0) _ (loop .first) (loop .inv .1) (c .before .before .before .put-run .ensures),
+      chain-more (plan .chain) (start .pre .0 .unbroken) (plan .runs) (shownAs (start .args .total)) (loop .i) more (c .before .before .before .before .before .before .before .first-spot .result) (loop .spot) (c .before .before .before .before .before .before .before .first-spot .ensures .1) (loop .inv .0) _ (loop .first) (loop .inv .1) (c .before .before .before .put-run .ensures),
       count-more (runAt (plan .runs .sizes) (plan .runs .times)) (loop .i) (loop .inv .1) (c .layers-in .ensures),
       omega (arith, more),
     )
@@ -86,10 +86,10 @@ same-length c = c .before .loop .inv .0 .spread .kept
 
 returns : tie.Need-returns Inv-loop μ-loop
 returns c =
-    let start = c .before .before .before .before .before .before .before .before in
+    let start = c .before .before .before .before .before .before .before in
     let loop = c .before .loop in
     let plan = start .args .plan in
-    chain-done (plan .chain) (start .pre .0 .unbroken) (plan .runs) (λ j. j) (c .before .before .first-spot .result) (loop .spot) (loop .i) (c .before .before .first-spot .ensures .1) (loop .inv .2) (c .loop-test .left) (start .pre .0 .runs-fill) (loop .inv .0)
+    chain-done (plan .chain) (start .pre .0 .unbroken) (plan .runs) (shownAs (start .args .total)) (c .before .before .first-spot .result) (loop .spot) (loop .i) (c .before .before .first-spot .ensures .1) (loop .inv .2) (c .loop-test .left) (start .pre .0 .runs-fill) (loop .inv .0)
 
 pub put-chain-spec : {M : Type 1} → statement M
 put-chain-spec =

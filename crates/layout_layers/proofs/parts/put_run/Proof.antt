@@ -3,17 +3,19 @@ use Prim.Native.Nat.{ℕ, _+_, _*_, _-_, _≤_}
 use mathlib.Core.Path.{ap}
 use native.Mathlib.Nat.{le-antisymm}
 use native.Mathlib.Omega.{arith}
-use Rattle.layout_layers.specs.Parts.{Walk, runNumber}
+use Rattle.layout_layers.specs.Parts.{Walk, runNumber, shownAs, limit}
+use Rattle.layout_layers.proofs.LampCodeLaws.{limit-fits}
 use Rattle.layout_layers.proofs.ChainLaws.{run-empty, run-start, run-more, run-room, run-fits, layer-fits, walk-count, ahead-part}
+use borrow.Author.Needs.{needs}
 use Rattle.layout_layers.proofs.parts.put_run.Statement.{statement}
 use Rattle.layout_layers.proofs.parts.put_run.Tie as tie
 
 abbrev Inv-loop : tie.InvT-loop
-Inv-loop out₀ chain size times first spot₀ k₀ out spot k =
-    Walk chain spot₀ spot (k * size) (runNumber chain (spot₀ .place) size first) out₀ out × (k ≤ times)
+Inv-loop out₀ chain size times first total spot₀ k₀ out spot k =
+    Walk chain spot₀ spot (k * size) (λ i. shownAs total (runNumber chain (spot₀ .place) size first i)) out₀ out × (k ≤ times)
 
 abbrev μ-loop : tie.MeasureT-loop
-μ-loop out₀ chain size times first spot₀ k₀ out spot k = times - k
+μ-loop out₀ chain size times first total spot₀ k₀ out spot k = times - k
 
 returns : tie.Need-returns Inv-loop μ-loop
 returns c =
@@ -30,7 +32,7 @@ add-put-layer c =
     let start = c .before .before .before .before .before in
     let loop = c .before .before .loop in
     let n = start .args .chain .«num_cycles» in
-    omega (arith, layer-fits (start .args .first + loop .k) n 65535 (start .pre .0 .unbroken .some-cycles) (run-fits (start .args .first) (start .args .times) (start .args .size) (loop .k) n 65535 (c .before .before .before .if1 .left) (c .before .loop-test .taken) (start .pre .1)))
+    omega (arith, layer-fits (start .args .first + loop .k) n (limit (start .args .total)) (start .pre .0 .unbroken .some-cycles) (run-fits (start .args .first) (start .args .times) (start .args .size) (loop .k) n (limit (start .args .total)) (c .before .before .before .if1 .left) (c .before .loop-test .taken) (start .pre .1)), limit-fits (start .args .total) (search needs))
 
 put-layer-requires : tie.Need-put-layer-requires Inv-loop μ-loop
 put-layer-requires c κs =
@@ -38,7 +40,7 @@ put-layer-requires c κs =
     let loop = c .before .before .loop in
     let n = start .args .chain .«num_cycles» in (
       ahead-part (start .args .chain) (start .pre .0 .unbroken) (start .args .from) (loop .spot) _ _ (start .args .size) _ (start .pre .0) (loop .inv .0) (run-room (start .args .chain) (start .pre .0 .unbroken) (loop .k) (start .args .times) (start .args .size) (c .before .loop-test .taken)),
-      run-fits (start .args .first) (start .args .times) (start .args .size) (loop .k) n 65535 (c .before .before .before .if1 .left) (c .before .loop-test .taken) (start .pre .1),
+      run-fits (start .args .first) (start .args .times) (start .args .size) (loop .k) n (limit (start .args .total)) (c .before .before .before .if1 .left) (c .before .loop-test .taken) (start .pre .1),
     )
 
 add-k : tie.Need-add-k Inv-loop μ-loop
@@ -51,7 +53,7 @@ loop-again : tie.Need-loop-again Inv-loop μ-loop
 loop-again c =
     let start = c .before .before .before .before .before .before .before .before in
     let loop = c .before .before .before .before .before .loop in (
-      run-more (start .args .chain) (start .pre .0 .unbroken) (λ j. j) (start .args .from) (loop .spot) _ (start .args .size) (start .args .first) (loop .k) (loop .inv .0) (c .before .before .put-layer .ensures),
+      run-more (start .args .chain) (start .pre .0 .unbroken) (shownAs (start .args .total)) (start .args .from) (loop .spot) _ (start .args .size) (start .args .first) (loop .k) (loop .inv .0) (c .before .before .put-layer .ensures),
       omega (arith, c .before .before .before .before .loop-test .taken),
     )
 

@@ -1,58 +1,51 @@
--- After c turns the first c keys of the scale degree have their numbers; one cycle takes one store.
+-- After c turns the first c keys of the scale degree have their entries.
 use Prim.Native.Nat.{_+_, _*_, _-_, _%_, _≤_}
 use native.Mathlib.Omega.{arith}
 use borrow.Author.Needs.{needs}
-use Rattle.layout_layers.specs.Parts.{Spread}
-use Rattle.layout_layers.proofs.SpreadLaws.{InBlock, block-none, block-more, block-whole, block-single, single-room, single-number, block-number}
+use mathlib.Core.Path.{_≡_, ap, _∙_}
+use Rattle.layout_layers.specs.Parts.{Spread, shownAs}
+use Rattle.layout_layers.proofs.LampCodeLaws.{limit-fits}
+use Rattle.layout_layers.proofs.SpreadLaws.{InBlock, block-none, block-more, block-whole, block-number}
 use Rattle.layout_layers.proofs.parts.put_turn.Statement.{statement}
 use Rattle.layout_layers.proofs.parts.put_turn.Tie as tie
 
 abbrev Inv-loop : tie.InvT-loop
-Inv-loop out₀ cycles turn layer at base c₀ out c =
-    Spread (InBlock cycles turn c) (λ i. layer * cycles + i % cycles) out₀ out × (c ≤ cycles)
+Inv-loop out₀ cycles turn layer total at number₀ c₀ out number c =
+    Spread (InBlock cycles turn c) (λ i. shownAs total (layer * cycles + i % cycles)) out₀ out × (c ≤ cycles) × (number ≡ layer * cycles + c)
 
 abbrev μ-loop : tie.MeasureT-loop
-μ-loop out₀ cycles turn layer at base c₀ out c = cycles - c
-
-mul-out : tie.Need-mul-out Inv-loop μ-loop
-mul-out c = omega (arith, single-room (c .before .args .cycles) (c .before .args .turn) _ (c .if1 .taken) (c .before .pre .1))
-
-slice-write-out : tie.Need-slice-write-out Inv-loop μ-loop
-slice-write-out c = single-room (c .before .args .cycles) (c .before .args .turn) _ (c .if1 .taken) (c .before .pre .1)
-
-same-length : tie.Need-same-length Inv-loop μ-loop
-same-length c = search needs
-
-returns : tie.Need-returns Inv-loop μ-loop
-returns c =
-    let start = c .before in
-    block-single (start .args .cycles) (start .args .turn) _ (start .args .layer) (start .args .out .now) (c .if1 .taken)
-    (single-room (c .before .args .cycles) (c .before .args .turn) _ (c .if1 .taken) (c .before .pre .1))
-    (single-number (start .args .cycles) (start .args .layer) (start .args .turn) (c .if1 .taken))
+μ-loop out₀ cycles turn layer total at number₀ c₀ out number c = cycles - c
 
 mul-at : tie.Need-mul-at Inv-loop μ-loop
 mul-at c = omega (arith, c .before .pre .1)
 
-mul-base : tie.Need-mul-base Inv-loop μ-loop
-mul-base c = omega (arith, c .before .pre .2)
+mul-number : tie.Need-mul-number Inv-loop μ-loop
+mul-number c = let start = c .before in omega (arith, start .pre .2, limit-fits (start .args .total) (search needs))
 
 loop-holds : tie.Need-loop-holds Inv-loop μ-loop
-loop-holds c = (block-none (c .before .args .cycles) (c .before .args .turn) _ _, omega arith)
+loop-holds c = (block-none (c .before .args .cycles) (c .before .args .turn) _ _, omega arith, omega arith)
 
-add-out : tie.Need-add-out Inv-loop μ-loop
-add-out c = omega (arith, c .before .before .before .pre .2, c .loop-test .taken)
+shown-requires : tie.Need-shown-requires Inv-loop μ-loop
+shown-requires c κs = omega (arith, c .before .loop .inv .2, c .before .before .before .pre .2, c .loop-test .taken)
 
 cast-out : tie.Need-cast-out Inv-loop μ-loop
 cast-out c = search needs
 
-add-out-2 : tie.Need-add-out-2 Inv-loop μ-loop
-add-out-2 c = omega (arith, c .before .before .before .pre .1, c .loop-test .taken)
+add-out : tie.Need-add-out Inv-loop μ-loop
+add-out c = omega (arith, c .before .before .before .before .pre .1, c .before .loop-test .taken)
 
-mul-out-2 : tie.Need-mul-out-2 Inv-loop μ-loop
-mul-out-2 c = omega (arith, c .before .before .before .pre .1, c .loop-test .taken, c .before .loop .inv .0 .kept)
+mul-out : tie.Need-mul-out Inv-loop μ-loop
+mul-out c =
+    omega (arith, c .before .before .before .before .pre .1, c .before .loop-test .taken, c .before .before .loop .inv .0 .kept)
 
-slice-write-out-2 : tie.Need-slice-write-out-2 Inv-loop μ-loop
-slice-write-out-2 c = omega (arith, c .before .before .before .pre .1, c .loop-test .taken, c .before .loop .inv .0 .kept)
+slice-write-out : tie.Need-slice-write-out Inv-loop μ-loop
+slice-write-out c =
+    omega (arith, c .before .before .before .before .pre .1, c .before .loop-test .taken, c .before .before .loop .inv .0 .kept)
+
+add-number : tie.Need-add-number Inv-loop μ-loop
+add-number c =
+    let start = c .before .before .before .before in
+    omega (arith, c .before .before .loop .inv .2, start .pre .2, c .before .loop-test .taken, limit-fits (start .args .total) (search needs))
 
 add-c : tie.Need-add-c Inv-loop μ-loop
 add-c c = omega arith
@@ -62,20 +55,23 @@ loop-less c = omega arith
 
 loop-again : tie.Need-loop-again Inv-loop μ-loop
 loop-again c =
-    let start = c .before .before .before in
-    let loop = c .before .loop in
-    let more = c .loop-test .taken in (
+    let start = c .before .before .before .before in
+    let loop = c .before .before .loop in
+    let more = c .before .loop-test .taken in (
       block-more (start .args .cycles) (start .args .turn) _ (loop .c) _ more (omega (arith, start .pre .1, more, loop .inv .0 .kept))
-          (block-number (start .args .cycles) (start .args .layer * start .args .cycles) (start .args .turn) (loop .c) more)
+          (c .shown .ensures
+          ∙ ap (shownAs (start .args .total))
+          (loop .inv .2 ∙ block-number (start .args .cycles) (start .args .layer * start .args .cycles) (start .args .turn) (loop .c) more))
           (loop .inv .0),
       omega (arith, more),
+      omega (arith, loop .inv .2),
     )
 
-same-length-2 : tie.Need-same-length-2 Inv-loop μ-loop
-same-length-2 c = c .before .loop .inv .0 .kept
+same-length : tie.Need-same-length Inv-loop μ-loop
+same-length c = c .before .loop .inv .0 .kept
 
-returns-2 : tie.Need-returns-2 Inv-loop μ-loop
-returns-2 c =
+returns : tie.Need-returns Inv-loop μ-loop
+returns c =
     let start = c .before .before .before in
     block-whole (start .args .cycles) (start .args .turn) _ (c .before .loop .c) (start .pre .0) (c .loop-test .left) (c .before .loop .inv .0)
 
@@ -85,20 +81,17 @@ put-turn-spec =
     (tie.spec
     Inv-loop
     μ-loop
+    mul-at
+    mul-number
+    loop-holds
+    shown-requires
+    cast-out
+    add-out
     mul-out
     slice-write-out
-    same-length
-    returns
-    mul-at
-    mul-base
-    loop-holds
-    add-out
-    cast-out
-    add-out-2
-    mul-out-2
-    slice-write-out-2
+    add-number
     add-c
     loop-less
     loop-again
-    same-length-2
-    returns-2)
+    same-length
+    returns)

@@ -10,7 +10,6 @@ use Rattle.pergen.specs.Parts.{At}
 use Rattle.pergen.proofs.CarriedWalk.{at-next}
 use Rattle.layout_speller.proofs.Spelled.{on-walk}
 use Rattle.layout_table.specs.Parts.{numbersOf}
-use Rattle.layout_table.proofs.Calls.{step-for-lamps}
 use Rattle.layout_table.proofs.Lines.{length-numbers}
 use borrow.Author.Needs.{needs}
 use Rattle.layout_table.proofs.parts.numbers_length.Statement.{statement}
@@ -29,11 +28,8 @@ first-requires c κs = c .before .pre .names .walkable
 loop-holds : tie.Need-loop-holds Inv-loop μ-loop
 loop-holds c = (c .first .ensures, sym (ap length (joined-none (numbersOf (c .before .before .args .table)))), omega arith, omega arith)
 
-code-at-requires : tie.Need-code-at-requires Inv-loop μ-loop
-code-at-requires c κs =
-    let start = c .before .before .before .before .before in
-    let at = step-for-lamps (start .args .table) (start .pre) _ _ (c .before .before .loop .inv .0) in
-    (start .pre .layers, start .pre .total-is, at .0, at .1)
+lamp-at-requires : tie.Need-lamp-at-requires Inv-loop μ-loop
+lamp-at-requires c κs = (c .before .before .before .before .before .pre, c .before .before .loop .inv .0)
 
 number-len-requires : tie.Need-number-len-requires Inv-loop μ-loop
 number-len-requires c κs = search needs
@@ -76,7 +72,7 @@ loop-again c =
         x .is-length,
         y .is-length,
         length-joined-more (numbersOf t) (l .loop .key),
-        length-numbers t (l .loop .key) _ (c .before .before .before .code-at .ensures),
+        length-numbers t (l .loop .key) _ (c .before .before .before .lamp-at .ensures),
       ),
       omega (arith, l .loop .inv .2, x .few, y .few),
       omega arith,
@@ -97,7 +93,7 @@ numbers-length-spec =
     μ-loop
     first-requires
     loop-holds
-    code-at-requires
+    lamp-at-requires
     number-len-requires
     number-len-requires-2
     add-total

@@ -11,7 +11,6 @@ use Rattle.layout_speller.proofs.Spelled.{on-walk, name-planned}
 use Rattle.pergen.specs.Parts.{At}
 use Rattle.pergen.proofs.CarriedWalk.{at-next}
 use Rattle.layout_table.specs.Parts.{lineFrom}
-use Rattle.layout_table.proofs.Calls.{step-for-lamps}
 use Rattle.layout_table.proofs.Lines.{line-is}
 use borrow.Author.Needs.{needs}
 use Rattle.layout_table.proofs.parts.put_lines.Statement.{statement}
@@ -40,12 +39,8 @@ plan-at-requires c κs =
     let names = c .before .before .before .before .before .pre .0 .names in
     (names, on-walk _ names _ _ (c .before .loop .inv .0))
 
-code-at-requires : tie.Need-code-at-requires Inv-loop μ-loop
-code-at-requires c κs =
-    let start = c .before .before .before .before .before .before in
-    let t = start .args .table in
-    let at = step-for-lamps t (start .pre .0) _ _ (c .before .before .loop .inv .0) in
-    (start .pre .0 .layers, start .pre .0 .total-is, at .0, at .1)
+lamp-at-requires : tie.Need-lamp-at-requires Inv-loop μ-loop
+lamp-at-requires c κs = (c .before .before .before .before .before .before .pre .0, c .before .before .loop .inv .0)
 
 put-line-requires : tie.Need-put-line-requires Inv-loop μ-loop
 put-line-requires c κs =
@@ -54,7 +49,7 @@ put-line-requires c κs =
     let t = start .args .table in
     let from = start .args .from in
     let name = name-planned _ (start .pre .0 .names) _ _ (l .loop .inv .0) _ (c .before .before .plan-at .ensures) in
-    let e = ap length (line-is t (from + l .loop .past) _ _ name (c .before .code-at .ensures)) in
+    let e = ap length (line-is t (from + l .loop .past) _ _ name (c .before .lamp-at .ensures)) in
     let r = joined-room (lineFrom t from) (l .loop .past) (start .args .count) (c .before .before .before .loop-test .taken) (l .loop .inv .1) (start .pre .2) in
     (c .before .before .plan-at .ensures .short, omega arith)
 
@@ -78,7 +73,7 @@ loop-again c =
     let t = start .args .table in
     let from = start .args .from in
     let name = name-planned _ (start .pre .0 .names) _ _ (l .loop .inv .0) _ (c .before .before .before .before .before .before .plan-at .ensures) in
-    let w = wrote-as (line-is t (from + l .loop .past) _ _ name (c .before .before .before .before .before .code-at .ensures)) (p .put-line .ensures) in (
+    let w = wrote-as (line-is t (from + l .loop .past) _ _ name (c .before .before .before .before .before .lamp-at .ensures)) (p .put-line .ensures) in (
       subst (λ (k : ℕ). At (t .speller .solved) k (c .next .result)) (add-assoc from (l .loop .past) 1) (rw (c .next .ensures) (at-next _ (start .pre .0 .names .walkable) _ _ (l .loop .inv .0))),
       joined-step _ _ (l .loop .inv .1) w,
       omega arith,
@@ -101,7 +96,7 @@ put-lines-spec =
     loop-holds
     add-key
     plan-at-requires
-    code-at-requires
+    lamp-at-requires
     put-line-requires
     next-requires
     add-past

@@ -1,9 +1,9 @@
 -- Natural; below the half, at the half, above it.
 use native.Mathlib.Omega.{arith}
-use Rattle.layout_lamps.proofs.StripLaws.{code-first, code-low, code-half, code-high}
+use Rattle.layout_layers.proofs.LampCodeLaws.{code-first, code-low, code-half, code-high}
 use borrow.Author.Needs.{needs}
-use Rattle.layout_lamps.proofs.parts.code.Statement.{statement}
-use Rattle.layout_lamps.proofs.parts.code.Tie as tie
+use Rattle.layout_layers.proofs.parts.code.Statement.{statement}
+use Rattle.layout_layers.proofs.parts.code.Tie as tie
 
 returns : tie.Need-returns
 returns c = let start = c .before in code-first (start .args .total) (start .args .number) (start .pre) (c .if1 .taken)
