@@ -3,13 +3,12 @@
 use Prim.Native.Nat.{ℕ, zero, suc, _+_, _*_, _-_, _/_, _%_, _≤_, _<_}
 use mathlib.Core.Path.{_≡_, refl, sym, ap, ap₂, subst, _∙_}
 use mathlib.Core.Bool.{Bool, true, false, _&&_, and-false}
-use mathlib.Core.Logic.{_⊎_, inl, inr}
 use mathlib.Core.List.{List, [], _∷_, _++_}
-use native.Mathlib.Nat.{mod-lt, mod-eq-of-lt, mod-eq-sub-mod, mod-self, zero-mod, div-eq-of-lt, div-one, mul-pos, mul-one}
+use native.Mathlib.Nat.{mod-lt, mod-eq-of-lt, mod-eq-sub-mod, mod-self, zero-mod, div-eq-of-lt, mul-pos}
 use native.Mathlib.Decide.{decLt}
 use native.Mathlib.Omega.{arith}
-use lib.ListN.{length, getD, set, drop, length-set, length-append, length-drop, List·getD-append}
-use lib.Seq.{set-append-left, set-out, getD-set-same, getD-set-other, ext-getD, drop-append-seam}
+use lib.ListN.{length, getD, set, drop, length-set, length-append, length-drop}
+use lib.Seq.{set-append-left, set-out, getD-set-same, getD-set-other, ext-getD}
 use lib.Dec.{eqb, ltb, leb}
 use borrow.Author.Tests.{eq-eqb, ne-eqb, eqb-true, eqb-false, lt-ltb, ltb-true, ltb-false, leb-true, leb-false}
 use Rattle.answer.specs.Choice.{pick}
@@ -23,11 +22,11 @@ use Rattle.layout_layers.specs.declared.Layer.{Layer}
 use Rattle.layout_layers.specs.declared.Layer.the-variants.{Natural, Sharp, Enharmonic, Flat}
 use Rattle.layout_layers.specs.declared.parts.Plan.{Plan}
 use Rattle.layout_layers.specs.KeyLayers.{equalized, layerCount, kindOf, numberIn, countIn}
-use Rattle.layout_layers.specs.Parts.{keysOf, Spread, InTurns, totalOf, Sound, PlanOf, planNumber, turnsOf, listed, Fronted, planLayers, limit, planEntries}
-use Rattle.layout_layers.proofs.SpreadLaws.{length-listed, listed-at, spread-none, spread-one, spread-then, spread-of, spread-as, spread-front}
+use Rattle.layout_layers.specs.Parts.{keysOf, totalOf, Sound, PlanOf, planNumber, turnsOf, listed, Fronted, planLayers, limit, planEntries}
+use Rattle.layout_layers.proofs.SpreadLaws.{length-listed, listed-at}
 use Rattle.layout_layers.proofs.ChainLaws.{some-places}
 use Rattle.layout_layers.proofs.LampCodeLaws.{limit-coded, codes-written}
-use Rattle.layout_layers.proofs.PlanLaws.{number-is, keys-are, turns-fill, kind-natural, kind-sharp, kind-enharmonic, kind-flat, turn-below}
+use Rattle.layout_layers.proofs.PlanLaws.{number-is, keys-are, turns-fill, kind-sharp, turn-below}
 use Rattle.layout_layers.proofs.Theorems.{counts-fit, each-number-is-met, first-keys}
 use Rattle.layout_layers.specs.LampCodes.{lampCode, codeOf}
 use Rattle.layout_lamps.specs.Lamps.{kindAt, lampOf, codesOf, stripOf, lampable, every, lampIn, stripLengthIn, stripIn, hadLampsIn, kindIn}

@@ -1,5 +1,5 @@
 -- The lamp strip of a layout (document 01, "Lamps and book", as document 02 amends it: W-204, W-206, W-207).
-use Prim.Native.Nat.{ℕ, zero, suc, _+_, _*_, _%_}
+use Prim.Native.Nat.{ℕ, zero, suc, _+_, _%_}
 use mathlib.Core.Bool.{Bool, true, _&&_}
 use mathlib.Core.List.{List, [], _∷_}
 use lib.Dec.{eqb, ltb}

@@ -47,9 +47,6 @@ module _ (T j : ℕ) where
 pub limit-coded : (T : ℕ) → (T ≡ 0 → ⊥) → limit T ≡ T
 limit-coded T n = simp (ne-eqb T 0 n)
 
-pub limit-plain : (T : ℕ) → T ≡ 0 → limit T ≡ 65535
-limit-plain T e = simp (eq-eqb T 0 e)
-
 pub limit-fits : (T : ℕ) → T ≤ 65535 → limit T ≤ 65535
 limit-fits T h = by (eqb T 0)
   where

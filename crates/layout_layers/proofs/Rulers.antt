@@ -10,7 +10,6 @@ use lib.ListN.{length, getD, set, length-set}
 use lib.Seq.{getD-set-same, getD-set-other}
 use Rattle.text.specs.Writing.{joined}
 use Rattle.text.proofs.Joined.{joined-none}
-use Rattle.mos_layers.specs.Layers.{dropEmpty}
 use Rattle.mos_layers.specs.Theorems.{sum}
 use Rattle.mos_layers.specs.declared.Runs.{Runs}
 use Rattle.mos_layers.specs.Parts.{runAt, runSizes}

@@ -93,9 +93,6 @@ module _ (n turn : ℕ) (h : ℕ → ℕ) where
       spread-of (λ i t. whole i ∙ t) (λ i t. sym (whole i) ∙ t) (spread-one h xs turn v room e)
 
 -- what the code stores there
-pub single-room : (n turn len : ℕ) → n ≡ 1 → turn * n + n ≤ len → turn < len
-single-room n turn len one h = omega (arith, ap (λ (k : ℕ). turn * k) one, mul-one turn)
-
 pub single-first : (n base i : ℕ) → n ≡ 1 → base ≡ base + i % n
 single-first n base i one = omega (arith, ap (λ (k : ℕ). i % k) one, mod-one i)
 

@@ -1,5 +1,4 @@
 -- The place is before the second half, or not.
-use native.Mathlib.Omega.{arith}
 use borrow.Author.Needs.{needs}
 use Rattle.layout_layers.proofs.Rulers.{second-half}
 use Rattle.layout_layers.proofs.ruler.halved.Statement.{statement}

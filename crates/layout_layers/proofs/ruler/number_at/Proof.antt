@@ -1,5 +1,5 @@
 -- The layer at the place that the key's degree has, times the cycles, and the key's cycle; equalized scales go by their plan.
-use Prim.Native.Nat.{ℕ, _+_, _*_, _/_, _%_, _<_}
+use Prim.Native.Nat.{ℕ, _+_, _*_, _/_, _<_}
 use mathlib.Core.Path.{sym, ap₂, subst}
 use native.Mathlib.Nat.{mod-lt}
 use native.Mathlib.Omega.{arith}

@@ -1,7 +1,6 @@
 -- Home, or the code of the key's number.
 use Rattle.layout_lamps.proofs.StripLaws.{number-below, plan-home, plan-other}
 use Rattle.layout_table.proofs.Calls.{step-for-lamps}
-use borrow.Author.Needs.{needs}
 use Rattle.layout_table.proofs.parts.lamp_at.Statement.{statement}
 use Rattle.layout_table.proofs.parts.lamp_at.Tie as tie
 
