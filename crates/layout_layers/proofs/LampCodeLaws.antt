@@ -4,8 +4,8 @@ use mathlib.Core.Path.{_≡_, refl, sym, ap, subst, _∙_}
 use mathlib.Core.Bool.{Bool, true, false}
 use mathlib.Core.List.{List, [], _∷_}
 use native.Mathlib.Omega.{arith}
-use lib.Dec.{eqb}
-use borrow.Author.Tests.{eq-eqb, ne-eqb}
+use lib.Dec.{eqb, ltb}
+use borrow.Author.Tests.{eq-eqb, ne-eqb, ltb-true, ltb-false}
 use Rattle.answer.specs.Choice.{pick}
 use Rattle.layout_layers.specs.LampCodes.{lampCode, codeOf}
 use Rattle.text.proofs.Joined.{joined-same}
@@ -20,18 +20,25 @@ module _ (T j : ℕ) (in-range : j < T) where
   code-first e = ap lampCode (kind-natural T j e)
 
   module _ (some : j ≡ 0 → ⊥) where
-    pub code-low : j < T - j → 2 * j ≡ codeOf T j
-    unfolding codeOf lampCode
-    code-low h = (let q : 2 * j ≡ 2 + 2 * (j - 1) = omega (arith, some) in q) ∙ ap lampCode (kind-sharp T j some (omega arith))
-
     pub code-half : j ≡ T - j → 65535 ≡ codeOf T j
     unfolding codeOf lampCode
     code-half e = ap lampCode (kind-enharmonic T j some (omega (arith, e)))
 
-    pub code-high : T - j < j → 2 * (T - j) + 1 ≡ codeOf T j
+    code-low : j < T - j → 2 * j ≡ codeOf T j
+    unfolding codeOf lampCode
+    code-low h = (let q : 2 * j ≡ 2 + 2 * (j - 1) = omega (arith, some) in q) ∙ ap lampCode (kind-sharp T j some (omega arith))
+
+    code-high : T - j < j → 2 * (T - j) + 1 ≡ codeOf T j
     unfolding codeOf lampCode
     code-high h =
         (let q : 2 * (T - j) + 1 ≡ 3 + 2 * (T - j - 1) = omega arith in q) ∙ ap lampCode (kind-flat T j some (omega arith) refl)
+
+    pub code-side : (j ≡ T - j → ⊥) → (c : ℕ) → c ≡ pick (ltb j (T - j)) (2 * j) (2 * (T - j) + 1) → c ≡ codeOf T j
+    code-side apart c e = e ∙ by (ltb j (T - j)) refl
+      where
+        by : (t : Bool) → ltb j (T - j) ≡ t → pick t (2 * j) (2 * (T - j) + 1) ≡ codeOf T j
+        by true q = code-low (ltb-true j (T - j) q)
+        by false q = code-high (omega (arith, ltb-false j (T - j) q, apart))
 
 -- ---- numbers, or codes
 

@@ -1,21 +1,26 @@
--- A ruler of runs: how it is marked run by run, and that the run of a place, once found, tells the place's layer.
+-- A ruler of runs: how it is marked run by run, which run has a place, and that this run tells the place's layer.
 use Prim.Native.Nat.{ℕ, _+_, _*_, _-_, _/_, _≤_, _<_}
-use mathlib.Core.Path.{_≡_, sym, ap, _∙_, subst}
-use mathlib.Core.Bool.{false}
+use mathlib.Core.Path.{_≡_, refl, sym, ap, _∙_, subst}
+use mathlib.Core.Bool.{Bool, true, false}
 use mathlib.Core.List.{List}
-use native.Mathlib.Nat.{mul-comm}
+use native.Mathlib.Nat.{mul-comm, le-antisymm}
 use native.Mathlib.Decide.{decLt}
 use native.Mathlib.Omega.{arith}
+use lib.Dec.{leb}
 use lib.ListN.{length, getD, set, length-set}
 use lib.Seq.{getD-set-same, getD-set-other}
+use borrow.Author.Tests.{leb-true, leb-false}
+use Rattle.answer.specs.Choice.{pick}
 use Rattle.text.specs.Writing.{joined}
 use Rattle.text.proofs.Joined.{joined-none}
+use Rattle.mos_layers.specs.Layers.{dropEmpty}
 use Rattle.mos_layers.specs.Theorems.{sum}
 use Rattle.mos_layers.specs.declared.Runs.{Runs}
 use Rattle.mos_layers.specs.Parts.{runAt, runSizes}
+use Rattle.layout_layers.specs.declared.ruler.Mark.{Mark}
 use Rattle.layout_layers.specs.declared.ruler.Ruler.{Ruler}
 use Rattle.layout_layers.specs.declared.parts.Plan.{Plan}
-use Rattle.layout_layers.specs.Parts.{placeOf, runLayer, Sound, turnLayer, Marked, RulerOf, Among}
+use Rattle.layout_layers.specs.Parts.{placeOf, runLayer, Sound, turnLayer, Marked, RulerOf}
 use Rattle.layout_layers.proofs.RunPlaces.{run-span, here-size, here-small, here-found}
 use Rattle.layout_layers.proofs.PlanLaws.{layer-listed, place-listed}
 
@@ -45,70 +50,116 @@ marked-more mark numbers i number h e m =
 
 -- ---- the run of a place
 
--- of twice so many runs, those of the second half
-pub second-half : (begins : List ℕ) (place run half : ℕ) → Among begins place run (2 * half) → getD begins (run + half) 0 ≤ place
-    → Among begins place (run + half) half
-second-half begins place run half among begun =
-    let e : run + half + half ≡ run + 2 * half = omega arith in
-    record {
-      are-runs = omega (arith, among .are-runs);
-      begun = begun;
-      not-past = λ h. subst (λ (k : ℕ). place < getD begins k 0) (sym e) (among .not-past (omega (arith, h)));
-    }
+-- the mark of run `run`
+pub record MarkOf (begins firsts sizes : List ℕ) (run : ℕ) (m : Mark) : Type 0 where
+  pub begin-is : m .begin ≡ getD begins run 0
+  pub first-is : m .first ≡ getD firsts run 0
+  pub size-is : m .size ≡ getD sizes run 0
+
+-- of the first i runs, the last that begins at the place or before, by its mark
+pub record Latest (begins firsts sizes : List ℕ) (place i : ℕ) (m : Mark) : Type 0 where
+  pub run : ℕ
+  pub is-run : run < i
+  pub marks : MarkOf begins firsts sizes run m
+  pub begun : getD begins run 0 ≤ place
+  pub later-ones : (j : ℕ) → run < j → j < i → place < getD begins j 0
+
+module _ (begins firsts sizes : List ℕ) (place : ℕ) where
+  pub latest-more : (i : ℕ) (m next found : Mark) → MarkOf begins firsts sizes i next → found ≡ pick (leb (next .begin) place) next m
+      → Latest begins firsts sizes place i m → Latest begins firsts sizes place (i + 1) found
+  latest-more i m next found marks e latest =
+      subst (λ (x : Mark). Latest begins firsts sizes place (i + 1) x) (sym e) (by (leb (next .begin) place) refl)
+    where
+      past : leb (next .begin) place ≡ false → (j : ℕ) → latest .run < j → j < i + 1 → Dec (j < i) → place < getD begins j 0
+      past q j h l (yes below) = latest .later-ones j h below
+      past q j h l (no above) =
+          let same : j ≡ i = omega (arith, l, above) in
+          subst (λ (k : ℕ). place < getD begins k 0) (sym same) (omega (arith, leb-false (next .begin) place q, marks .begin-is))
+
+      by : (t : Bool) → leb (next .begin) place ≡ t → Latest begins firsts sizes place (i + 1) (pick t next m)
+      by true q =
+          record {
+            run = i;
+            is-run = omega arith;
+            marks = marks;
+            begun = omega (arith, leb-true (next .begin) place q, marks .begin-is);
+            later-ones = λ j h l. absurd (let z : ⊥ = omega (arith, h, l) in z);
+          }
+      by false q =
+          record {
+            run = latest .run;
+            is-run = omega (arith, latest .is-run);
+            marks = latest .marks;
+            begun = latest .begun;
+            later-ones = λ j h l. past q j h l (decLt j i);
+          }
+
+  -- of all eight, once none is left
+  pub latest-all : (i : ℕ) (m : Mark) → 8 ≤ i → i ≤ 8 → Latest begins firsts sizes place i m → Latest begins firsts sizes place 8 m
+  latest-all i m h l latest = subst (λ (k : ℕ). Latest begins firsts sizes place k m) (le-antisymm l h) latest
 
 module _ (r : Ruler) (marked : Marked r) (place : ℕ) (listed : place < sum (runSizes (r .runs))) where
   abbrev runOf : ℕ → List ℕ
   runOf = runAt (r .runs .sizes) (r .runs .times)
 
-  -- it is one of all eight
-  pub among-all : Among (r .begins) place 0 8
-  among-all =
+  -- of one run, which begins at 0
+  pub latest-first : (m : Mark) → MarkOf (r .begins) (r .firsts) (r .runs .sizes) 0 m
+      → Latest (r .begins) (r .firsts) (r .runs .sizes) place 1 m
+  latest-first m marks =
       record {
-        are-runs = omega arith;
+        run = 0;
+        is-run = omega arith;
+        marks = marks;
         begun = omega (arith, marked .begins-are 0 (omega arith), ap sum (joined-none runOf));
-        not-past = λ h. absurd (let z : ⊥ = omega (arith, h) in z);
+        later-ones = λ j h l. absurd (let z : ⊥ = omega (arith, h, l) in z);
       }
 
-  module _ (i : ℕ) (found : Among (r .begins) place i 1) where
-    is-run : i < 8
-    is-run = omega (arith, found .are-runs)
+  module _ (m : Mark) (latest : Latest (r .begins) (r .firsts) (r .runs .sizes) place 8 m) where
+    abbrev run : ℕ
+    run = latest .run
 
     abbrev left : ℕ
-    left = place - getD (r .begins) i 0
+    left = place - m .begin
 
-    abbrev size : ℕ
-    size = getD (r .runs .sizes) i 0
+    pub mark-begun : m .begin ≤ place
+    mark-begun = omega (arith, latest .begun, latest .marks .begin-is)
 
-    abbrev first : ℕ
-    first = getD (r .firsts) i 0
+    passed : place ≡ left + sum (joined runOf run)
+    passed = omega (arith, mark-begun, latest .marks .begin-is, marked .begins-are run (latest .is-run))
 
-    passed : place ≡ left + sum (joined runOf i)
-    passed = omega (arith, found .begun, marked .begins-are i is-run)
+    first-there : m .first ≡ length (dropEmpty (joined runOf run))
+    first-there = latest .marks .first-is ∙ marked .firsts-are run (latest .is-run)
 
-    before-next : Dec (i + 1 < 8) → place < sum (joined runOf (i + 1))
-    before-next (yes h) = omega (arith, found .not-past h, marked .begins-are (i + 1) h)
+    before-next : Dec (run + 1 < 8) → place < sum (joined runOf (run + 1))
+    before-next (yes h) = omega (arith, latest .later-ones (run + 1) (omega arith) h, marked .begins-are (run + 1) h)
     before-next (no h) =
-        let last : i + 1 ≡ 8 = omega (arith, h, is-run) in
+        let last : run + 1 ≡ 8 = omega (arith, h, latest .is-run) in
         omega (arith, listed, ap (λ (k : ℕ). sum (joined runOf k)) last)
 
-    inside : left < size * getD (r .runs .times) i 0
+    inside : left < getD (r .runs .sizes) run 0 * getD (r .runs .times) run 0
     inside =
         omega (
           arith,
-          before-next (decLt (i + 1) 8),
-          run-span (r .runs) i is-run,
+          before-next (decLt (run + 1) 8),
+          run-span (r .runs) run (latest .is-run),
           passed,
-          mul-comm (getD (r .runs .times) i 0) size,
+          mul-comm (getD (r .runs .times) run 0) (getD (r .runs .sizes) run 0),
         )
 
-    pub ruler-size : 0 < size
-    ruler-size = here-size (r .runs) i is-run place left first passed (marked .firsts-are i is-run) inside
+    pub mark-size : 0 < m .size
+    mark-size =
+        omega (arith, latest .marks .size-is, here-size (r .runs) run (latest .is-run) place left (m .first) passed first-there inside)
 
-    pub ruler-small : first + left / size ≤ place
-    ruler-small = here-small (r .runs) i is-run place left first passed (marked .firsts-are i is-run) inside
+    same-size : m .first + left / m .size ≡ m .first + left / getD (r .runs .sizes) run 0
+    same-size = ap (λ (s : ℕ). m .first + left / s) (latest .marks .size-is)
 
-    pub ruler-found : first + left / size ≡ runLayer (r .runs) place
-    ruler-found = here-found (r .runs) i is-run place left first passed (marked .firsts-are i is-run) inside
+    pub mark-small : m .first + left / m .size ≤ place
+    mark-small =
+        subst (λ (n : ℕ). n ≤ place) (sym same-size)
+        (here-small (r .runs) run (latest .is-run) place left (m .first) passed first-there inside)
+
+    pub mark-found : m .first + left / m .size ≡ runLayer (r .runs) place
+    mark-found = same-size ∙ here-found (r .runs) run (latest .is-run) place left (m .first) passed first-there inside
 
 -- ---- the ruler of a plan
 

@@ -178,9 +178,3 @@ pub record Marked (r : Ruler) : Type 0 where
 pub record RulerOf (p : Plan) (r : Ruler) : Type 0 where
   pub runs-are : r .runs ≡ p .runs
   pub marked : Marked r
-
--- A place is in one of `count` runs from `run` on, of eight that begin at these places.
-pub record Among (begins : List ℕ) (place run count : ℕ) : Type 0 where
-  pub are-runs : run + count ≤ 8
-  pub begun : getD begins run 0 ≤ place
-  pub not-past : run + count < 8 → place < getD begins (run + count) 0

@@ -13,6 +13,7 @@ use mos_layers::parts::divided;
 ghost use mathlib.Core.Path.{_≡_};
 ghost use mathlib.Core.Bool.{true, false};
 ghost use Prim.Native.Nat.{_+_, _*_, _/_, _%_, _<_, _≤_};
+ghost use lib.Dec.{ltb};
 ghost use lib.ListN.{length, replicate};
 ghost use Rattle.answer.specs.Choice.{pick};
 ghost use Rattle.answer.specs.Lent.{heldIn, Filled};
@@ -236,8 +237,19 @@ pub fn entries(plan: Plan) -> usize
     (turns_of(plan) as usize) * (chain.num_cycles as usize)
 }
 
-// The lamp code of a layer's number, of as many as `total` says. Sharp layers go up by even codes, flat ones down by odd codes: no kind is
-// made.
+// The code of a number below or above the half of all, which has `left` behind it: sharp layers go up by even codes, flat ones down by odd
+// codes. Which side a key is on is as good as chance, so one comparison chooses between the two.
+fn side_code(number: u16, left: u16) -> u16
+    requires { ⌜ (number + left ≤ 65535) × (number ≡ left → ⊥) ⌝ }
+    ensures { λ r. ⌜ r ≡ pick (ltb number left) (2 * number) (2 * left + 1) ⌝ }
+{
+    if number < left {
+        return 2 * number;
+    }
+    2 * left + 1
+}
+
+// The lamp code of a layer's number, of as many as `total` says. No kind is made.
 pub fn code(total: u16, number: u16) -> u16
     requires { ⌜ number < total ⌝ }
     ensures { λ r. ⌜ r ≡ codeOf total number ⌝ }
@@ -246,13 +258,10 @@ pub fn code(total: u16, number: u16) -> u16
         return 1;
     }
     let left = total - number;
-    if number < left {
-        return 2 * number;
-    }
     if number == left {
         return 65535;
     }
-    2 * left + 1
+    side_code(number, left)
 }
 
 // What is written for a number: the number itself where `total` is 0, and else its code, of as many as `total` says.

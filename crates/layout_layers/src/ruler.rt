@@ -1,16 +1,19 @@
 // The runs of a plan's layers as a ruler, by which the layers of many keys are found one by one: parts, and no entry points. Callers have
 // asked questions 1 to 4 and 18.
 //
-// `parts::number_at` goes from run to run. Which run a key is in is as good as chance from key to key, so that a table of many keys spends
-// more on ways that were not foreseen than on the numbers; here three comparisons choose the run, and no way through the code goes by them.
+// `parts::number_at` goes from run to run until one has the place. Which run a key is in is as good as chance from key to key, so that a
+// table of many keys spends more on ways that were not foreseen than on the numbers; here all eight marks are looked at, whatever the place,
+// and no way through the code goes by it.
 use crate::parts;
 use crate::parts::Plan;
 use mos_layers::Runs;
 ghost use mathlib.Core.Path.{_≡_};
 ghost use Prim.Native.Nat.{_*_, _/_, _%_, _<_};
+ghost use lib.Dec.{leb};
+ghost use Rattle.answer.specs.Choice.{pick};
 ghost use Rattle.mos_layers.specs.Parts.{runSizes};
 ghost use Rattle.mos_layers.specs.Theorems.{sum};
-ghost use Rattle.layout_layers.specs.Parts.{inverseOf, runLayer, Sound, planNumber, Marked, RulerOf, Among};
+ghost use Rattle.layout_layers.specs.Parts.{inverseOf, runLayer, Sound, planNumber, Marked, RulerOf};
 
 // In the list of layers run i begins at the place begins[i], and with the layer firsts[i].
 pub struct Ruler {
@@ -48,33 +51,48 @@ pub fn ruler_of(plan: Plan) -> Ruler
     }
 }
 
-// A place is in one of twice `half` runs from `run` on: of the two halves, the first run of that which has the place.
-fn halved(begins: [u16; 8], place: u16, run: usize, half: usize) -> usize
-    requires { ⌜ (0 < half) × Among begins place run (2 * half) ⌝ }
-    ensures { λ r. ⌜ Among begins place r half ⌝ }
-{
-    let second = run + half;
-    if begins[second] <= place { second } else { run }
+// A run: the place where it begins, its first layer, and the size of its layers.
+pub(crate) struct Mark {
+    pub begin: u16,
+    pub first: u16,
+    pub size: u16,
 }
 
-// The run that a place of the list is in.
-fn run_at(begins: [u16; 8], place: u16) -> usize
-    requires { ⌜ Among begins place 0 8 ⌝ }
-    ensures { λ r. ⌜ Among begins place r 1 ⌝ }
+// Of two runs the later, if it begins at the place or before.
+fn later(mark: Mark, next: Mark, place: u16) -> Mark
+    ensures { λ r. ⌜ r ≡ pick (leb (next .begin) place) next mark ⌝ }
 {
-    let four = halved(begins, place, 0, 4);
-    let two = halved(begins, place, four, 2);
-    halved(begins, place, two, 1)
+    if next.begin <= place {
+        return next;
+    }
+    mark
 }
 
-// The layer at a place of the list: the place among the layers of its run.
+// The layer at a place of the list: the place among the layers of its run, which is the last that begins at the place or before.
 fn layer_at(ruler: Ruler, place: u16) -> u16
     requires { ⌜ Marked ruler × (place < sum (runSizes (ruler .runs))) ⌝ }
     ensures { λ r. ⌜ r ≡ runLayer (ruler .runs) place ⌝ }
 {
     let runs = ruler.runs;
-    let run = run_at(ruler.begins, place);
-    ruler.firsts[run] + (place - ruler.begins[run]) / runs.sizes[run]
+    let sizes = runs.sizes;
+    let begins = ruler.begins;
+    let firsts = ruler.firsts;
+    let mut mark = Mark {
+        begin: begins[0],
+        first: firsts[0],
+        size: sizes[0],
+    };
+    let mut i: usize = 1;
+    while i < 8 {
+        let next = Mark {
+            begin: begins[i],
+            first: firsts[i],
+            size: sizes[i],
+        };
+        mark = later(mark, next, place);
+        i += 1;
+    }
+    mark.first + (place - mark.begin) / mark.size
 }
 
 // The number of a key of the octave, for a walk from key to key that carries its degree and its cycle.

@@ -25,9 +25,10 @@ use Rattle.layout.proofs.SoundedKeys.{spellings-have-a-key}
 use Rattle.layout_reach.specs.Reach.{distance}
 use Rattle.layout_retuning.specs.Retunings.{firstOf, secondOf, moved, spelt}
 use Rattle.layout_retuning.specs.Answers.{movedIn, getMoved}
-use Rattle.layout_retuning.specs.Parts.{tuningsOf, getTunings, Tuned, stepsBy, movedBy}
+use Rattle.layout_retuning.specs.Parts.{tuningsOf, getTunings, Tuned, keysAt, stepsBy, movedBy}
 use Rattle.layout_retuning.specs.Theorems.{MovesAreDistances}
 use Rattle.layout_retuning.specs.declared.Retuning.{Retuning}
+use Rattle.layout_retuning.specs.declared.parts.Keys.{Keys}
 use Rattle.layout_retuning.specs.declared.parts.Tunings.{Tunings}
 use Rattle.layout_retuning.proofs.BothLayouts.{Shared, shared, octave-shared, moved-by-numbers, of-both, both-accepted, by-numbers}
 use Rattle.layout_retuning.proofs.Bound.{there-and-back}
@@ -40,21 +41,14 @@ unfolding sounds
 key-below P G u s k h e = omega (arith, e, remainder-below (pos G *ℤ u +ℤ pos s) P h)
 
 -- .. and the spelling's, since the sides are its place
-sounded-key : (P G N o : ℕ) (x : Spelling) (t : Sides) (k : ℕ) → SidesOf N o x t
-    → k ≡ sounds P G (pos (t .above) -ℤ pos (t .below)) (x .stars) → k ≡ soundedKey P G N o x
-unfolding soundedKey
-sounded-key P G N o x t k d e = e ∙ ap (λ (z : ℤ). sounds P G z (x .stars)) (sym (d .difference))
-
-pub steps-are : (k : Tunings) (x : Spelling) (t : Sides) (a b r : ℕ) → SidesOf (k .«num_letters») (k .start) x t
-    → a ≡ sounds (k .octave) (k .first) (pos (t .above) -ℤ pos (t .below)) (x .stars)
-    → b ≡ sounds (k .octave) (k .second) (pos (t .above) -ℤ pos (t .below)) (x .stars)
-    → r ≡ distance (k .octave) (pos a) (pos b) → r ≡ stepsBy k x
-unfolding stepsBy
-steps-are k x t a b r d e f q =
+pub steps-are : (k : Tunings) (x : Spelling) (t : Sides) (y : Keys) (r : ℕ) → SidesOf (k .«num_letters») (k .start) x t
+    → y ≡ keysAt k (pos (t .above) -ℤ pos (t .below)) (x .stars) → r ≡ distance (k .octave) (pos (y .first)) (pos (y .second))
+    → r ≡ stepsBy k x
+unfolding stepsBy keysAt soundedKey
+steps-are k x t y r d e q =
     q
-    ∙ ap₂ (λ (u v : ℕ). distance (k .octave) (pos u) (pos v))
-    (sounded-key (k .octave) (k .first) (k .«num_letters») (k .start) x t a d e)
-    (sounded-key (k .octave) (k .second) (k .«num_letters») (k .start) x t b d f)
+    ∙ ap (λ (z : Keys). distance (k .octave) (pos (z .first)) (pos (z .second)))
+    (e ∙ ap (λ (z : ℤ). keysAt k z (x .stars)) (sym (d .difference)))
 
 -- ---- questions 16 and 21
 

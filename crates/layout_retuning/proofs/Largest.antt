@@ -1,5 +1,5 @@
 -- The largest of a list that holds some number: it is there, none passes it, and the loop carries it.
-use Prim.Native.Nat.{ℕ, _+_, _/_, _%_, _≤_, _<_, max}
+use Prim.Native.Nat.{ℕ, _+_, _≤_, _<_, max}
 use mathlib.Core.Path.{_≡_, refl, sym, ap, ap₂, _∙_, subst}
 use mathlib.Core.Bool.{Bool, true, false}
 use mathlib.Core.Logic.{_⊎_, inl, inr}
@@ -15,9 +15,9 @@ use Rattle.text.specs.Writing.{joined}
 use Rattle.text.proofs.Joined.{joined-none, joined-more}
 use Rattle.pergen.specs.declared.Spelling.{Spelling}
 use Rattle.layout.specs.Layouts.{Layout, Accepted}
-use Rattle.layout_retuning.specs.Retunings.{firstOf, secondOf, tableSpelling, moveTable, largest}
+use Rattle.layout_retuning.specs.Retunings.{firstOf, secondOf, moveTable, largest}
 use Rattle.layout_retuning.specs.Answers.{movedIn, getMoved, getMoveTable, getLargestMove}
-use Rattle.layout_retuning.specs.Parts.{getTunings, stepsBy, countOf, tableBy}
+use Rattle.layout_retuning.specs.Parts.{getTunings, countOf, tableBy}
 use Rattle.layout_retuning.specs.Theorems.{IsLargest, LargestIsTheLargest, back, BackIsAsFar}
 use Rattle.layout_retuning.specs.declared.Retuning.{Retuning}
 use Rattle.layout_retuning.specs.declared.parts.Tunings.{Tunings}
@@ -73,12 +73,12 @@ module _ (k : Tunings) where
   unfolding tableBy largest
   largest-start = sym (ap largest (joined-none (λ i. entry k i ∷ [])))
 
-  pub largest-step : (i : ℕ) (x : Spelling) (n most next : ℕ) → x ≡ tableSpelling (i / 17) (i % 17) → n ≡ stepsBy k x
-      → most ≡ largest (tableBy k i) → next ≡ max most n → next ≡ largest (tableBy k (i + 1))
+  pub largest-step : (i n most next : ℕ) → n ≡ entry k i → most ≡ largest (tableBy k i) → next ≡ max most n
+      → next ≡ largest (tableBy k (i + 1))
   unfolding tableBy
-  largest-step i x n most next e q h f =
+  largest-step i n most next e h f =
       f
-      ∙ ap₂ (λ (u v : ℕ). max u v) h (q ∙ ap (stepsBy k) e)
+      ∙ ap₂ (λ (u v : ℕ). max u v) h e
       ∙ sym (ap largest (joined-more (λ j. entry k j ∷ []) i) ∙ largest-more (joined (λ j. entry k j ∷ []) i) (entry k i))
 
   pub largest-end : (i count most : ℕ) → count ≤ i → i ≤ count → count ≡ countOf k → most ≡ largest (tableBy k i)

@@ -4,7 +4,6 @@ use mathlib.Core.Path.{_≡_, refl, sym, ap, ap₂, _∙_, subst}
 use mathlib.Core.Logic.{_⊎_, inl, inr}
 use mathlib.Core.List.{List, [], _∷_, _++_}
 use lib.Arith.{digits-div, digits-mod}
-use lib.IntN.{pos, negsuc, _-ℤ_}
 use lib.ListN.{length, getD, set, List·getD-append}
 use lib.Seq.{getD-append-seam}
 use native.Mathlib.Nat.{one-mul, eq-or-lt-of-le}
@@ -16,12 +15,7 @@ use Rattle.answer.proofs.Lent.{held, not-held, filled-refused}
 use Rattle.text.specs.Writing.{Wrote, joined}
 use Rattle.text.proofs.Writing.{wrote-one, wrote-as, filled-given}
 use Rattle.text.proofs.Joined.{joined-start, joined-step, joined-same, joined-blocks, length-joined-each}
-use Rattle.math.proofs.Integers.{rep-self, rep-pos, rep-minus, rep-agree}
-use Rattle.pergen.specs.declared.Signs.{Signs}
-use Rattle.pergen.specs.declared.Signs.the-variants.{Sharps, Flats}
-use Rattle.pergen.specs.declared.Spelling.{Spelling}
 use Rattle.pergen.proofs.Inverse.{cycles-positive}
-use Rattle.pergen.proofs.SignedNumbers.{sharps-of, flats-of}
 use Rattle.layout.specs.Layouts.{Layout, Accepted}
 use Rattle.layout.specs.Answers.{inRoom}
 use Rattle.layout_retuning.specs.Retunings.{firstOf, secondOf, moved, tableSpelling, letterMoves, moveTable}
@@ -33,26 +27,6 @@ use Rattle.layout_retuning.specs.declared.parts.Tunings.{Tunings}
 use Rattle.layout_retuning.proofs.BothLayouts.{Shared, shared, letters-shared, moved-by-numbers, of-both, both-accepted, by-numbers}
 use Rattle.layout_retuning.proofs.Bound.{there-and-back}
 use Rattle.layout_retuning.proofs.Calls.{move-of-both}
-
--- ---- an entry's spelling
-
-with-signs : (letter : ℕ) {a b : Signs} → a ≡ b
-    → _≡_ {A = Spelling} (record { index = letter; signs = a; stars = 0 }) (record { index = letter; signs = b; stars = 0 })
-with-signs letter e = ap (λ (s : Signs). record { index = letter; signs = s; stars = 0 }) e
-
-pub with-flats : (letter j : ℕ) → j < 8 → record { index = letter; signs = Flats (8 - j); stars = 0 } ≡ tableSpelling letter j
-with-flats letter j h =
-    with-signs letter
-    (ap Flats (let q : 8 - j ≡ 7 - j + 1 = omega arith in q)
-    ∙ flats-of (pos j -ℤ pos 8) (7 - j)
-    (rep-agree (rep-minus (rep-pos j) (rep-pos 8)) (rep-self (negsuc (7 - j)))
-    (let q : j + 0 + suc (7 - j) ≡ 0 + (0 + 8) = omega arith in q)))
-
-pub with-sharps : (letter j : ℕ) → 8 ≤ j → record { index = letter; signs = Sharps (j - 8); stars = 0 } ≡ tableSpelling letter j
-with-sharps letter j h =
-    with-signs letter
-    (sharps-of (pos j -ℤ pos 8) (j - 8)
-    (rep-agree (rep-minus (rep-pos j) (rep-pos 8)) (rep-pos (j - 8)) (let q : j + 0 + 0 ≡ j - 8 + (0 + 8) = omega arith in q)))
 
 -- ---- a list of numbers, one after the other
 
@@ -89,11 +63,10 @@ module _ (k : Tunings) where
   unfolding tableBy
   table-start xs = joined-start (λ i. entry i ∷ []) xs 0
 
-  pub table-step : {xs ys : List ℕ} (i : ℕ) (x : Spelling) (n : ℕ) → x ≡ tableSpelling (i / 17) (i % 17) → n ≡ stepsBy k x
-      → Wrote xs 0 (tableBy k i) ys i → Wrote xs 0 (tableBy k (i + 1)) (set ys i n) (i + 1)
+  pub table-step : {xs ys : List ℕ} (i : ℕ) (n : ℕ) → n ≡ entry i → Wrote xs 0 (tableBy k i) ys i
+      → Wrote xs 0 (tableBy k (i + 1)) (set ys i n) (i + 1)
   unfolding tableBy
-  table-step {ys = ys} i x n e q w =
-      joined-step (λ j. entry j ∷ []) i w (wrote-as (ap (λ (v : ℕ). v ∷ []) (q ∙ ap (stepsBy k) e)) (wrote-one ys i n))
+  table-step {ys = ys} i n e w = joined-step (λ j. entry j ∷ []) i w (wrote-as (ap (λ (v : ℕ). v ∷ []) e) (wrote-one ys i n))
 
   -- question 10, and the table
   pub table-no-room : (count : ℕ) (xs : List ℕ) → count ≡ countOf k → length xs < count

@@ -6,25 +6,30 @@ use answer::NumberAnswer;
 use answer::Refusal;
 use layout::IsomorphicLayout;
 use layout::parts::FoundAnswer;
+use layout_reach::parts::distance;
 use pergen::AccidentalsFormat;
 use pergen::PerGen;
-use pergen::Signs;
 use pergen::Spelling;
+use pergen_sounding::parts::Sides;
 ghost use mathlib.Core.Path.{_≡_};
-ghost use Prim.Native.Nat.{_*_, _/_, _%_, _<_, _≤_, max};
+ghost use Prim.Native.Nat.{_+_, _*_, _%_, _<_, _≤_, max};
+ghost use lib.IntN.{pos, _-ℤ_};
 ghost use lib.ListN.{length};
 ghost use Rattle.answer.specs.Lent.{heldIn, Filled};
 ghost use Rattle.answer.specs.Refusals.{numberOutcome, countOutcome};
 ghost use Rattle.text.specs.Writing.{Wrote};
-ghost use Rattle.layout_retuning.specs.Retunings.{largest, tableSpelling};
+ghost use Rattle.layout_retuning.specs.Retunings.{largest};
 ghost use Rattle.layout_retuning.specs.Parts.{
   layoutAt,
   tuningsOutcome,
   getTunings,
   Tuned,
+  keysAt,
   stepsBy,
   movedBy,
   tableBy,
+  tableKeys,
+  StridesOf,
   countOf,
 };
 
@@ -75,18 +80,18 @@ pub(crate) fn ask(retuning: Retuning) -> TuningsAnswer
     }
 }
 
-// The distance of the keys that a spelling sounds in both tunings: its place on the chain is the same, the generator another.
-fn steps(tunings: Tunings, spelling: Spelling) -> u16
+// The keys that one place of the chain sounds in both tunings.
+pub(crate) struct Keys {
+    pub first: u16,
+    pub second: u16,
+}
+
+// Both keys of a place, with so many stars.
+fn keys_at(tunings: Tunings, place: Sides, stars: u16) -> Keys
     requires { ⌜ 0 < tunings .octave ⌝ }
-    ensures { λ r. ⌜ r ≡ stepsBy tunings spelling ⌝ }
+    ensures { λ r. ⌜ r ≡ keysAt tunings (pos (place .above) -ℤ pos (place .below)) stars ⌝ }
 {
     let octave = tunings.octave;
-    let format = AccidentalsFormat {
-        num_symbols: tunings.num_letters,
-        genchain_origin: tunings.start,
-    };
-    let place = pergen_sounding::parts::sides_of(format, spelling);
-    let stars = spelling.stars;
     let one = PerGen {
         period: octave,
         generator: tunings.first,
@@ -95,11 +100,24 @@ fn steps(tunings: Tunings, spelling: Spelling) -> u16
         period: octave,
         generator: tunings.second,
     };
-    layout_reach::parts::distance(
-        octave,
-        pergen_sounding::parts::sounded(one, place, stars),
-        pergen_sounding::parts::sounded(other, place, stars),
-    )
+    Keys {
+        first: pergen_sounding::parts::sounded(one, place, stars),
+        second: pergen_sounding::parts::sounded(other, place, stars),
+    }
+}
+
+// The distance of the keys that a spelling sounds in both tunings: its place on the chain is the same, the generator another.
+fn steps(tunings: Tunings, spelling: Spelling) -> u16
+    requires { ⌜ 0 < tunings .octave ⌝ }
+    ensures { λ r. ⌜ r ≡ stepsBy tunings spelling ⌝ }
+{
+    let format = AccidentalsFormat {
+        num_symbols: tunings.num_letters,
+        genchain_origin: tunings.start,
+    };
+    let place = pergen_sounding::parts::sides_of(format, spelling);
+    let keys = keys_at(tunings, place, spelling.stars);
+    distance(tunings.octave, keys.first, keys.second)
 }
 
 // The move of a spelling (16, and 21 of both tunings).
@@ -128,34 +146,85 @@ pub(crate) fn entries(tunings: Tunings) -> u16
     tunings.num_letters * 17
 }
 
-// The spelling of an entry: of each letter's seventeen the first eight have flats, the nearest to none last.
-fn spelling_at(entry: u16) -> Spelling
-    ensures { λ r. ⌜ r ≡ tableSpelling (entry / 17) (entry % 17) ⌝ }
+// How far both keys go on from an entry of the table to the next: by one sharp, or from a letter's eight sharps to the next letter's eight
+// flats, one letter on and sixteen signs back. So no entry costs a division.
+pub(crate) struct Strides {
+    pub sharp: Keys,
+    pub letter: Keys,
+}
+
+fn strides_of(tunings: Tunings) -> Strides
+    requires { ⌜ Tuned tunings ⌝ }
+    ensures { λ r. ⌜ StridesOf tunings r ⌝ }
 {
-    let letter = entry / 17;
-    let column = entry % 17;
-    if column < 8 {
-        return Spelling {
-            index: letter,
-            signs: Signs::Flats((8 - column) as u32),
-            stars: 0,
+    let letters = tunings.num_letters as u64;
+    let on = Sides {
+        above: letters,
+        below: 0,
+    };
+    let back = Sides {
+        above: 1,
+        below: letters * 16,
+    };
+    Strides {
+        sharp: keys_at(tunings, on, 0),
+        letter: keys_at(tunings, back, 0),
+    }
+}
+
+// Both keys of the table's first entry, the first letter with eight flats.
+fn first_keys(tunings: Tunings) -> Keys
+    requires { ⌜ Tuned tunings ⌝ }
+    ensures { λ r. ⌜ r ≡ tableKeys tunings 0 ⌝ }
+{
+    let flats = Sides {
+        above: 0,
+        below: (tunings.num_letters as u64) * 8 + (tunings.start as u64),
+    };
+    keys_at(tunings, flats, 0)
+}
+
+// The key that is so far on, round the octave.
+fn raised(octave: u16, key: u16, by: u16) -> u16
+    requires { ⌜ (key < octave) × (by < octave) ⌝ }
+    ensures { λ r. ⌜ r ≡ (key + by) % octave ⌝ }
+{
+    let left = octave - by;
+    if key < left {
+        return key + by;
+    }
+    key - left
+}
+
+// Both keys of the next entry.
+fn next_keys(tunings: Tunings, strides: Strides, entry: u16, keys: Keys) -> Keys
+    requires { ⌜ Tuned tunings × StridesOf tunings strides × (keys ≡ tableKeys tunings entry) ⌝ }
+    ensures { λ r. ⌜ r ≡ tableKeys tunings (entry + 1) ⌝ }
+{
+    let octave = tunings.octave;
+    if entry % 17 == 16 {
+        return Keys {
+            first: raised(octave, keys.first, strides.letter.first),
+            second: raised(octave, keys.second, strides.letter.second),
         };
     }
-    Spelling {
-        index: letter,
-        signs: Signs::Sharps((column - 8) as u32),
-        stars: 0,
+    Keys {
+        first: raised(octave, keys.first, strides.sharp.first),
+        second: raised(octave, keys.second, strides.sharp.second),
     }
 }
 
 // So many entries of the table at the front of a slice that holds them.
 fn put_moves(out: &mut [u16], tunings: Tunings, count: u16)
-    requires { ⌜ (0 < tunings .octave) × (count ≤ length (now out)) ⌝ }
+    requires { ⌜ Tuned tunings × (count ≤ length (now out)) ⌝ }
     ensures { λ r. ⌜ Wrote (now (out .entry)) 0 (tableBy tunings count) (now (out .exit)) count ⌝ }
 {
+    let strides = strides_of(tunings);
+    let mut keys = first_keys(tunings);
     let mut entry: u16 = 0;
     while entry < count {
-        out[entry as usize] = steps(tunings, spelling_at(entry));
+        out[entry as usize] = distance(tunings.octave, keys.first, keys.second);
+        keys = next_keys(tunings, strides, entry, keys);
         entry += 1;
     }
 }
@@ -188,10 +257,13 @@ pub(crate) fn largest_in(tunings: Tunings) -> u16
     ensures { λ r. ⌜ r ≡ largest (tableBy tunings (countOf tunings)) ⌝ }
 {
     let count = entries(tunings);
+    let strides = strides_of(tunings);
+    let mut keys = first_keys(tunings);
     let mut most: u16 = 0;
     let mut entry: u16 = 0;
     while entry < count {
-        most = larger(most, steps(tunings, spelling_at(entry)));
+        most = larger(most, distance(tunings.octave, keys.first, keys.second));
+        keys = next_keys(tunings, strides, entry, keys);
         entry += 1;
     }
     most

@@ -1,17 +1,18 @@
 -- Decimal digits: a number of more than one digit is a tenth of it, then its last digit; so written digits are read back.
 use Prim.Native.Nat.{ℕ, zero, suc, _+_, _-_, _*_, _/_, _%_, _^_, _≤_, _<_}
-use native.Mathlib.Nat.{pow-suc}
+use native.Mathlib.Nat.{pow-suc, mod-eq-of-lt}
 use native.Mathlib.Numerals.{add-one}
 use native.Mathlib.Omega.{arith}
 use mathlib.Core.Bool.{Bool, true, false}
 use mathlib.Core.Logic.{⊎-elim, _⊎_, inl, inr}
-use mathlib.Core.Path.{_≡_, refl, sym, ap, _∙_, subst}
+use mathlib.Core.Path.{_≡_, refl, sym, ap, ap₂, _∙_, subst}
 use mathlib.Core.List.{List, [], _∷_, _++_}
-use lib.ListN.{length, length-append}
+use lib.ListN.{length, length-append, set}
 use lib.Dec.{ltb}
 use borrow.Author.Tests.{lt-ltb, le-ltb, ltb-true, ltb-false, le-leb}
+use Rattle.answer.specs.Choice.{pick}
 use Rattle.text.specs.Writing.{Room, Wrote}
-use Rattle.text.proofs.Writing.{then, wrote-as, room-next}
+use Rattle.text.proofs.Writing.{then, wrote-as, wrote-length, room-next}
 use Rattle.text.specs.Decimal.{isDigit, leading, valueFrom, value, lastDigits, digits, DigitsLength}
 
 -- ---- writing: the two steps, with no bound on the digits in sight
@@ -116,6 +117,68 @@ wrote-one-digit {xs} {ys} {at} {next} {n} h w = wrote-as (sym (digits-one n h)) 
 pub wrote-digits : {xs ys zs : List ℕ} {at mid next n : ℕ} → 10 ≤ n → Wrote xs at (digits (n / 10)) ys mid → Wrote ys mid ((48 + n % 10) ∷ []) zs next
     → Wrote xs at (digits n) zs next
 wrote-digits {xs} {ys} {zs} {at} {mid} {next} {n} h v w = wrote-as (sym (digits-more n h)) (then v w)
+
+-- ---- one digit or two, by the same two stores
+
+set-twice : (l : List ℕ) (i v : ℕ) → set (set l i v) i v ≡ set l i v
+set-twice [] i v = refl
+set-twice (x ∷ l) zero v = refl
+set-twice (x ∷ l) (suc i) v = ap (λ (m : List ℕ). x ∷ m) (set-twice l i v)
+
+pub first-small : (n first : ℕ) → n < 100 → first ≡ pick (ltb n 10) n (n / 10) → first < 10
+first-small n first h f = subst (λ (k : ℕ). k < 10) (sym f) (by (ltb n 10) refl)
+  where
+    by : (t : Bool) → ltb n 10 ≡ t → pick t n (n / 10) < 10
+    by true e = ltb-true n 10 e
+    by false e = omega (arith, h)
+
+pub far-inside : (n far : ℕ) → n < 100 → far ≡ pick (ltb n 10) 0 1 → far + 1 ≤ length (digits n)
+far-inside n far h p = subst (λ (k : ℕ). k + 1 ≤ length (digits n)) (sym p) (by (ltb n 10) refl)
+  where
+    by : (t : Bool) → ltb n 10 ≡ t → pick t 0 1 + 1 ≤ length (digits n)
+    by true e = omega (arith, length-one n (ltb-true n 10 e))
+    by false e = omega (arith, length-two n (ltb-false n 10 e) h)
+
+module _ {xs ys : List ℕ} {at place end : ℕ} (n first far : ℕ) (h : n < 100) (f : first ≡ pick (ltb n 10) n (n / 10))
+    (p : far ≡ pick (ltb n 10) 0 1) (q : place ≡ at + far) (v : Wrote xs at ((48 + first) ∷ []) ys end) where
+  pub room-short : Room xs at (digits n) → Room ys place ((48 + n % 10) ∷ [])
+  room-short r = by (ltb n 10) refl
+    where
+      by : (t : Bool) → ltb n 10 ≡ t → Room ys place ((48 + n % 10) ∷ [])
+      by true e =
+          let one = length-one n (ltb-true n 10 e) in
+          let none : far ≡ 0 = p ∙ ap (λ (b : Bool). pick b 0 1) e in
+          omega (arith, one, none, q, r, wrote-length v)
+      by false e =
+          let two = length-two n (ltb-false n 10 e) h in
+          let some : far ≡ 1 = p ∙ ap (λ (b : Bool). pick b 0 1) e in
+          omega (arith, two, some, q, r, wrote-length v)
+
+  pub wrote-short : {zs : List ℕ} {next : ℕ} → Wrote ys place ((48 + n % 10) ∷ []) zs next → Wrote xs at (digits n) zs next
+  wrote-short {zs} {next} w = by (ltb n 10) refl
+    where
+      by : (t : Bool) → ltb n 10 ≡ t → Wrote xs at (digits n) zs next
+      by true e =
+          let below = ltb-true n 10 e in
+          let same : n % 10 ≡ n = mod-eq-of-lt below in
+          let lead : first ≡ n = f ∙ ap (λ (b : Bool). pick b n (n / 10)) e in
+          let there : place ≡ at = omega (arith, q, p ∙ ap (λ (b : Bool). pick b 0 1) e) in
+          wrote-one-digit below
+          (record {
+            content =
+                w .content
+                ∙ ap₂ (λ (k d : ℕ). set ys k (48 + d)) there same
+                ∙ ap (λ (l : List ℕ). set l at (48 + n)) (v .content ∙ ap (λ (d : ℕ). set xs at (48 + d)) lead)
+                ∙ set-twice xs at (48 + n);
+            end = w .end ∙ ap (λ (k : ℕ). k + 1) there;
+          })
+      by false e =
+          let above = ltb-false n 10 e in
+          let lead : first ≡ n / 10 = f ∙ ap (λ (b : Bool). pick b n (n / 10)) e in
+          let behind : end ≡ place = omega (arith, v .end, q, p ∙ ap (λ (b : Bool). pick b 0 1) e) in
+          wrote-digits above
+          (wrote-one-digit (omega arith) (subst (λ (d : ℕ). Wrote xs at ((48 + d) ∷ []) ys end) lead v))
+          (subst (λ (k : ℕ). Wrote ys k ((48 + n % 10) ∷ []) zs next) (sym behind) w)
 
 -- ---- reading: values
 

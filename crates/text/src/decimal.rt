@@ -4,7 +4,9 @@
 // them.
 use crate::writer::put_byte;
 ghost use mathlib.Core.Path.{_≡_};
-ghost use Prim.Native.Nat.{_+_, _≤_, _<_};
+ghost use Prim.Native.Nat.{_+_, _/_, _≤_, _<_};
+ghost use lib.Dec.{ltb};
+ghost use Rattle.answer.specs.Choice.{pick};
 ghost use mathlib.Core.List.{[], _∷_, _++_};
 ghost use Rattle.text.specs.Writing.{Room, Wrote};
 ghost use Rattle.text.specs.Decimal.{digits, DigitsLength, digitAt, numberAt};
@@ -34,20 +36,41 @@ pub fn number_len(n: u16) -> usize
     5
 }
 
-// The digits of a number, one function for each length: none calls itself, so that a number is written in one piece of code.
-fn put_two(out: &mut [u8], at: usize, n: u16) -> usize
-    requires { ⌜ (10 ≤ n) × (n < 100) × Room (now out) at (digits n) ⌝ }
+// The first digit of a number below 100, and how far behind it the last one stands.
+fn first_digit(n: u16) -> u16
+    ensures { λ r. ⌜ r ≡ pick (ltb n 10) n (n / 10) ⌝ }
+{
+    if n < 10 {
+        return n;
+    }
+    n / 10
+}
+
+fn last_place(n: u16) -> usize
+    ensures { λ r. ⌜ r ≡ pick (ltb n 10) 0 1 ⌝ }
+{
+    if n < 10 {
+        return 0;
+    }
+    1
+}
+
+// The digits of a number, one function for each length: none calls itself, so that a number is written in one piece of code. Whether a lamp
+// code has one digit or two is as good as chance, so both go one way: a single digit is stored twice at its place.
+fn put_short(out: &mut [u8], at: usize, n: u16) -> usize
+    requires { ⌜ (n < 100) × Room (now out) at (digits n) ⌝ }
     ensures { λ r. ⌜ Wrote (now (out .entry)) at (digits n) (now (out .exit)) r ⌝ }
 {
-    let next = put_byte(out, at, 48 + (n / 10) as u8);
-    put_byte(out, next, 48 + (n % 10) as u8)
+    let last = at + last_place(n);
+    put_byte(out, at, 48 + first_digit(n) as u8);
+    put_byte(out, last, 48 + (n % 10) as u8)
 }
 
 fn put_three(out: &mut [u8], at: usize, n: u16) -> usize
     requires { ⌜ (100 ≤ n) × (n < 1000) × Room (now out) at (digits n) ⌝ }
     ensures { λ r. ⌜ Wrote (now (out .entry)) at (digits n) (now (out .exit)) r ⌝ }
 {
-    let next = put_two(out, at, n / 10);
+    let next = put_short(out, at, n / 10);
     put_byte(out, next, 48 + (n % 10) as u8)
 }
 
@@ -72,11 +95,8 @@ pub fn put_number(out: &mut [u8], at: usize, n: u16) -> usize
     requires { ⌜ Room (now out) at (digits n) ⌝ }
     ensures { λ r. ⌜ Wrote (now (out .entry)) at (digits n) (now (out .exit)) r ⌝ }
 {
-    if n < 10 {
-        return put_byte(out, at, 48 + n as u8);
-    }
     if n < 100 {
-        return put_two(out, at, n);
+        return put_short(out, at, n);
     }
     if n < 1000 {
         return put_three(out, at, n);
