@@ -8,7 +8,7 @@
 
 #include "vetchnoon.h"
 
-enum { STACK = 65536, PAINT = 0xA5, ALLOWED = 1280 };
+enum { STACK = 65536, PAINT = 0xA5, ALLOWED = 1152 };
 
 static uint8_t stack[STACK];
 static uint16_t numbers[2 * 65536];

@@ -1,6 +1,6 @@
 // The table of the chains: parts, and no entry points. Callers have asked question 10 before they write.
 //
-// The table is made anew at every read, so read a chain's row once for a call, and hand the row on.
+// A row is copied at every read, so read a chain's row once for a call, and hand the row on.
 ghost use mathlib.Core.Path.{_≡_};
 ghost use lib.Dec.{ltb};
 ghost use lib.ListN.{length};
@@ -55,17 +55,23 @@ pub fn is_chain(code: u16) -> bool
     code < 6
 }
 
-// The row of a chain; one without letters for a code from 6 on.
+// The row of a chain; one without letters for a code from 6 on. Each place is a constant: of a table that is indexed by a number, all
+// rows are first put into memory.
 pub fn row(code: u16) -> ChainRow
     ensures { λ r. ⌜ r ≡ rowOf (chainOf code) ⌝ }
 {
-    if is_chain(code) {
-        return CHAINS[code as usize];
-    }
-    ChainRow {
-        letters: [0, 0, 0, 0, 0, 0, 0, 0, 0],
-        num_letters: 0,
-        start: 0,
+    match code {
+        0 => CHAINS[0],
+        1 => CHAINS[1],
+        2 => CHAINS[2],
+        3 => CHAINS[3],
+        4 => CHAINS[4],
+        5 => CHAINS[5],
+        _ => ChainRow {
+            letters: [0, 0, 0, 0, 0, 0, 0, 0, 0],
+            num_letters: 0,
+            start: 0,
+        },
     }
 }
 
@@ -75,20 +81,14 @@ pub struct ChainNumbers {
     pub start: u16,
 }
 
-// The same, read without the letters: a whole row is copied, which costs more than asking a layout's questions.
+// The same, for a call that needs no letters.
 pub fn numbers(code: u16) -> ChainNumbers
     ensures { λ r. ⌜ (r .«num_letters» ≡ length (chainOf code .letters)) × (r .start ≡ chainOf code .start) ⌝ }
 {
-    if is_chain(code) {
-        let at = code as usize;
-        return ChainNumbers {
-            num_letters: CHAINS[at].num_letters,
-            start: CHAINS[at].start,
-        };
-    }
+    let row = row(code);
     ChainNumbers {
-        num_letters: 0,
-        start: 0,
+        num_letters: row.num_letters,
+        start: row.start,
     }
 }
 

@@ -1,6 +1,7 @@
 pub mod Finding
 pub mod Keys
 pub mod PatternShape
+pub mod Steps
 pub mod Calls
 pub mod Naming
 pub mod FewestSigns

@@ -12,12 +12,12 @@ use answer::NumberAnswer;
 use answer::Refusal;
 use genchain::rows;
 use mos::MosAnswer;
-use notes::plans;
 use parts::FoundAnswer;
 use pergen::AccidentalsAnswer;
 use pergen::PerGen;
 use pergen::PerGenAnswer;
 use pergen::Spelling;
+use pergen::euclid;
 ghost use mathlib.Core.Path.{_≡_};
 ghost use lib.ListN.{length};
 ghost use Rattle.answer.specs.Refusals.{numberOutcome, countOutcome};
@@ -135,13 +135,17 @@ impl IsomorphicLayout {
     {
         match parts::ask(self) {
             FoundAnswer::Refused(q) => AccidentalsAnswer::Refused(q),
-            FoundAnswer::Given(found) => AccidentalsAnswer::Given(parts::accidentals(
-                found.octave,
-                found.generator,
-                found.num_letters,
-                found.start,
-                math::parts::rem_u16(key, found.octave),
-            )),
+            FoundAnswer::Given(found) => {
+                // from the beginning: nothing then waits for the walk to the pattern
+                let solved = euclid::solve(found.octave, found.generator);
+                let index = math::parts::rem_u16(key, found.octave);
+                AccidentalsAnswer::Given(parts::spelled(
+                    solved,
+                    found.num_letters,
+                    found.start,
+                    index,
+                ))
+            }
         }
     }
 
@@ -152,11 +156,10 @@ impl IsomorphicLayout {
         let row = rows::row(self.genchain);
         match parts::ask_with_row(self, row) {
             FoundAnswer::Refused(q) => CountAnswer::Refused(q),
-            FoundAnswer::Given(found) => CountAnswer::Given(plans::plan_length(parts::plan_key(
-                row,
-                found,
-                math::parts::rem_u16(key, found.octave),
-            ))),
+            FoundAnswer::Given(found) => {
+                let index = math::parts::rem_u16(key, found.octave);
+                CountAnswer::Given(parts::name_length(row, found, index))
+            }
         }
     }
 

@@ -16,27 +16,25 @@ use pergen::AccidentalsFormat;
 use pergen::PerGen;
 use pergen::Spelling;
 use pergen::euclid;
+use pergen::euclid::Remainders;
+use pergen::euclid::Solved;
 ghost use mathlib.Core.Path.{_≡_};
 ghost use Prim.Native.Nat.{_<_, _%_};
 ghost use lib.IntN.{pos};
+ghost use lib.Dec.{leb};
 ghost use lib.ListN.{length};
 ghost use Rattle.answer.specs.Lent.{heldIn, Filled};
 ghost use Rattle.answer.specs.Refusals.{numberOutcome, countOutcome};
-ghost use Rattle.genchain.specs.Chains.{chainOf, rowOf};
+ghost use Rattle.genchain.specs.Chains.{chainOf, rowOf, TableRow, lettersIn};
+ghost use Rattle.pergen.specs.Parts.{solvedOf, Walkable};
 ghost use Rattle.pergen.specs.Spelling.{keyAccidentals};
-ghost use Rattle.mos.specs.Patterns.{genesis};
+ghost use Rattle.mos.specs.Patterns.{primary, secondary, genesis};
 ghost use Rattle.mos.specs.Walks.{children, firstWith};
 ghost use Rattle.notes.specs.Parts.{Planned};
-ghost use Rattle.layout.specs.Layouts.{
-  lettersOf,
-  withPattern,
-  layoutOutcome,
-  accidentalsIn,
-  sharpFirst,
-};
+ghost use Rattle.layout.specs.Layouts.{lettersOf, withPattern, layoutOutcome};
 ghost use Rattle.layout.specs.Names.{nameIn};
 ghost use Rattle.layout.specs.Answers.{soundedIn};
-ghost use Rattle.layout.specs.Parts.{layoutOf, foundOutcome, Laid};
+ghost use Rattle.layout.specs.Parts.{layoutOf, foundOutcome, Laid, StepsLeft, spelledBy};
 
 // What questions 1 to 4 and 18 find: all that keys and names are made from.
 pub struct Found {
@@ -95,14 +93,28 @@ fn with_pattern(layout: IsomorphicLayout, num_letters: u16, generator: u16) -> F
     })
 }
 
-// Questions 1 to 4 and 18, of a layout whose chain has so many letters. A number, and no row: it stays in a register.
-fn ask_with_letters(layout: IsomorphicLayout, num_letters: u16) -> FoundAnswer
-    requires { ⌜ «num_letters» ≡ lettersOf (layout .genchain) ⌝ }
-    ensures { λ r. ⌜ foundOutcome r ≡ layoutOutcome layout ⌝ }
+// Questions 1 to 4 and 18, of a layout whose chain has so many letters. Numbers, and no records: they stay in registers.
+fn ask_with_letters(
+    genchain: u16,
+    octave: u16,
+    tritave: u16,
+    start: u16,
+    num_letters: u16,
+) -> FoundAnswer
+    requires { ⌜ «num_letters» ≡ lettersOf genchain ⌝ }
+    ensures { λ r. ⌜ foundOutcome r ≡ layoutOutcome (record { genchain = genchain; octave = octave; tritave = tritave; start = start }) ⌝ }
 {
-    match genchain_generators::generator(layout.genchain, layout.octave, layout.tritave) {
+    match genchain_generators::generator(genchain, octave, tritave) {
         NumberAnswer::Refused(q) => FoundAnswer::Refused(q),
-        NumberAnswer::Given(generator) => with_pattern(layout, num_letters, generator),
+        NumberAnswer::Given(generator) => {
+            let layout = IsomorphicLayout {
+                genchain,
+                octave,
+                tritave,
+                start,
+            };
+            with_pattern(layout, num_letters, generator)
+        }
     }
 }
 
@@ -111,7 +123,13 @@ pub fn ask_with_row(layout: IsomorphicLayout, row: ChainRow) -> FoundAnswer
     requires { ⌜ row ≡ rowOf (chainOf (layout .genchain)) ⌝ }
     ensures { λ r. ⌜ foundOutcome r ≡ layoutOutcome layout ⌝ }
 {
-    ask_with_letters(layout, row.num_letters)
+    ask_with_letters(
+        layout.genchain,
+        layout.octave,
+        layout.tritave,
+        layout.start,
+        row.num_letters,
+    )
 }
 
 // Questions 1 to 4 and 18.
@@ -119,21 +137,61 @@ pub fn ask(layout: IsomorphicLayout) -> FoundAnswer
     ensures { λ r. ⌜ foundOutcome r ≡ layoutOutcome layout ⌝ }
 {
     let chain = rows::numbers(layout.genchain);
-    ask_with_letters(layout, chain.num_letters)
+    ask_with_letters(
+        layout.genchain,
+        layout.octave,
+        layout.tritave,
+        layout.start,
+        chain.num_letters,
+    )
 }
 
-// The two spellings of a key, by a layout's numbers, which go one by one: a record would be copied.
-pub(crate) fn accidentals(
-    octave: u16,
-    generator: u16,
-    num_letters: u16,
-    start: u16,
-    key: u16,
-) -> Accidentals
-    requires { ⌜ (0 < octave) × (start < «num_letters») ⌝ }
-    ensures { λ r. ⌜ r ≡ keyAccidentals octave generator «num_letters» start (pos key) ⌝ }
+// The pergen of a layout, solved. The steps of its pattern are remainders of the extended Euclid, which goes on from them: as many
+// generators forward as there are secondary steps leave the primary step, as many backward as there are primary steps the secondary one.
+// The larger is divided first.
+fn solve_from_steps(octave: u16, generator: u16, pattern: Mos) -> Solved
+    requires { ⌜ (0 < octave) × StepsLeft octave generator pattern ⌝ }
+    ensures { λ r. ⌜ r ≡ solvedOf octave generator ⌝ }
 {
-    let solved = euclid::solve(octave, generator);
+    if pattern.primary_step < pattern.secondary_step {
+        return euclid::solve_from(
+            octave,
+            generator,
+            Remainders {
+                first: pattern.secondary_step,
+                second: pattern.primary_step,
+                first_by: pattern.num_primary_steps,
+                second_by: pattern.num_secondary_steps,
+                negative: true,
+            },
+        );
+    }
+    euclid::solve_from(
+        octave,
+        generator,
+        Remainders {
+            first: pattern.primary_step,
+            second: pattern.secondary_step,
+            first_by: pattern.num_secondary_steps,
+            second_by: pattern.num_primary_steps,
+            negative: false,
+        },
+    )
+}
+
+// Cycles, reduced period and inverse of a layout.
+pub fn solve(found: Found) -> Solved
+    requires { ⌜ Laid (layoutOf found) ⌝ }
+    ensures { λ r. ⌜ r ≡ solvedOf (found .octave) (found .generator) ⌝ }
+{
+    solve_from_steps(found.octave, found.generator, found.pattern)
+}
+
+// The two spellings of a key of the octave, by what was solved.
+pub(crate) fn spelled(solved: Solved, num_letters: u16, start: u16, key: u16) -> Accidentals
+    requires { ⌜ Walkable solved × (start < «num_letters») ⌝ }
+    ensures { λ r. ⌜ r ≡ spelledBy solved «num_letters» start key ⌝ }
+{
     let generation = euclid::generation(solved, key);
     let format = AccidentalsFormat {
         num_symbols: num_letters,
@@ -142,21 +200,45 @@ pub(crate) fn accidentals(
     pergen_spelling::parts::accidentals(solved.reduced_period, format, generation)
 }
 
-// The plan of a key's name, with the letters of the chain's row. The style goes by the steps: sharp first where the primary is at
-// least the secondary.
-pub(crate) fn plan_key(row: ChainRow, found: Found, key: u16) -> NamePlan
-    requires { ⌜ (row ≡ rowOf (chainOf (found .chain))) × Laid (layoutOf found) ⌝ }
-    ensures { λ r. ⌜ Planned (chainOf (found .chain) .letters) (sharpFirst (layoutOf found)) (accidentalsIn (layoutOf found) (pos key)) r ⌝ }
+// The two spellings of a key for its name, by a layout's numbers one by one: its whole record would be copied.
+fn accidentals(
+    octave: u16,
+    generator: u16,
+    pattern: Mos,
+    num_letters: u16,
+    start: u16,
+    key: u16,
+) -> Accidentals
+    requires { ⌜ (0 < octave) × StepsLeft octave generator pattern × (start < «num_letters») ⌝ }
+    ensures { λ r. ⌜ r ≡ keyAccidentals octave generator «num_letters» start (pos key) ⌝ }
 {
-    let pattern = found.pattern;
+    let solved = solve_from_steps(octave, generator, pattern);
+    spelled(solved, num_letters, start, key)
+}
+
+// The plan of a name with these spellings, with the letters of the chain's row. The style goes by the steps: sharp first where the
+// primary is at least the secondary.
+fn plan_spelled(row: ChainRow, pattern: Mos, spelled: Accidentals) -> NamePlan
+    requires { ⌜ TableRow row ⌝ }
+    ensures { λ r. ⌜ Planned (lettersIn row) (leb (secondary pattern) (primary pattern)) spelled r ⌝ }
+{
+    plans::plan_name(row, spelled, pattern.secondary_step <= pattern.primary_step)
+}
+
+// How many bytes a key's name has.
+pub(crate) fn name_length(row: ChainRow, found: Found, key: u16) -> usize
+    requires { ⌜ (row ≡ rowOf (chainOf (found .chain))) × Laid (layoutOf found) ⌝ }
+    ensures { λ r. ⌜ r ≡ length (nameIn (layoutOf found) (pos key)) ⌝ }
+{
     let spelled = accidentals(
         found.octave,
         found.generator,
+        found.pattern,
         found.num_letters,
         found.start,
         key,
     );
-    plans::plan_name(row, spelled, pattern.secondary_step <= pattern.primary_step)
+    plans::plan_length(plan_spelled(row, found.pattern, spelled))
 }
 
 // A key's name at the front of a slice that holds it (10).
@@ -164,7 +246,15 @@ pub(crate) fn write_name(row: ChainRow, found: Found, key: u16, out: &mut [u8]) 
     requires { ⌜ (row ≡ rowOf (chainOf (found .chain))) × Laid (layoutOf found) ⌝ }
     ensures { λ r. ⌜ Filled (heldIn (length (now (out .entry))) (nameIn (layoutOf found) (pos key))) (countOutcome r) (now (out .entry)) (now (out .exit)) ⌝ }
 {
-    let plan = plan_key(row, found, key);
+    let spelled = accidentals(
+        found.octave,
+        found.generator,
+        found.pattern,
+        found.num_letters,
+        found.start,
+        key,
+    );
+    let plan = plan_spelled(row, found.pattern, spelled);
     let bytes = plans::plan_length(plan);
     if out.len() < bytes {
         return CountAnswer::Refused(Refusal::Room);

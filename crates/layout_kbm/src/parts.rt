@@ -6,7 +6,6 @@ use answer::Refusal;
 use kbm_text::writer;
 use layout::parts::Found;
 use layout_layers::parts::Plan;
-use pergen::euclid;
 use pergen::euclid::Solved;
 use pergen::stepping;
 use pergen::stepping::Step;
@@ -34,9 +33,9 @@ pub fn mapping_of(found: Found) -> Mapping
     requires { ⌜ Laid (layoutOf found) ⌝ }
     ensures { λ r. ⌜ MappingOf (layoutOf found) r ⌝ }
 {
-    let solved = euclid::solve(found.octave, found.generator);
+    let solved = layout::parts::solve(found);
     Mapping {
-        plan: layout_layers::parts::plan_of(found),
+        plan: layout_layers::parts::plan_with(found, solved.num_cycles),
         solved,
         keys: found.octave,
     }

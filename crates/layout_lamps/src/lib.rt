@@ -11,7 +11,6 @@ use answer::CountAnswer;
 use answer::NumberAnswer;
 use layout::IsomorphicLayout;
 use layout::parts::FoundAnswer;
-use pergen::euclid;
 ghost use mathlib.Core.Path.{_≡_};
 ghost use lib.ListN.{length};
 ghost use Rattle.answer.specs.Lent.{counted, Filled};
@@ -50,13 +49,13 @@ pub fn lamp(layout: IsomorphicLayout, key: i32) -> NumberAnswer
     match layout::parts::ask(layout) {
         FoundAnswer::Refused(q) => NumberAnswer::Refused(q),
         FoundAnswer::Given(found) => {
-            let plan = layout_layers::parts::plan_of(found);
+            let solved = layout::parts::solve(found);
+            let plan = layout_layers::parts::plan_with(found, solved.num_cycles);
             let entries = layout_layers::parts::entry_count(plan, found.octave);
             let place = math::parts::rem_u32(key, entries);
             if place % (found.octave as u32) == 0 {
                 return NumberAnswer::Given(0);
             }
-            let solved = euclid::solve(found.octave, found.generator);
             let number = layout_layers::parts::number_of(plan, solved.generator_inverse, place);
             NumberAnswer::Given(layout_layers::parts::code(
                 layout_layers::parts::total_of(plan),

@@ -11,6 +11,7 @@ use Rattle.answer.specs.Outcome.{Outcome, given, refused, andThen}
 use Rattle.answer.specs.Lent.{heldIn, counted, written, Filled}
 use Rattle.answer.proofs.Lent.{held, not-held, filled-refused}
 use Rattle.math.specs.Division.{remainder}
+use Rattle.pergen.specs.Pergen.{cycles}
 use Rattle.pergen.specs.declared.euclid.Solved.{Solved}
 use Rattle.pergen.specs.Parts.{solvedOf}
 use Rattle.layout.specs.declared.IsomorphicLayout.{IsomorphicLayout}
@@ -69,6 +70,11 @@ module _ (r : IsomorphicLayout) (l : Layout) (e : given l ≡ layoutOutcome r) (
   pub layers-written : {a : Outcome ℕ} {xs ys : List ℕ} → Filled (heldIn (length xs) (planLayers p)) a xs ys
       → Filled (inRoom (length xs) (getLayers r)) a xs ys
   layers-written {xs = xs} f = filled-as (ap (λ (o : Outcome (List ℕ)). andThen o (heldIn (length xs))) layers-given) f
+
+-- the cycles of what was solved
+pub cycles-given : (P G : ℕ) (s : Solved) → s ≡ solvedOf P G → s .«num_cycles» ≡ cycles P G
+unfolding solvedOf
+cycles-given P G s q = ap (λ (x : Solved). x .«num_cycles») q
 
 -- a text in a lent slice, by question 10
 module _ (text xs : List ℕ) (n : ℕ) (is : n ≡ length text) where

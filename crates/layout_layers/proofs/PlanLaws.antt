@@ -222,16 +222,17 @@ module _ (l : Layout) (ok : Laid l) where
   pub plan-shape : PatternShape l
   plan-shape = pattern-shape l plan-parts
 
+  -- the divisor of the steps is the number of cycles
+  pub divisor-is-cycles : (n : ℕ) → n ≡ gcdOrOne (primary (l .pattern)) (secondary (l .pattern)) → n ≡ cyclesIn l
+  divisor-is-cycles n divisor = code-cycles (l .pattern) n divisor ∙ plan-shape .cycles-are
+
   module _ (fits : P ≤ 65535) where
     pub plan-pattern : isPattern (l .pattern) ≡ true
     plan-pattern = fits-pattern (l .pattern) (omega (arith, plan-shape .size))
 
-    module _ (n : ℕ) (divisor : n ≡ gcdOrOne (primary (l .pattern)) (secondary (l .pattern))) where
+    module _ (n : ℕ) (number-of-cycles : n ≡ cyclesIn l) where
       pub runs-room : (isPattern (l .pattern) ≡ true) × (n ≡ cyclesOf (l .pattern))
-      runs-room = (plan-pattern, code-cycles (l .pattern) n divisor)
-
-      number-of-cycles : n ≡ cyclesIn l
-      number-of-cycles = code-cycles (l .pattern) n divisor ∙ plan-shape .cycles-are
+      runs-room = (plan-pattern, number-of-cycles ∙ sym (plan-shape .cycles-are))
 
       pub some-divisor : 0 < n
       some-divisor = subst (λ (k : ℕ). 0 < k) (sym number-of-cycles) (cycles-positive P G (plan-parts .positive))

@@ -13,7 +13,6 @@ use answer::CountAnswer;
 use answer::NumberAnswer;
 use layout::IsomorphicLayout;
 use layout::parts::FoundAnswer;
-use pergen::euclid;
 ghost use mathlib.Core.Path.{_≡_};
 ghost use lib.ListN.{length};
 ghost use Rattle.answer.specs.Lent.{counted, Filled};
@@ -67,8 +66,8 @@ pub fn get_layer(layout: IsomorphicLayout, key: i32) -> NumberAnswer
     match layout::parts::ask(layout) {
         FoundAnswer::Refused(q) => NumberAnswer::Refused(q),
         FoundAnswer::Given(found) => {
-            let solved = euclid::solve(found.octave, found.generator);
-            let plan = parts::plan_of(found);
+            let solved = layout::parts::solve(found);
+            let plan = parts::plan_with(found, solved.num_cycles);
             let entry = math::parts::rem_u32(key, parts::entry_count(plan, found.octave));
             NumberAnswer::Given(parts::number_of(plan, solved.generator_inverse, entry))
         }

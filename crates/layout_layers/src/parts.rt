@@ -21,6 +21,7 @@ ghost use Rattle.answer.specs.Refusals.{countOutcome};
 ghost use Rattle.mos_layers.specs.Parts.{runSizes};
 ghost use Rattle.mos_layers.specs.Theorems.{sum};
 ghost use Rattle.mos_layers.specs.Layers.{dropEmpty};
+ghost use Rattle.layout.specs.Layouts.{cyclesIn};
 ghost use Rattle.layout.specs.Parts.{layoutOf, Laid};
 ghost use Rattle.layout_layers.specs.KeyLayers.{alternating};
 ghost use Rattle.layout_layers.specs.LampCodes.{codeOf};
@@ -70,13 +71,12 @@ fn offset_of(generator: u16, start: u16, cycles: u16) -> u32
     product / (cycles as u32)
 }
 
-// The plan of an accepted layout. The divisor of its pattern's steps is the number of cycles.
-pub fn plan_of(found: Found) -> Plan
-    requires { ⌜ Laid (layoutOf found) ⌝ }
+// The plan of an accepted layout with so many cycles.
+pub fn plan_with(found: Found, num_cycles: u16) -> Plan
+    requires { ⌜ Laid (layoutOf found) × («num_cycles» ≡ cyclesIn (layoutOf found)) ⌝ }
     ensures { λ r. ⌜ PlanOf (layoutOf found) r ⌝ }
 {
     let pattern = found.pattern;
-    let num_cycles = math::gcd_u16(pattern.primary_step, pattern.secondary_step);
     let runs = mos_layers::parts::runs_over(pattern, num_cycles);
     let reduced_period = divided(found.octave, num_cycles);
     let step = layout::parts::within_octave(found.octave, found.generator);
@@ -95,6 +95,15 @@ pub fn plan_of(found: Found) -> Plan
         secondaries: pattern.num_secondary_steps,
         equalized: pattern.primary_step == pattern.secondary_step,
     }
+}
+
+// The plan of an accepted layout. The divisor of its pattern's steps is the number of cycles.
+pub fn plan_of(found: Found) -> Plan
+    requires { ⌜ Laid (layoutOf found) ⌝ }
+    ensures { λ r. ⌜ PlanOf (layoutOf found) r ⌝ }
+{
+    let num_cycles = math::gcd_u16(found.pattern.primary_step, found.pattern.secondary_step);
+    plan_with(found, num_cycles)
 }
 
 // How many layers a run has; none where they are empty.

@@ -41,8 +41,8 @@ fn common_of(found: Found) -> Common
     requires { ⌜ Laid (layoutOf found) ⌝ }
     ensures { λ r. ⌜ CommonOf found r ⌝ }
 {
-    let solved = euclid::solve(found.octave, found.generator);
-    let plan = layout_layers::parts::plan_of(found);
+    let solved = layout::parts::solve(found);
+    let plan = layout_layers::parts::plan_with(found, solved.num_cycles);
     Common {
         found,
         solved,

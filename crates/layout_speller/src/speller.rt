@@ -6,7 +6,6 @@ use notes::plans::NamePlan;
 use pergen::AccidentalsFormat;
 use pergen::Cycle;
 use pergen::Generation;
-use pergen::euclid;
 use pergen::euclid::Solved;
 use pergen::stepping::Step;
 ghost use mathlib.Core.Path.{_≡_};
@@ -28,7 +27,7 @@ pub fn speller_of(row: ChainRow, found: Found) -> Speller
     requires { ⌜ (row ≡ rowOf (chainOf (found .chain))) × Laid (layoutOf found) ⌝ }
     ensures { λ r. ⌜ SpellerOf (layoutOf found) r ⌝ }
 {
-    let solved = euclid::solve(found.octave, found.generator);
+    let solved = layout::parts::solve(found);
     let pattern = found.pattern;
     Speller {
         row,

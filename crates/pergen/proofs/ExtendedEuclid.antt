@@ -2,14 +2,14 @@
 use Prim.Native.Nat.{ℕ, zero, suc, _+_, _*_, _-_, _/_, _≤_, _<_, _%_}
 use mathlib.Core.Path.{_≡_, refl, sym, ap, ap₂, _∙_, subst}
 use mathlib.Core.Bool.{Bool, true, false, not}
-use native.Mathlib.Nat.{mod-le, mod-self, zero-mod, zero-mul, one-mul, mul-zero, mul-comm, mul-assoc, mul-add, add-mul, div-add-mod', le-mul-of-pos-right, mul-le-mul-right, add-mul-mod-self-right, mod-eq-of-lt, mul-div-cancel}
+use native.Mathlib.Nat.{div-eq-of-lt, mod-le, mod-self, zero-mod, zero-mul, one-mul, mul-zero, mul-comm, mul-assoc, mul-add, add-mul, div-add-mod', le-mul-of-pos-right, mul-le-mul-right, add-mul-mod-self-right, mod-eq-of-lt, mul-div-cancel}
 use native.Mathlib.Omega.{arith}
 use Rattle.answer.specs.Choice.{pick}
 use Rattle.math.specs.Gcd.{gcd}
 use Rattle.math.proofs.Congruence.{add-cong, add-cancel, mul-cong}
 use Rattle.math.proofs.Gcd.{gcd-zero, gcd-step}
 use Rattle.pergen.specs.Pergen.{cycles, reduced}
-use Rattle.pergen.specs.Parts.{BezoutOf, forward, solvedOf}
+use Rattle.pergen.specs.Parts.{Leaves, Going, BezoutOf, forward, solvedOf}
 use Rattle.pergen.specs.declared.euclid.Bezout.{Bezout}
 use Rattle.pergen.specs.declared.euclid.Solved.{Solved}
 use Rattle.pergen.proofs.Inverse.{numbers, cycles-positive, inverse-is}
@@ -50,22 +50,6 @@ module _ (p g q r₀ r₁ r₂ c₀ c₁ : ℕ) (split : q * r₁ + r₂ ≡ r�
 
 -- ---- all turns
 
--- c generators forward leave r on division by p; backward where the flag is set
-abbrev pub Leaves : (p g r c : ℕ) → Bool → Type 0
-Leaves p g r c true = (c * g + r) % p ≡ 0
-Leaves p g r c false = c * g % p ≡ r % p
-
--- r₀ and r₁ have the greatest common divisor of p and g, and are left by c₀ and c₁, one of them counted backward
-pub record Going (p g r₀ r₁ c₀ c₁ : ℕ) (negative : Bool) : Type 0 where
-  pub same : gcd r₀ r₁ ≡ gcd p g
-  pub some₀ : 0 < r₀
-  pub small₀ : r₀ ≤ 65535
-  pub small₁ : r₁ ≤ 65535
-  pub whole : c₁ * r₀ + c₀ * r₁ ≡ p
-  pub ordered : r₁ ≡ 0 → c₀ ≤ c₁
-  pub left₀ : Leaves p g r₀ c₀ negative
-  pub left₁ : Leaves p g r₁ c₁ (not negative)
-
 pub start : (p g : ℕ) → 0 < p → p ≤ 65535 → g ≤ 65535 → Going p g p g 0 1 true
 start p g h hp hg =
     record {
@@ -97,7 +81,7 @@ module _ (p g r₀ r₁ c₀ c₁ : ℕ) (negative : Bool) (s : Going p g r₀ r
     next-is-whole = next-whole p g (r₀ / r₁) r₀ r₁ (r₀ % r₁) c₀ c₁ (div-add-mod' r₀ r₁) (s .whole)
 
     -- the next coefficient is at most the period
-    next-small : c₀ + r₀ / r₁ * c₁ ≤ p
+    pub next-small : c₀ + r₀ / r₁ * c₁ ≤ p
     unfolding next
     next-small = omega (arith, next-is-whole, le-mul-of-pos-right (c₀ + r₀ / r₁ * c₁) some)
 
@@ -105,9 +89,9 @@ module _ (p g r₀ r₁ c₀ c₁ : ℕ) (negative : Bool) (s : Going p g r₀ r
     next-leaves true h₀ h₁ = next-backward p g (r₀ / r₁) r₀ r₁ (r₀ % r₁) c₀ c₁ (div-add-mod' r₀ r₁) h₀ h₁
     next-leaves false h₀ h₁ = next-forward p g (r₀ / r₁) r₀ r₁ (r₀ % r₁) c₀ c₁ (div-add-mod' r₀ r₁) h₀ h₁
 
-    step-divided : Going p g r₁ (r₀ % r₁) c₁ (c₀ + r₀ / r₁ * c₁) (not negative)
+    pub step : Going p g r₁ (r₀ % r₁) c₁ (c₀ + r₀ / r₁ * c₁) (not negative)
     unfolding next
-    step-divided =
+    step =
         record {
           same = sym (gcd-step r₀ r₁ some) ∙ s .same;
           some₀ = some;
@@ -119,15 +103,12 @@ module _ (p g r₀ r₁ c₀ c₁ : ℕ) (negative : Bool) (s : Going p g r₀ r
           left₁ = next-leaves negative (s .left₀) (s .left₁);
         }
 
-    -- by a quotient and a remainder that were found without a division
-    module _ (turns rest : ℕ) (is-turns : turns ≡ r₀ / r₁) (is-rest : rest ≡ r₀ % r₁) where
-      pub turns-small : c₀ + turns * c₁ ≤ p
-      turns-small = subst (λ (q : ℕ). c₀ + q * c₁ ≤ p) (sym is-turns) next-small
-
-      pub step : Going p g r₁ rest c₁ (c₀ + turns * c₁) (not negative)
-      step =
-          subst (λ (r : ℕ). Going p g r₁ r c₁ (c₀ + turns * c₁) (not negative)) (sym is-rest)
-          (subst (λ (q : ℕ). Going p g r₁ (r₀ % r₁) c₁ (c₀ + q * c₁) (not negative)) (sym is-turns) step-divided)
+  -- a turn that divides the smaller by the larger exchanges them
+  pub exchanged : r₀ < r₁ → Going p g r₁ r₀ c₁ c₀ (not negative)
+  exchanged h =
+      let none : c₀ + r₀ / r₁ * c₁ ≡ c₀ = omega (arith, ap (λ (q : ℕ). q * c₁) (div-eq-of-lt h), zero-mul c₁) in
+      subst (λ (r : ℕ). Going p g r₁ r c₁ c₀ (not negative)) (mod-eq-of-lt h)
+      (subst (λ (c : ℕ). Going p g r₁ (r₀ % r₁) c₁ c (not negative)) none (step (omega (arith, h))))
 
   module _ (none : r₁ ≡ 0) where
     last-whole : c₁ * r₀ ≡ p

@@ -1,15 +1,37 @@
 -- What the parts behind the calls promise: the definitions of Pergen, by the numbers that the code carries.
 use Prim.Native.Nat.{ℕ, _+_, _*_, _-_, _/_, _%_, _≤_, _<_}
 use mathlib.Core.Path.{_≡_}
-use mathlib.Core.Bool.{true, false}
+use mathlib.Core.Bool.{Bool, true, false, not}
 use lib.Dec.{ltb}
 use Rattle.answer.specs.Choice.{pick}
 use Rattle.math.specs.Gcd.{gcd}
 use Rattle.pergen.specs.Pergen.{cycles, reduced, inverse, shown}
 use Rattle.pergen.specs.declared.Generation.{Generation}
 use Rattle.pergen.specs.declared.euclid.Bezout.{Bezout}
+use Rattle.pergen.specs.declared.euclid.Remainders.{Remainders}
 use Rattle.pergen.specs.declared.euclid.Solved.{Solved}
 use Rattle.pergen.specs.declared.stepping.Step.{Step}
+
+-- c generators forward leave r on division by P; backward where the flag is set.
+abbrev pub Leaves : (P G r c : ℕ) → Bool → Type 0
+Leaves P G r c true = (c * G + r) % P ≡ 0
+Leaves P G r c false = c * G % P ≡ r % P
+
+-- The extended Euclid on its way: r₀ and r₁ have the greatest common divisor of P and G, and are left by c₀ and c₁ generators, one of them
+-- counted backward.
+pub record Going (P G r₀ r₁ c₀ c₁ : ℕ) (negative : Bool) : Type 0 where
+  pub same : gcd r₀ r₁ ≡ gcd P G
+  pub some₀ : 0 < r₀
+  pub small₀ : r₀ ≤ 65535
+  pub small₁ : r₁ ≤ 65535
+  pub whole : c₁ * r₀ + c₀ * r₁ ≡ P
+  pub ordered : r₁ ≡ 0 → c₀ ≤ c₁
+  pub left₀ : Leaves P G r₀ c₀ negative
+  pub left₁ : Leaves P G r₁ c₁ (not negative)
+
+-- Remainders that it may go on from.
+abbrev pub StandsAt : ℕ → ℕ → Remainders → Type 0
+StandsAt P G r = Going P G (r .first) (r .second) (r .«first_by») (r .«second_by») (r .negative)
 
 -- What the extended Euclid finds: the coefficient times the generator leaves the greatest common divisor, or makes a multiple with it.
 pub record BezoutOf (P G : ℕ) (b : Bezout) : Type 0 where

@@ -2,8 +2,8 @@
 use crate::Cycle;
 use crate::Generation;
 ghost use mathlib.Core.Path.{_≡_};
-ghost use Prim.Native.Nat.{_/_, _%_, _≤_, _<_};
-ghost use Rattle.pergen.specs.Parts.{BezoutOf, forward, solvedOf, generationFrom};
+ghost use Prim.Native.Nat.{_%_, _≤_, _<_};
+ghost use Rattle.pergen.specs.Parts.{StandsAt, BezoutOf, forward, solvedOf, generationFrom};
 
 // The greatest common divisor, the period divided by it, and how many generators leave the divisor on division by the period:
 // so many backward where `negative` is set.
@@ -14,52 +14,33 @@ struct Bezout {
     negative: bool,
 }
 
-// How often one number goes into another, and what is left.
-struct Division {
-    turns: u32,
-    rest: u32,
+// Where the extended Euclid stands: two remainders, and how many generators leave each on division by the period. The first is left
+// backward where `negative` is set, otherwise the second.
+pub struct Remainders {
+    pub first: u16,
+    pub second: u16,
+    pub first_by: u16,
+    pub second_by: u16,
+    pub negative: bool,
 }
 
-// In a Euclid one number often goes into the other just once: then nothing is divided.
-fn divide(number: u32, divisor: u32) -> Division
-    requires { ⌜ 0 < divisor ⌝ }
-    ensures { λ r. ⌜ (r .turns ≡ number / divisor) × (r .rest ≡ number % divisor) ⌝ }
-{
-    if number < divisor {
-        return Division {
-            turns: 0,
-            rest: number,
-        };
-    }
-    let left = number - divisor;
-    if left < divisor {
-        return Division {
-            turns: 1,
-            rest: left,
-        };
-    }
-    Division {
-        turns: number / divisor,
-        rest: number % divisor,
-    }
-}
-
-// The extended Euclid. The coefficients' signs alternate, so their sizes are carried and one flag. c1 r0 + c0 r1 stays the period,
-// and so the last c1 is the period divided by the greatest common divisor.
-fn extended_gcd(period: u16, generator: u16) -> Bezout
-    requires { ⌜ 0 < period ⌝ }
+// The extended Euclid of a period and a generator, on from where it stands. The coefficients' signs alternate, so their sizes are carried
+// and one flag. c1 r0 + c0 r1 stays the period, and so the last c1 is the period divided by the greatest common divisor.
+fn extended_gcd(period: u16, generator: u16, from: Remainders) -> Bezout
+    requires { ⌜ StandsAt period generator from ⌝ }
     ensures { λ r. ⌜ BezoutOf period generator r ⌝ }
 {
-    let mut r0 = period as u32;
-    let mut r1 = generator as u32;
-    let mut c0: u32 = 0;
-    let mut c1: u32 = 1;
-    let mut negative = true;
+    let mut r0 = from.first as u32;
+    let mut r1 = from.second as u32;
+    let mut c0 = from.first_by as u32;
+    let mut c1 = from.second_by as u32;
+    let mut negative = from.negative;
     while r1 != 0 {
-        let next = divide(r0, r1);
-        let c2 = c0 + next.turns * c1;
+        let turns = r0 / r1;
+        let r2 = r0 % r1;
+        let c2 = c0 + turns * c1;
         r0 = r1;
-        r1 = next.rest;
+        r1 = r2;
         c0 = c1;
         c1 = c2;
         negative = !negative;
@@ -99,16 +80,35 @@ pub struct Solved {
     pub generator_inverse: u16,
 }
 
-pub fn solve(period: u16, generator: u16) -> Solved
-    requires { ⌜ 0 < period ⌝ }
+// These numbers, by the Euclid on from where it stands.
+pub fn solve_from(period: u16, generator: u16, from: Remainders) -> Solved
+    requires { ⌜ (0 < period) × StandsAt period generator from ⌝ }
     ensures { λ r. ⌜ r ≡ solvedOf period generator ⌝ }
 {
-    let found = extended_gcd(period, generator);
+    let found = extended_gcd(period, generator, from);
     Solved {
         num_cycles: found.gcd,
         reduced_period: found.cofactor,
         generator_inverse: inverse_from(found),
     }
+}
+
+// These numbers, by the Euclid from the beginning: no generator leaves the period, one leaves itself.
+pub fn solve(period: u16, generator: u16) -> Solved
+    requires { ⌜ 0 < period ⌝ }
+    ensures { λ r. ⌜ r ≡ solvedOf period generator ⌝ }
+{
+    solve_from(
+        period,
+        generator,
+        Remainders {
+            first: period,
+            second: generator,
+            first_by: 0,
+            second_by: 1,
+            negative: true,
+        },
+    )
 }
 
 // Degree and cycle of a key that was brought round the period; the product is at most 65,535 times 65,535.

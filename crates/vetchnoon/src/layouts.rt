@@ -4,7 +4,6 @@ use layout::parts::FoundAnswer;
 use layout_layers::Layer;
 use pergen::Signs;
 use pergen::Spelling;
-use pergen::euclid;
 ghost use mathlib.Core.Path.{_≡_};
 ghost use Rattle.answer.specs.Lent.{counted};
 ghost use Rattle.answer.specs.Outcome.{given};
@@ -36,7 +35,7 @@ pub extern "C" fn vn_layout(
     match layout::parts::ask(layout) {
         FoundAnswer::Refused(question) => vetchnoon_codes::refused(question),
         FoundAnswer::Given(found) => {
-            let solved = euclid::solve(found.octave, found.generator);
+            let solved = layout::parts::solve(found);
             let pattern = found.pattern;
             let numbers: [u16; 8] = [
                 found.generator,

@@ -7,7 +7,7 @@ use Rattle.math.proofs.Division.{remainder-below}
 use Rattle.layout.specs.Parts.{foundOutcome}
 use Rattle.layout.proofs.Calls.{parts-of, laid-of}
 use Rattle.layout_layers.proofs.PlanLaws.{entries-some}
-use Rattle.layout_layers.proofs.Calls.{layer-refused, layer-given, inverse-given}
+use Rattle.layout_layers.proofs.Calls.{layer-refused, layer-given, inverse-given, cycles-given}
 use borrow.Author.Needs.{needs}
 use Rattle.layout_layers.proofs.get_layer.Statement.{statement}
 use Rattle.layout_layers.proofs.get_layer.Tie as tie
@@ -22,11 +22,13 @@ enum-known-found : tie.Need-enum-known-found
 enum-known-found c = search needs
 
 solve-requires : tie.Need-solve-requires
-solve-requires c κs =
-    parts-of _ _ (sym (ap foundOutcome (c .before .found .given .1)) ∙ c .before .before .before .ask .ensures) .positive
+solve-requires c κs = laid-of _ _ (sym (ap foundOutcome (c .before .found .given .1)) ∙ c .before .before .before .ask .ensures)
 
-plan-of-requires : tie.Need-plan-of-requires
-plan-of-requires c κs = laid-of _ _ (sym (ap foundOutcome (c .before .before .found .given .1)) ∙ c .before .before .before .before .ask .ensures)
+plan-with-requires : tie.Need-plan-with-requires
+plan-with-requires c κs = (
+  laid-of _ _ (sym (ap foundOutcome (c .before .before .found .given .1)) ∙ c .before .before .before .before .ask .ensures),
+  cycles-given _ _ _ (c .solve .ensures),
+)
 
 entry-count-requires : tie.Need-entry-count-requires
 entry-count-requires c κs = search needs
@@ -35,13 +37,13 @@ rem-u32-requires : tie.Need-rem-u32-requires
 rem-u32-requires c κs =
     let found = c .before .before .before .before in
     let e = sym (ap foundOutcome (found .found .given .1)) ∙ found .before .before .ask .ensures in
-    entries-some (c .before .plan-of .result) _ _ (parts-of _ _ e .positive) (c .entry-count .ensures .0)
+    entries-some (c .before .plan-with .result) _ _ (parts-of _ _ e .positive) (c .entry-count .ensures .0)
 
 number-of-requires : tie.Need-number-of-requires
 number-of-requires c κs =
     let found = c .before .before .before .before .before in
     let start = found .before .before .before in
-    let plan = c .before .before .plan-of in
+    let plan = c .before .before .plan-with in
     let e = sym (ap foundOutcome (found .found .given .1)) ∙ found .before .before .ask .ensures in
     let counted = c .before .entry-count .ensures in (
       plan .ensures .sound,
@@ -62,7 +64,7 @@ returns-2 c =
     let found = c .before .before .before .before .before .before in
     let start = found .before .before .before in
     let e = sym (ap foundOutcome (found .found .given .1)) ∙ found .before .before .ask .ensures in
-    layer-given _ _ e _ (c .before .before .before .plan-of .ensures) (start .args .key) _ _ _
+    layer-given _ _ e _ (c .before .before .before .plan-with .ensures) (start .args .key) _ _ _
     (remainder-read w32 (start .args .key) (start .fits .key) _ _ (c .before .rem-u32 .ensures))
     (c .before .before .entry-count .ensures .0)
     (c .number-of .ensures)
@@ -75,7 +77,7 @@ get-layer-spec =
     enum-known-q
     enum-known-found
     solve-requires
-    plan-of-requires
+    plan-with-requires
     entry-count-requires
     rem-u32-requires
     number-of-requires

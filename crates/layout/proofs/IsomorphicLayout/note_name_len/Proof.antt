@@ -4,7 +4,7 @@ use mathlib.Core.Path.{sym, ap, _∙_}
 use Rattle.answer.specs.Lent.{counted}
 use Rattle.math.proofs.Answers.{remainder-read}
 use Rattle.layout.specs.Parts.{foundOutcome}
-use Rattle.layout.proofs.Calls.{name-refused, parts-of, laid-of, row-found, name-count, planned-length}
+use Rattle.layout.proofs.Calls.{name-refused, parts-of, laid-of, row-found, name-count}
 use borrow.Author.Needs.{needs}
 use Rattle.layout.proofs.IsomorphicLayout.note_name_len.Statement.{statement}
 use Rattle.layout.proofs.IsomorphicLayout.note_name_len.Tie as tie
@@ -25,24 +25,20 @@ rem-u16-requires : tie.Need-rem-u16-requires
 rem-u16-requires c κs =
     parts-of _ _ (sym (ap foundOutcome (c .before .found .given .1)) ∙ c .before .before .before .ask-with-row .ensures) .positive
 
-plan-key-requires : tie.Need-plan-key-requires
-plan-key-requires c κs =
+name-length-requires : tie.Need-name-length-requires
+name-length-requires c κs =
     let e = sym (ap foundOutcome (c .before .before .found .given .1)) ∙ c .before .before .before .before .ask-with-row .ensures in
     (row-found _ _ e _ (c .before .before .before .before .before .row .ensures), laid-of _ _ e)
-
-plan-length-requires : tie.Need-plan-length-requires
-plan-length-requires c κs = search needs
 
 returns : tie.Need-returns
 returns c = ap counted (name-refused _ _ (sym (ap foundOutcome (c .before .q .given .1)) ∙ c .before .before .before .ask-with-row .ensures) _)
 
 returns-2 : tie.Need-returns-2
 returns-2 c =
-    let asked = c .before .before .before .before .before .before in
+    let asked = c .before .before .before .before .before in
     let key = asked .before .before .args .key in
-    name-count _ _ (sym (ap foundOutcome (c .before .before .before .before .found .given .1)) ∙ asked .ask-with-row .ensures)
-    key _ (remainder-read w32 key (asked .before .before .fits .key) _ _ (c .before .before .rem-u16 .ensures)) _
-    (planned-length _ _ _ (c .before .plan-key .ensures) _ (c .plan-length .ensures))
+    name-count _ _ (sym (ap foundOutcome (c .before .before .before .found .given .1)) ∙ asked .ask-with-row .ensures)
+    key _ (remainder-read w32 key (asked .before .before .fits .key) _ _ (c .before .rem-u16 .ensures)) _ (c .name-length .ensures)
 
 pub note-name-len-spec : {M : Type 1} → statement M
 note-name-len-spec =
@@ -53,7 +49,6 @@ note-name-len-spec =
     enum-known-q
     enum-known-found
     rem-u16-requires
-    plan-key-requires
-    plan-length-requires
+    name-length-requires
     returns
     returns-2)

@@ -3,16 +3,16 @@ use mathlib.Core.Path.{refl, ap, _∙_}
 use mathlib.Core.Bool.{Bool}
 use Prim.Native.Nat.{_*_}
 use Rattle.answer.specs.Choice.{pick}
-use Rattle.layout.proofs.Finding.{laid}
+use Rattle.layout_layers.proofs.Calls.{cycles-given}
 use borrow.Author.Needs.{needs}
 use Rattle.layout_sheet.proofs.parts.common_of.Statement.{statement}
 use Rattle.layout_sheet.proofs.parts.common_of.Tie as tie
 
 solve-requires : tie.Need-solve-requires
-solve-requires c κs = laid _ (c .pre) .positive
+solve-requires c κs = search needs
 
-plan-of-requires : tie.Need-plan-of-requires
-plan-of-requires c κs = search needs
+plan-with-requires : tie.Need-plan-with-requires
+plan-with-requires c κs = (c .before .pre, cycles-given _ _ _ (c .solve .ensures))
 
 total-of-requires : tie.Need-total-of-requires
 total-of-requires c κs = search needs
@@ -23,7 +23,7 @@ entry-count-requires c κs = search needs
 returns : tie.Need-returns
 returns c =
     let start = c .before .before .before .before in
-    let plan = c .before .before .plan-of .ensures in
+    let plan = c .before .before .plan-with .ensures in
     let keys = start .args .found .octave in
     record {
       found-is = refl;
@@ -37,4 +37,4 @@ returns c =
     }
 
 pub common-of-spec : {M : Type 1} → statement M
-common-of-spec = tie.close (tie.spec solve-requires plan-of-requires total-of-requires entry-count-requires returns)
+common-of-spec = tie.close (tie.spec solve-requires plan-with-requires total-of-requires entry-count-requires returns)

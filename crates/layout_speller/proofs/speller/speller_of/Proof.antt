@@ -6,7 +6,7 @@ use Rattle.layout_speller.proofs.speller.speller_of.Statement.{statemen
 use Rattle.layout_speller.proofs.speller.speller_of.Tie as tie
 
 solve-requires : tie.Need-solve-requires
-solve-requires c κs = laid _ (c .pre .1) .positive
+solve-requires c κs = c .pre .1
 
 returns : tie.Need-returns
 returns c = speller-of _ (laid _ (c .before .before .before .pre .1)) _ _ (c .before .before .before .pre .0) (c .before .before .solve .ensures) (omega arith)

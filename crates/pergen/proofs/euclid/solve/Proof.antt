@@ -1,17 +1,14 @@
--- The coefficient, counted forward below the reduced period, is the inverse.
-use Rattle.pergen.proofs.ExtendedEuclid.{solve-is}
+-- The Euclid begins at the period and the generator.
 use borrow.Author.Needs.{needs}
+use Rattle.pergen.proofs.ExtendedEuclid.{start}
 use Rattle.pergen.proofs.euclid.solve.Statement.{statement}
 use Rattle.pergen.proofs.euclid.solve.Tie as tie
 
-extended-gcd-requires : tie.Need-extended-gcd-requires
-extended-gcd-requires c κs = search needs
-
-inverse-from-requires : tie.Need-inverse-from-requires
-inverse-from-requires c κs = c .extended-gcd .ensures .small
+solve-from-requires : tie.Need-solve-from-requires
+solve-from-requires c κs = (search needs, start _ _ (search needs) (search needs) (search needs))
 
 returns : tie.Need-returns
-returns c = solve-is _ _ (c .before .before .pre) _ (c .before .extended-gcd .ensures) _ (c .inverse-from .ensures)
+returns c = search needs
 
 pub solve-spec : {M : Type 1} → statement M
-solve-spec = tie.close (tie.spec extended-gcd-requires inverse-from-requires returns)
+solve-spec = tie.close (tie.spec solve-from-requires returns)

@@ -1,7 +1,7 @@
 -- Questions 1 to 4 and 18, then the numbers that were found and solved.
 use mathlib.Core.Path.{sym, ap, _∙_}
 use Rattle.layout.specs.Parts.{foundOutcome}
-use Rattle.layout.proofs.Calls.{parts-of}
+use Rattle.layout.proofs.Calls.{laid-of}
 use Rattle.vetchnoon_codes.proofs.Coding.{coded, fills-refused, fills-as}
 use Rattle.vetchnoon.proofs.Outputs.{layout-refused, layout-given}
 use borrow.Author.Needs.{needs}
@@ -21,7 +21,7 @@ enum-known-found : tie.Need-enum-known-found
 enum-known-found c = search needs
 
 solve-requires : tie.Need-solve-requires
-solve-requires c κs = parts-of _ _ (sym (ap foundOutcome (c .before .found .given .1)) ∙ c .before .before .before .ask .ensures) .positive
+solve-requires c κs = laid-of _ _ (sym (ap foundOutcome (c .before .found .given .1)) ∙ c .before .before .before .ask .ensures)
 
 slice-aggregate-put : tie.Need-slice-aggregate-put
 slice-aggregate-put c = search needs
