@@ -33,7 +33,7 @@ use Rattle.layout.proofs.PatternShape.{pattern-shape}
 use Rattle.layout.proofs.Naming.{sharp-sound, flat-sound, names-sound-their-key}
 
 pub stars-follow : StarsFollow
-unfolding keyOf
+unfolding keyOf placeIn
 stars-follow r l e key x is sounds =
     let a = accepted r l e in
     let at = sounds-at-the-degree (l .octave) (l .generator) (a .positive) key (placeIn l x) (x .stars) (is .stars) sounds in
