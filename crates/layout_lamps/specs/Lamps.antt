@@ -93,13 +93,13 @@ abbrev pub every : (ℕ → Bool) → ℕ → Bool
 every test zero = true
 every test (suc count) = test count && every test count
 
--- 9, of that strip, so of all its entries: "Is every sharp and flat layer number of the lamp strip below 100?" Where not, there was no strip.
+-- 9, of that strip, so of all its entries: "Is every sharp and flat layer number of the lamp strip below 100?" Where not, there was none.
 unfoldable pub hadLampsIn : Layout → Bool
 unfolding kindAt
 hadLampsIn l = every (λ i. lampable (kindIn l i)) (stripLengthIn l)
 
--- Document 01's own strip, before W-204, W-206 and W-207: "A lamp strip holds P one-byte codes: key 0 is 0, home. Other keys, from the first
--- P layer entries: natural 1, sharp k 2 + k, flat k 102 + k, enharmonic 255."
+-- Document 01's own strip, before W-204, W-206 and W-207: "A lamp strip holds P one-byte codes: key 0 is 0, home. Other keys, from the
+-- first P layer entries: natural 1, sharp k 2 + k, flat k 102 + k, enharmonic 255."
 unfoldable pub firstStripIn : Layout → List ℕ
 unfolding joined byteCode kindAt
 firstStripIn l = joined (λ i. pick (eqb i 0) home (byteCode (kindIn l i)) ∷ []) (l .octave)

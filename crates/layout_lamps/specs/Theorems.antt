@@ -31,8 +31,8 @@ pub record CodesTellKindsApart (l : Layout) : Type 0 where
 abbrev pub NoCodeIsShared : Type 0
 NoCodeIsShared = (r : IsomorphicLayout) (l : Layout) → Accepted r l → l .octave ≤ 65535 → CodesTellKindsApart l
 
--- Theorem: "Stored one-byte strips are converted without loss": a layout's last strip of one-byte codes, where it had one, is widened to the
--- strip of today; and that goes back to the old one, or is refused with 17 where there was none.
+-- Theorem: "Stored one-byte strips are converted without loss": a layout's last strip of one-byte codes, where it had one, is widened to
+-- the strip of today; and that goes back to the old one, or is refused with 17 where there was none.
 pub record StripsConvert (l : Layout) : Type 0 where
   pub there : hadLampsIn l ≡ true → getWidened (byteStripIn l) ≡ given (stripIn l)
   pub back : getNarrowed (stripIn l) ≡ ask 17 (hadLampsIn l) (given (byteStripIn l))
@@ -49,7 +49,7 @@ pub record FirstStripConverts (l : Layout) : Type 0 where
 abbrev pub FirstStripsConvert : Type 0
 FirstStripsConvert = (r : IsomorphicLayout) (l : Layout) → Accepted r l → FirstStripConverts l
 
--- Theorem: a layout had a strip of one-byte codes, by document 01's question and by W-204's longer strip alike, exactly where T is at most 202.
+-- Theorem: a layout had a strip of one-byte codes, document 01's own and the last one alike, exactly where T is at most 202.
 abbrev pub LampsByCount : Type 0
 LampsByCount =
     (r : IsomorphicLayout) (l : Layout) → Accepted r l
