@@ -160,7 +160,7 @@ module _ (r : IsomorphicLayout) (l : Layout) (e : Accepted r l) (letter : ℕ) (
       rep-agree (place-sharps N (l .start) letter 0 s) (rep-minus (rep-pos letter) (rep-pos (l .start))) (omega (arith, mul-zero N))
 
   pub key-bare : (s : ℕ) → keyOf l (bare letter s) ≡ sounds P G at s
-  unfolding keyOf
+  unfolding keyOf placeIn
   key-bare s = ap (λ (z : ℤ). sounds P G z s) (place-bare s)
 
   -- a key that is sounded so has the degree that the letter's place leaves
