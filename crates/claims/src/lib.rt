@@ -13,7 +13,7 @@
 // - Demand 2's first half: what an entry point answers "is an equation with a definition", input by input. The claims below say of these
 //   definitions, from outside, that they are the right ones.
 // - W-205, the search as a loop: `mos_walks::search::first_with` and the walk that calls itself, `mos_walks::parts::seek`, promise the same
-//   `firstWith` of the same walk, so "every answer remains".
+//   `firstWith` of the same walk: "Every answer remains."
 //
 // Nothing is assumed.
 pub mod beyond;
@@ -58,8 +58,8 @@ pub fn pergens()
 }
 
 // Spellings, in free formats too: both spellings of a key sound it, and their indices are those of symbols; a key without signs has one
-// letter; any two places sound one key exactly where their stars agree and they differ by a multiple of R. Where R is below N "a layout
-// never comes".
+// letter; any two places sound one key exactly where their stars agree and they differ by a multiple of R. "R below N": "A layout never
+// comes here."
 ghost use Rattle.pergen.specs.Theorems.{AccidentalsSoundTheirKey, LetterWithoutSigns, SpellingsOfOneKey};
 ghost use Rattle.layout.specs.Theorems.{EnoughKeys};
 
@@ -110,7 +110,7 @@ pub fn scale_names()
     ()
 }
 
-// Layers: "Layer sizes sum to the reduced size", and so long is their list. Of a layout's keys every number is below T, key 0's is natural,
+// Layers: a pattern's "sum to the reduced size", and so long is their list. Of a layout's keys every number is below T, key 0's is natural,
 // no number is idle where sharpness is not 0, and the entries, P or 2 × P of them, repeat.
 ghost use Rattle.mos_layers.specs.Theorems.{LayerSizesSum, LayersFillTheReducedSize};
 ghost use Rattle.layout_layers.specs.Theorems.{EntriesAreCounted, NumbersAreBelow, KeyZeroIsNatural, EachNumberIsMet, NumbersRepeat};
@@ -292,8 +292,8 @@ pub fn w_211()
     ()
 }
 
-// W-212, how far a retuning moves a note: a move is the distance of the two keys that the spelling sounds, and "never more than the
-// distance of its place from 0, times the difference of the generators"; back is as far as there. Each entry of the table is the single
+// W-212, how far a retuning moves a note: a move is the distance of the two keys that the spelling sounds. "It never moves more than the
+// distance of its place from 0, times the difference of the generators", and back is as far as there. Each entry of the table is the single
 // call's answer; "the largest move in it" is in it, and none passes it.
 ghost use Rattle.layout_retuning.specs.Theorems.{
   MovesAreDistances,
