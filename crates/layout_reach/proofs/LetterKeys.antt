@@ -39,8 +39,7 @@ use Rattle.layout.specs.Names.{placeIn, keyOf, printedIn, nameIn}
 use Rattle.layout.specs.Theorems.{SoundsKey}
 use Rattle.layout.proofs.Finding.{Parts, accepted}
 use Rattle.layout.proofs.Naming.{enough-keys, lettered, names-sound-their-key}
-use Rattle.layout_reach.specs.Reach.{passing, starred, bears, keysOf}
-use Rattle.layout_reach.specs.Parts.{run}
+use Rattle.layout_reach.specs.Reach.{run, passing, starred, bears, keysOf}
 use Rattle.layout_reach.specs.Theorems.{BearsIsTheName, bare, BareLettersSoundTheirKeys, LettersHaveKeys}
 use Rattle.layout_reach.proofs.Passing.{length-run, kept-to, left-out-to, none-passes, not-true}
 
