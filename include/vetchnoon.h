@@ -6,7 +6,7 @@
  *   x86-64 Linux, C calling convention, size_t of 64 bits. It needs memset, memcpy and fmod, which a C library has (fmod often
  *   in a part of its own: link with -lm), and nothing else; it makes no system calls. Only vn_fractional_children calls fmod.
  *   Stack: at most 1.125 KiB for any call, measured (1,080 bytes for vn_edo_report, 920 for vn_find_by_edo, 856 for
- *   vn_tritaves, 784 for vn_key_table, at most 448 for any other, with the memset and memcpy of glibc); examples/check
+ *   vn_tritaves, 776 for vn_key_table, at most 472 for any other, with the memset and memcpy of glibc); examples/check
  *   measures it again.
  *
  * What a call returns

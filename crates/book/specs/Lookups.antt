@@ -7,6 +7,7 @@ use lib.ListN.{take, drop}
 use denote.Ref.{RefT}
 use Rattle.answer.specs.Outcome.{Outcome, given, refused}
 use Rattle.book.specs.declared.Place.{Place}
+use Rattle.book.specs.declared.Extent.{Extent}
 use Rattle.book.specs.Books.{findOutcome}
 
 -- Which bytes of the caller's memory a slice is, and what they hold: their block, where in it the first one stands, and the bytes.
@@ -42,7 +43,12 @@ unfoldable pub nameRefusal : List ℕ → ℤ → ℕ
 unfolding findOutcome
 nameRefusal book key = numberAt (findOutcome book key)
 
--- The promise of a lookup: the part that it hands back, and the number that it leaves in the caller's `refusal`.
+-- Where that part starts and ends in the book, and the number beside it: what a lookup puts together.
+abbrev pub extentAt : Outcome Place → Extent
+extentAt (given place) = record { start = place .offset; end = place .offset + place .length; refusal = 0 }
+extentAt (refused n) = record { start = 0; end = 0; refusal = n }
+
+-- The promise of a lookup: the part that it hands back, and the number beside it.
 pub record LookedUp (book : Slice) (key : ℤ) (name : Slice) (refusal : ℕ) : Type 0 where
   pub is-part : name ≡ namePart book key
   pub is-number : refusal ≡ nameRefusal (book .bytes) key

@@ -7,10 +7,12 @@
 // names of an accepted book are its text, and that a written book is read back (Theorems). Nothing is assumed.
 use answer::Refusal;
 use text::little_endian::read_u32;
+ghost use Prim.Native.Nat.{_-_, _≤_};
 ghost use mathlib.Core.Path.{_≡_};
+ghost use lib.ListN.{length};
 ghost use Rattle.book.specs.Books.{PairsHeld, textCovered, keysOutcome, findOutcome};
 ghost use Rattle.book.specs.Answers.{keysAnswered, findAnswered};
-ghost use Rattle.book.specs.Lookups.{slice, LookedUp};
+ghost use Rattle.book.specs.Lookups.{slice, part, extentAt, LookedUp};
 
 // Where a name stands: its first byte, counted from the book's start, and how many bytes it has.
 pub struct Place {
@@ -28,6 +30,13 @@ pub enum KeysAnswer {
 pub enum FindAnswer {
     Found(Place),
     Refused(Refusal),
+}
+
+// A key's name, as the part of the caller's book that holds it, and 0; or the empty part at the book's front, and the
+// number of the question that refuses. An enum cannot hold a part of the caller's memory, so the two stand side by side.
+pub struct NameAnswer<'a> {
+    pub name: &'a [u8],
+    pub refusal: u8,
 }
 
 // Question 12. A usize has 64 bits, so the sum of an offset and a length does not wrap.
@@ -95,22 +104,54 @@ pub fn find(book: &[u8], key: i32) -> FindAnswer
     }
 }
 
-// The key's name, as the part of the caller's book that holds it: 11, 12, 13.
-// An enum cannot hold the part, so the refusal's number stands beside it in `refusal`: 0 where a name is found.
-// A refusal hands back the empty part at the book's front.
-pub fn name<'a>(book: &'a [u8], key: i32, refusal: &mut u8) -> &'a [u8]
-    ensures { λ r. ⌜ LookedUp (slice (book .entry)) key (slice r) (now (refusal .exit)) ⌝ }
+// Where the part of a lookup starts and ends in the book, and the number beside it.
+struct Extent {
+    start: usize,
+    end: usize,
+    refusal: u8,
+}
+
+// The extent of the key's name: 11, 12, 13.
+fn extent_of(book: &[u8], key: i32) -> Extent
+    ensures { λ r. ⌜ r ≡ extentAt (findOutcome (now (book .entry)) key) ⌝ }
 {
     match find(book, key) {
         FindAnswer::Found(place) => {
             let start = place.offset as usize;
             let end = start + place.length as usize;
-            *refusal = 0;
-            &book[start..end]
+            Extent {
+                start,
+                end,
+                refusal: 0,
+            }
         }
         FindAnswer::Refused(question) => {
-            *refusal = question.number();
-            &book[0..0]
+            let refusal = question.number();
+            Extent {
+                start: 0,
+                end: 0,
+                refusal,
+            }
         }
+    }
+}
+
+// A part of the book, as the caller's own memory.
+fn part_between<'a>(book: &'a [u8], start: usize, end: usize) -> &'a [u8]
+    requires { ⌜ (start ≤ end) × (end ≤ length (now book)) ⌝ }
+    ensures { λ r. ⌜ slice r ≡ part (slice (book .entry)) start (end - start) ⌝ }
+{
+    &book[start..end]
+}
+
+// The key's name, or a refusal: 11, 12, 13. The book alone is lent, and only to be read, so that no refusal changes a byte.
+pub fn name<'a>(book: &'a [u8], key: i32) -> NameAnswer<'a>
+    ensures { λ r. ⌜ LookedUp (slice (book .entry)) key (slice (r .name)) (r .refusal) ⌝ }
+{
+    let extent = extent_of(book, key);
+    let name = part_between(book, extent.start, extent.end);
+    NameAnswer {
+        name,
+        refusal: extent.refusal,
     }
 }

@@ -47,6 +47,16 @@ fn say_not_written() {
     io::write_all(STDERR_FILENO, b"edo: the layouts could not be written\n");
 }
 
+// A claim, as those of the crate `claims`, which cannot use a program: the first line of any bytes, and 18 bytes of it, say what is
+// printed.
+ghost use Rattle.edo.specs.Printing.{LineIsEnough};
+
+pub fn line_is_enough()
+    ensures { λ _. ⌜ LineIsEnough ⌝ }
+{
+    ()
+}
+
 fn main() {
     let mut line = [0u8; 18];
     let input = read_line(&mut line);

@@ -1,6 +1,7 @@
 -- What the report counts: statements; their proofs stand in proofs/.
 use Prim.Native.Nat.{ℕ, zero, suc, _+_, _*_}
 use mathlib.Core.Bool.{true}
+use mathlib.Core.Logic.{_↔_}
 use mathlib.Core.Path.{_≡_}
 use lib.IntN.{pos, negsuc}
 use lib.ListN.{length}
@@ -10,12 +11,12 @@ use Rattle.edo_layouts.specs.Layouts.{layoutsOf, numbersOf, flat}
 use Rattle.edo_counts.specs.declared.parts.Tally.{Tally}
 use Rattle.edo_counts.specs.Counts.{allLayouts, isAbove, isBelow, isEqual, tallyOf}
 
--- The three sides are those of document 01's sharpness, "primary minus secondary step": above 0 (`pos (suc k)`), below 0 (`negsuc k` is
--- −1 − k) and at 0.
+-- The three sides are those of document 01's sharpness, "primary minus secondary step": each test says yes exactly where sharpness is above
+-- 0 (`pos (suc k)`), below 0 (`negsuc k` is −1 − k) and at 0.
 pub record SideOfSharpness (m : Mos) : Type 0 where
-  pub above : isAbove m ≡ true → (k : ℕ) × (sharpnessOf m ≡ pos (suc k))
-  pub below : isBelow m ≡ true → (k : ℕ) × (sharpnessOf m ≡ negsuc k)
-  pub equal : isEqual m ≡ true → sharpnessOf m ≡ pos 0
+  pub above : (isAbove m ≡ true) ↔ ((k : ℕ) × (sharpnessOf m ≡ pos (suc k)))
+  pub below : (isBelow m ≡ true) ↔ ((k : ℕ) × (sharpnessOf m ≡ negsuc k))
+  pub equal : (isEqual m ≡ true) ↔ (sharpnessOf m ≡ pos 0)
 
 -- Theorem: so it is for every pattern.
 abbrev pub SidesAreSharpness : Type 0

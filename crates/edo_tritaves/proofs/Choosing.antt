@@ -14,8 +14,8 @@ use Rattle.pergen.specs.Pergen.{first}
 use Rattle.pergen.proofs.Inverse.{first-finds}
 use Rattle.edo_tritaves.specs.declared.Choices.{Choices}
 use Rattle.edo_tritaves.specs.Tritaves.{TritaveRule, isTritave, tritave, goesUp, goesDown, secondOf, choicesOf, choiceNumbers, isDivision, tritavesOf}
-use Rattle.edo_tritaves.specs.Parts.{Sides}
 use Rattle.edo_tritaves.specs.Theorems.{OneTritave, NeverBoth}
+use Rattle.edo_tritaves.proofs.TableRule.{Sides}
 
 -- ---- only one: two counts would lie a factor of 4 apart, and the rule leaves room for less
 

@@ -6,10 +6,13 @@ use Prim.Native.Nat.{ℕ, zero, suc, _+_, _*_, _-_, _≤_, _<_, _^_}
 use native.Mathlib.Nat.{pow-suc, pow-zero}
 use native.Mathlib.Omega.{arith}
 use lib.Dec.{leb}
+use lib.ListN.{getD}
 use borrow.Author.Tests.{leb-true, leb-false}
 use Rattle.answer.specs.Choice.{pick}
 use Rattle.edo_tritaves.specs.Tritaves.{TritaveRule, tritave, goesUp, goesDown, secondOf}
-use Rattle.edo_tritaves.specs.Theorems.{EveryDivisionMeetsTheRule}
+use Rattle.edo_tritaves.specs.Table.{tritaveTable}
+use Rattle.edo_tritaves.specs.Theorems.{TableMeetsTheRule, EveryDivisionMeetsTheRule}
+use Rattle.edo_tritaves.proofs.TableRule.{the-table-ruled}
 use Rattle.edo_tritaves.proofs.Choosing.{tritave-is, one-tritave, never-both}
 
 -- ---- powers of 3 and of 2
@@ -77,7 +80,7 @@ module _ (n : ℕ) (h : 1 ≤ n) where
   two-at-least (suc zero) r = absurd (let z : ⊥ = omega (arith, r .below, large, pow-suc 2 2, pow-suc 2 1, pow-suc 2 0, pow-zero 2) in z)
   two-at-least (suc (suc k)) r = omega arith
 
--- ---- the theorem
+-- ---- the second choice
 
 module _ (n k : ℕ) where
   second-by : (u d : Bool) → goesUp n k ≡ u → goesDown n k ≡ d → secondOf n k ≡ pick u (k + 1) (pick d (k - 1) 0)
@@ -98,8 +101,23 @@ module _ (n k : ℕ) where
   pub second-none : goesUp n k ≡ false → goesDown n k ≡ false → secondOf n k ≡ 0
   second-none e d = second-by false false e d
 
-pub table-is-the-rule : EveryDivisionMeetsTheRule
-table-is-the-rule n h =
+-- ---- the theorems
+
+entry-meets : (i : ℕ) → i < 400 → TritaveRule (i + 1) (getD tritaveTable i 0)
+entry-meets i h =
+    subst (λ (k : ℕ). TritaveRule (i + 1) (getD tritaveTable k 0)) (let e : i + 1 - 1 ≡ i = omega arith in e)
+    (the-table-ruled .entry (i + 1) (omega arith) (omega arith))
+
+pub table-meets-the-rule : TableMeetsTheRule
+table-meets-the-rule =
+    record {
+      long = the-table-ruled .long;
+      meets = entry-meets;
+      only = λ i k h r. one-tritave (i + 1) k (getD tritaveTable i 0) r (entry-meets i h);
+    }
+
+pub every-division-meets-the-rule : EveryDivisionMeetsTheRule
+every-division-meets-the-rule n h =
     let r = meets-rule n h in
     let l = two-at-least n h (tritave n) r in
     record {

@@ -2,14 +2,29 @@
 use mathlib.Core.Path.{_≡_, refl, _∙_, subst, sym}
 use mathlib.Core.Bool.{Bool, true, false, not}
 use mathlib.Core.List.{List, [], _∷_}
-use Prim.Native.Nat.{ℕ, zero, suc, _+_, _*_, _-_, _<_, _^_}
+use Prim.Native.Nat.{ℕ, zero, suc, _+_, _*_, _-_, _≤_, _<_, _^_}
 use native.Mathlib.Nat.{add-zero, zero-add, add-suc, suc-add, le-of-suc-le-suc, not-suc-le-zero}
 use native.Mathlib.Omega.{arith}
 use lib.Dec.{T, ltb, leb, eqb, ltb→lt, leb→le, eqb→eq}
 use lib.ListN.{length, getD}
 use Rattle.genchain.proofs.Tables.{both, both-left, both-right}
 use Rattle.edo_tritaves.specs.Tritaves.{TritaveRule, goesUp, goesDown}
-use Rattle.edo_tritaves.specs.Parts.{Sides, Ruled}
+use Rattle.edo_tritaves.specs.Table.{tritaveTable}
+
+-- ---- what is to be shown
+
+-- both questions of the second choice, asked of small numbers: 3 × 1054 / 665 is near enough to 3 logarithms of 3 to the base 2
+pub record Sides (n k : ℕ) : Type 0 where
+  pub up : goesUp n k ≡ ltb (665 * (3 * k + 1)) (3162 * n)
+  pub down : goesDown n k ≡ ltb (3162 * n) (665 * (3 * k - 1))
+  pub some : 2 ≤ k
+  pub few : k ≤ 2 * n
+
+-- a table of so many entries, that for n at place n − 1
+pub record Ruled (size : ℕ) (table : List ℕ) : Type 0 where
+  pub long : length table ≡ size
+  pub entry : (n : ℕ) → 1 ≤ n → n ≤ size → TritaveRule n (getD table (n - 1) 0)
+  pub sides : (n : ℕ) → 1 ≤ n → n ≤ size → Sides n (getD table (n - 1) 0)
 
 -- ---- a test on each entry and its place, counted from i
 
@@ -93,3 +108,13 @@ table-ruled size table t =
           (sided (n - 1) (getD table (n - 1) 0)
           (at sides-test table (both-right (every rule-test 0 table) (every sides-test 0 table) tests) (n - 1) (omega arith)));
     }
+
+-- ---- the 400 numbers
+
+pub the-table-ruled : Ruled 400 tritaveTable
+unfolding tritaveTable
+the-table-ruled = table-ruled 400 tritaveTable tt
+
+-- what is handed out as the table
+pub handed-out : {table : List ℕ} → table ≡ tritaveTable → Ruled 400 table
+handed-out e = subst (λ (table : List ℕ). Ruled 400 table) (sym e) the-table-ruled

@@ -1,4 +1,4 @@
 pub mod Tritaves
-pub mod Parts
+pub mod Table
 pub mod Theorems
 pub mod Examples

@@ -22,7 +22,7 @@ pub record TritaveRule (n k : ℕ) : Type 0 where
 abbrev pub isTritave : ℕ → ℕ → Bool
 isTritave n k = ltb (2 ^ (2 * k - 1)) (3 ^ (2 * n)) && ltb (3 ^ (2 * n)) (2 ^ (2 * k + 1))
 
--- The first number that meets the rule; by `TableIsTheRule` the only one. It is at most 2n, since 3 is below 4.
+-- The first number that meets the rule; by `ChoicesByTheRule` the only one. It is at most 2n, since 3 is below 4.
 unfoldable pub tritave : ℕ → ℕ
 unfolding first
 tritave n = first (isTritave n) (2 * n + 1) 0

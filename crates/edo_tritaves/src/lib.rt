@@ -2,13 +2,14 @@
 //
 // Holds, for an octave of 1 to 400 equal steps, how many of them make a tritave: the nearest number, out of one constant table, and the
 // second choice where the nearest is far off.
-// specs/: Tritaves has the rule in exact powers and what the call answers, Theorems states that the table is the rule, Examples has cases.
+// specs/: Tritaves has the rule in exact powers and what the call answers, Table the 400 numbers, Theorems states that they meet the rule and
+// no others do, Examples has cases.
 // The entry point answers every input. Nothing is assumed.
 use answer::Refusal;
 ghost use mathlib.Core.Path.{_≡_};
 ghost use Prim.Native.Nat.{_≤_};
 ghost use Rattle.edo_tritaves.specs.Tritaves.{choicesOf, tritavesOf, tritavesOutcome};
-ghost use Rattle.edo_tritaves.specs.Parts.{Ruled};
+ghost use Rattle.edo_tritaves.specs.Table.{tritaveTable};
 
 // The tritave count of n steps to the octave, at place n - 1.
 const TRITAVES: [u16; 400] = [
@@ -427,7 +428,7 @@ pub enum TritavesAnswer {
 
 // The whole table.
 fn table() -> [u16; 400]
-    ensures { λ r. ⌜ Ruled 400 r ⌝ }
+    ensures { λ r. ⌜ r ≡ tritaveTable ⌝ }
 {
     TRITAVES
 }

@@ -1,14 +1,28 @@
--- A row of the table holds its chain's letters, and nothing but zeros behind them.
+-- The table is `map rowOf chains`. A row of it holds its chain's letters, and nothing but zeros behind them.
 use mathlib.Core.Path.{_≡_, refl, sym, ap, _∙_}
-use mathlib.Core.List.{List, _++_}
+use mathlib.Core.List.{List, map, _++_}
 use Prim.Native.Nat.{ℕ, _+_, _<_, _≤_}
 use native.Mathlib.Omega.{arith}
-use lib.ListN.{length, take, replicate, length-append, length-replicate}
+use lib.ListN.{length, getD, take, replicate, length-append, length-replicate}
 use lib.Seq.{length-take-le, take-take, take-append-seam}
-use Rattle.genchain.specs.Chains.{Chain, chainOf, padded, rowOf, TableRow, lettersIn}
+use Rattle.genchain.specs.Chains.{Chain, chains, noChain, chainOf, padded, rowOf, TableRow, lettersIn}
 use Rattle.genchain.specs.Theorems.{GoodChain}
 use Rattle.genchain.specs.declared.rows.ChainRow.{ChainRow}
+use Rattle.genchain.proofs.Tables.{mapped-at}
 use Rattle.genchain.proofs.GoodChains.{chains-are-good}
+
+-- the table's rule, which each reading cites: what is `map rowOf chains` has at each code the row of the code's chain
+pub row-at : {table : List ChainRow} → table ≡ map rowOf chains → (code : ℕ) (none : ChainRow) → code < 6 → getD table code none ≡ rowOf (chainOf code)
+unfolding chains chainOf
+row-at is code none h = ap (λ (t : List ChainRow). getD t code none) is ∙ mapped-at rowOf chains code none noChain h
+
+-- at a constant place: the numbers of the row there are those of the code's chain
+pub numbers-at : {code place : ℕ} {row : ChainRow} {count start : ℕ} → code ≡ place → row ≡ rowOf (chainOf place)
+    → (count ≡ row .«num_letters») × (start ≡ row .start) → (count ≡ length (chainOf code .letters)) × (start ≡ chainOf code .start)
+unfolding rowOf
+numbers-at {row = row} e is said =
+    let is-row = is ∙ ap (λ (c : ℕ). rowOf (chainOf c)) (sym e) in
+    (said .0 ∙ ap (λ (r : ChainRow). r .«num_letters») is-row, said .1 ∙ ap (λ (r : ChainRow). r .start) is-row)
 
 length-padded : (l : List ℕ) → length (padded l) ≡ 9
 length-padded l =

@@ -1,6 +1,6 @@
 // The table of the chains: parts, and no entry points. Callers have asked question 10 before they write.
 //
-// A row is copied at every read, so read a chain's row once for a call, and hand the row on.
+// The table is put into memory where it is read by a code, so read a chain's row once for a call, and hand the row on.
 ghost use mathlib.Core.Path.{_≡_};
 ghost use lib.Dec.{ltb};
 ghost use lib.ListN.{length};
@@ -55,23 +55,17 @@ pub fn is_chain(code: u16) -> bool
     code < 6
 }
 
-// The row of a chain; one without letters for a code from 6 on. Each place is a constant: of a table that is indexed by a number, all
-// rows are first put into memory.
+// The row of a chain, read by its code; one without letters for a code from 6 on.
 pub fn row(code: u16) -> ChainRow
     ensures { λ r. ⌜ r ≡ rowOf (chainOf code) ⌝ }
 {
-    match code {
-        0 => CHAINS[0],
-        1 => CHAINS[1],
-        2 => CHAINS[2],
-        3 => CHAINS[3],
-        4 => CHAINS[4],
-        5 => CHAINS[5],
-        _ => ChainRow {
-            letters: [0, 0, 0, 0, 0, 0, 0, 0, 0],
-            num_letters: 0,
-            start: 0,
-        },
+    if is_chain(code) {
+        return CHAINS[code as usize];
+    }
+    ChainRow {
+        letters: [0, 0, 0, 0, 0, 0, 0, 0, 0],
+        num_letters: 0,
+        start: 0,
     }
 }
 
@@ -81,14 +75,32 @@ pub struct ChainNumbers {
     pub start: u16,
 }
 
-// The same, for a call that needs no letters.
-pub fn numbers(code: u16) -> ChainNumbers
-    ensures { λ r. ⌜ (r .«num_letters» ≡ length (chainOf code .letters)) × (r .start ≡ chainOf code .start) ⌝ }
+// The two numbers of a row.
+fn numbers_in(row: ChainRow) -> ChainNumbers
+    ensures { λ r. ⌜ (r .«num_letters» ≡ row .«num_letters») × (r .start ≡ row .start) ⌝ }
 {
-    let row = row(code);
     ChainNumbers {
         num_letters: row.num_letters,
         start: row.start,
+    }
+}
+
+// The two numbers of a chain, for a call that needs no letters. Each place of the table is a constant here, so that nothing of it is put
+// into memory.
+pub fn numbers(code: u16) -> ChainNumbers
+    ensures { λ r. ⌜ (r .«num_letters» ≡ length (chainOf code .letters)) × (r .start ≡ chainOf code .start) ⌝ }
+{
+    match code {
+        0 => numbers_in(CHAINS[0]),
+        1 => numbers_in(CHAINS[1]),
+        2 => numbers_in(CHAINS[2]),
+        3 => numbers_in(CHAINS[3]),
+        4 => numbers_in(CHAINS[4]),
+        5 => numbers_in(CHAINS[5]),
+        _ => ChainNumbers {
+            num_letters: 0,
+            start: 0,
+        },
     }
 }
 

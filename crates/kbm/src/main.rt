@@ -72,6 +72,16 @@ fn say_not_written() {
     io::write_all(STDERR_FILENO, b"kbm: the mapping could not be written\n");
 }
 
+// A claim, as those of the crate `claims`, which cannot use a program: 18 bytes of a line, and the first line of any bytes, say what is
+// printed.
+ghost use Rattle.kbm.specs.Printing.{LineIsEnough};
+
+pub fn line_is_enough()
+    ensures { λ _. ⌜ LineIsEnough ⌝ }
+{
+    ()
+}
+
 fn main() {
     let mut line = [0u8; 18];
     let input = line_input::read_line(&mut line);

@@ -119,6 +119,16 @@ fn say_not_written() {
     );
 }
 
+// A claim, as those of the crate `claims`, which cannot use a program: 18 bytes of a line, and the first line of any bytes, say what is
+// printed.
+ghost use Rattle.key_table.specs.Printing.{LineIsEnough};
+
+pub fn line_is_enough()
+    ensures { λ _. ⌜ LineIsEnough ⌝ }
+{
+    ()
+}
+
 fn main() {
     let mut line = [0u8; 18];
     let input = read_line(&mut line);

@@ -19,25 +19,18 @@ use Rattle.pergen.specs.declared.Accidentals.{Accidentals}
 use Rattle.pergen.specs.declared.Signs.{Signs}
 use Rattle.pergen.specs.declared.Signs.the-variants.{Sharps, Flats}
 use Rattle.pergen.specs.declared.Spelling.{Spelling}
-use Rattle.pergen.specs.Pergen.{keyDegree}
-use Rattle.pergen.specs.Spelling.{place, sharpSpelling, flatSpelling}
+use Rattle.pergen.specs.Pergen.{keyDegree, keyCycle}
+use Rattle.pergen.specs.Spelling.{place, starsOf, sharpSpelling, flatSpelling}
 use Rattle.pergen.proofs.Keys.{sounds-at-the-degree}
 use Rattle.pergen.proofs.DegreePlaces.{stars-of-key, letter-without-signs}
 use Rattle.pergen.proofs.FewestSigns.{FewestOfEach, fewest-of-each}
 use Rattle.layout.specs.Layouts.{Layout, reducedIn, accidentalsIn, sharpFirst}
-use Rattle.layout.specs.Names.{placeIn, keyOf, printedIn}
+use Rattle.layout.specs.Names.{keyOf, printedIn, cycleIn}
 use Rattle.layout.specs.Theorems.{SoundsKey}
-use Rattle.layout.specs.FewestSigns.{signCount, Simplest, Least, EquallyMany, NamesHaveFewestSigns, StarsFollow}
+use Rattle.layout.specs.FewestSigns.{signCount, Sounding, Simplest, Least, EquallyMany, NamesHaveFewestSigns}
 use Rattle.layout.proofs.Finding.{Parts, accepted}
 use Rattle.layout.proofs.PatternShape.{pattern-shape}
 use Rattle.layout.proofs.Naming.{sharp-sound, flat-sound, names-sound-their-key}
-
-pub stars-follow : StarsFollow
-unfolding keyOf
-stars-follow r l e key x is sounds =
-    let a = accepted r l e in
-    let at = sounds-at-the-degree (l .octave) (l .generator) (a .positive) key (placeIn l x) (x .stars) (is .stars) sounds in
-    record { spelling = is; stars = at .0 ∙ sym (stars-of-key (l .octave) (l .generator) key (a .positive)); sounds = sounds }
 
 module _ (l : Layout) (a : Parts l) (key : ℤ) where
   abbrev both : Accidentals
@@ -60,25 +53,45 @@ module _ (l : Layout) (a : Parts l) (key : ℤ) where
       letter-without-signs (l .octave) (l .generator) (l .letters) (l .start) key (a .positive) (a .start-below)
       (pattern-shape l a .enough-keys)
 
-  stands : (x : Spelling) → SoundsKey l key x → Apart (reducedIn l) (place (l .letters) (l .start) x) (pos (keyDegree (l .octave) (l .generator) key))
-  unfolding keyOf placeIn
-  stands x h = sounds-at-the-degree (l .octave) (l .generator) (a .positive) key (placeIn l x) (x .stars) (h .spelling .stars) (h .sounds) .1
+  -- a spelling that sounds the key stands at its degree, and has its stars
+  at-the-degree : (x : Spelling) → Sounding l key x
+      → (x .stars ≡ keyCycle (l .octave) (l .generator) key)
+      × Apart (reducedIn l) (place (l .letters) (l .start) x) (pos (keyDegree (l .octave) (l .generator) key))
+  unfolding keyOf
+  at-the-degree x h =
+      sounds-at-the-degree (l .octave) (l .generator) (a .positive) key (place (l .letters) (l .start) x) (x .stars) (h .spelling .stars) (h .sounds)
+
+  stands : (x : Spelling) → Sounding l key x → Apart (reducedIn l) (place (l .letters) (l .start) x) (pos (keyDegree (l .octave) (l .generator) key))
+  stands x h = at-the-degree x h .1
+
+  stars-follow : (x : Spelling) → Sounding l key x → x .stars ≡ starsOf (cycleIn l key)
+  stars-follow x h = at-the-degree x h .0 ∙ sym (stars-of-key (l .octave) (l .generator) key (a .positive))
+
+  -- both spellings of the key sound it
+  sounding : (x : Spelling) → SoundsKey l key x → Sounding l key x
+  sounding x h = record { spelling = h .spelling; sounds = h .sounds }
+
+  sharp-sounding : Sounding l key (sharpSpelling both)
+  sharp-sounding = sounding _ (sharp-sound l a key)
+
+  flat-sounding : Sounding l key (flatSpelling both)
+  flat-sounding = sounding _ (flat-sound l a key)
 
   -- ---- any spelling that sounds the key
 
   abbrev spelt : ℕ → Signs → ℕ → Spelling
   spelt index signs stars = record { index = index; signs = signs; stars = stars }
 
-  sharps-least : (i k s : ℕ) → SoundsKey l key (spelt i (Sharps k) s) → sharps ≤ k
+  sharps-least : (i k s : ℕ) → Sounding l key (spelt i (Sharps k) s) → sharps ≤ k
   sharps-least i k s h = fewest .sharps i k s (h .spelling .letter) (stands _ h)
 
-  flats-least : (i k s : ℕ) → SoundsKey l key (spelt i (Flats k) s) → flats ≤ k
+  flats-least : (i k s : ℕ) → Sounding l key (spelt i (Flats k) s) → flats ≤ k
   flats-least i k s h = fewest .flats i k s (h .spelling .letter) (stands _ h)
 
-  at-least : (m : ℕ) → m ≤ sharps → m ≤ flats → (y : Spelling) → SoundsKey l key y → m ≤ signCount y
+  at-least : (m : ℕ) → m ≤ sharps → m ≤ flats → (y : Spelling) → Sounding l key y → m ≤ signCount y
   at-least m p q y = by (y .index) (y .signs) (y .stars)
     where
-      by : (i : ℕ) (g : Signs) (s : ℕ) → SoundsKey l key (spelt i g s) → m ≤ signsIn g
+      by : (i : ℕ) (g : Signs) (s : ℕ) → Sounding l key (spelt i g s) → m ≤ signsIn g
       by i (Sharps k) s h = omega (arith, sharps-least i k s h)
       by i (Flats k) s h = omega (arith, flats-least i k s h)
 
@@ -95,14 +108,14 @@ module _ (l : Layout) (a : Parts l) (key : ℤ) where
   sharp-simplest : sharps ≤ flats → Simplest l key (sharpSpelling both)
   sharp-simplest h =
       record {
-        sounds = sharp-sound l a key;
+        sounding = sharp-sounding;
         fewest = λ y s. omega (arith, sharp-count, at-least sharps (omega arith) h y s);
       }
 
   flat-simplest : flats ≤ sharps → Simplest l key (flatSpelling both)
   flat-simplest h =
       record {
-        sounds = flat-sound l a key;
+        sounding = flat-sounding;
         fewest = λ y s. omega (arith, flat-count, at-least flats h (omega arith) y s);
       }
 
@@ -141,13 +154,13 @@ module _ (l : Layout) (a : Parts l) (key : ℤ) where
   Among names y = (x : Spelling) × List·Memᴰ x names × SameSpelling x y
 
   -- with sharps: it has no more than the sharp spelling, so it is that one
-  sharps-same : (i k s : ℕ) → SoundsKey l key (spelt i (Sharps k) s) → k ≤ sharps → SameSpelling (sharpSpelling both) (spelt i (Sharps k) s)
+  sharps-same : (i k s : ℕ) → Sounding l key (spelt i (Sharps k) s) → k ≤ sharps → SameSpelling (sharpSpelling both) (spelt i (Sharps k) s)
   unfolding sharpSpelling
   sharps-same i k s h p =
       same-spelling _ _ (sym (fewest .sharp-index i k s (h .spelling .letter) (stands _ h) p)) (le-antisymm (sharps-least i k s h) p) refl
-      (sharp-sound l a key .stars ∙ sym (h .stars))
+      (sharp-sound l a key .stars ∙ sym (stars-follow _ h))
 
-  sharps-among : {names : List Spelling} → ByCounts both names → (i k s : ℕ) → SoundsKey l key (spelt i (Sharps k) s)
+  sharps-among : {names : List Spelling} → ByCounts both names → (i k s : ℕ) → Sounding l key (spelt i (Sharps k) s)
       → k ≤ sharps → k ≤ flats → Among names (spelt i (Sharps k) s)
   sharps-among (alone u w) i k s h p q = (_, List·Memᴰ·head refl, sharps-same i k s h p)
   sharps-among (fewer-sharps u) i k s h p q = (_, List·Memᴰ·head refl, sharps-same i k s h p)
@@ -156,20 +169,20 @@ module _ (l : Layout) (a : Parts l) (key : ℤ) where
   sharps-among (flat-sharp n u) i k s h p q = (_, List·Memᴰ·tail (List·Memᴰ·head refl), sharps-same i k s h p)
 
   -- with flats: likewise, and without signs it is the letter alone
-  flats-same : (i k s : ℕ) → SoundsKey l key (spelt i (Flats k) s) → k ≤ flats → SameSpelling (flatSpelling both) (spelt i (Flats k) s)
+  flats-same : (i k s : ℕ) → Sounding l key (spelt i (Flats k) s) → k ≤ flats → SameSpelling (flatSpelling both) (spelt i (Flats k) s)
   unfolding flatSpelling
   flats-same i k s h p =
       same-spelling _ _ (sym (fewest .flat-index i k s (h .spelling .letter) (stands _ h) p)) refl (le-antisymm (flats-least i k s h) p)
-      (flat-sound l a key .stars ∙ sym (h .stars))
+      (flat-sound l a key .stars ∙ sym (stars-follow _ h))
 
-  bare-same : sharps ≡ 0 → flats ≡ 0 → (i k s : ℕ) → SoundsKey l key (spelt i (Flats k) s) → k ≤ flats
+  bare-same : sharps ≡ 0 → flats ≡ 0 → (i k s : ℕ) → Sounding l key (spelt i (Flats k) s) → k ≤ flats
       → SameSpelling (sharpSpelling both) (spelt i (Flats k) s)
   unfolding sharpSpelling
   bare-same u w i k s h p =
       same-spelling _ _ (one-letter u w ∙ sym (fewest .flat-index i k s (h .spelling .letter) (stands _ h) p)) u (omega arith)
-      (sharp-sound l a key .stars ∙ sym (h .stars))
+      (sharp-sound l a key .stars ∙ sym (stars-follow _ h))
 
-  flats-among : {names : List Spelling} → ByCounts both names → (i k s : ℕ) → SoundsKey l key (spelt i (Flats k) s)
+  flats-among : {names : List Spelling} → ByCounts both names → (i k s : ℕ) → Sounding l key (spelt i (Flats k) s)
       → k ≤ sharps → k ≤ flats → Among names (spelt i (Flats k) s)
   flats-among (alone u w) i k s h p q = (_, List·Memᴰ·head refl, bare-same u w i k s h q)
   flats-among (fewer-sharps u) i k s h p q = absurd (let z : ⊥ = omega (arith, flats-least i k s h) in z)
@@ -179,16 +192,16 @@ module _ (l : Layout) (a : Parts l) (key : ℤ) where
 
   every-among : {names : List Spelling} → ByCounts both names → (y : Spelling) → Simplest l key y → Among names y
   every-among {names} v y h =
-      by (y .index) (y .signs) (y .stars) (h .sounds)
-      (omega (arith, h .fewest _ (sharp-sound l a key), sharp-count)) (omega (arith, h .fewest _ (flat-sound l a key), flat-count))
+      by (y .index) (y .signs) (y .stars) (h .sounding)
+      (omega (arith, h .fewest _ sharp-sounding, sharp-count)) (omega (arith, h .fewest _ flat-sounding, flat-count))
     where
-      by : (i : ℕ) (g : Signs) (s : ℕ) → SoundsKey l key (spelt i g s) → signsIn g ≤ sharps → signsIn g ≤ flats → Among names (spelt i g s)
+      by : (i : ℕ) (g : Signs) (s : ℕ) → Sounding l key (spelt i g s) → signsIn g ≤ sharps → signsIn g ≤ flats → Among names (spelt i g s)
       by i (Sharps k) s = sharps-among v i k s
       by i (Flats k) s = flats-among v i k s
 
   -- ---- a bare letter
 
-  letter : {names : List Spelling} → ByCounts both names → (y : Spelling) → SoundsKey l key y → signCount y ≡ 0
+  letter : {names : List Spelling} → ByCounts both names → (y : Spelling) → Sounding l key y → signCount y ≡ 0
       → (x : Spelling) × (names ≡ x ∷ []) × (signCount x ≡ 0)
   letter (alone p q) y h e = (_, refl, sharp-count ∙ p)
   letter (fewer-sharps p) y h e = (_, refl, (let t : signCount (sharpSpelling both) ≡ 0 = omega (arith, sharp-simplest (omega arith) .fewest y h) in t))
@@ -197,9 +210,9 @@ module _ (l : Layout) (a : Parts l) (key : ℤ) where
   letter (flat-sharp n p) y h e = absurd (let z : ⊥ = omega (arith, with-signs n p, at-least sharps (omega arith) (omega arith) y h) in z)
 
   bare-letter : {names : List Spelling} → ByCounts both names
-      → ((x : Spelling) × (names ≡ x ∷ []) × (signCount x ≡ 0)) ↔ ((y : Spelling) × SoundsKey l key y × (signCount y ≡ 0))
+      → ((x : Spelling) × (names ≡ x ∷ []) × (signCount x ≡ 0)) ↔ ((y : Spelling) × Sounding l key y × (signCount y ≡ 0))
   bare-letter {names} v = (
-    λ t. (t .0, each-simplest v (t .0) (subst (List·Memᴰ (t .0)) (sym (t .1)) (List·Memᴰ·head refl)) .sounds, t .2),
+    λ t. (t .0, each-simplest v (t .0) (subst (List·Memᴰ (t .0)) (sym (t .1)) (List·Memᴰ·head refl)) .sounding, t .2),
     λ t. letter v (t .0) (t .1) (t .2),
   )
 
@@ -210,33 +223,33 @@ module _ (l : Layout) (a : Parts l) (key : ℤ) where
   unfolding sharpSpelling
   least-sharps k e =
       record {
-        some = (sharpSpelling both, sharp-sound l a key, ap Sharps (sym e));
+        some = (sharpSpelling both, sharp-sounding, ap Sharps (sym e));
         least = λ x m h q. omega (arith, by (x .index) (x .signs) (x .stars) h m q);
       }
     where
-      by : (i : ℕ) (g : Signs) (s : ℕ) → SoundsKey l key (spelt i g s) → (m : ℕ) → g ≡ Sharps m → sharps ≤ m
-      by i g s h m q = sharps-least i m s (subst (λ (z : Signs). SoundsKey l key (spelt i z s)) q h)
+      by : (i : ℕ) (g : Signs) (s : ℕ) → Sounding l key (spelt i g s) → (m : ℕ) → g ≡ Sharps m → sharps ≤ m
+      by i g s h m q = sharps-least i m s (subst (λ (z : Signs). Sounding l key (spelt i z s)) q h)
 
   least-flats : (k : ℕ) → k ≡ flats → Least l key Flats k
   unfolding flatSpelling
   least-flats k e =
       record {
-        some = (flatSpelling both, flat-sound l a key, ap Flats (sym e));
+        some = (flatSpelling both, flat-sounding, ap Flats (sym e));
         least = λ x m h q. omega (arith, by (x .index) (x .signs) (x .stars) h m q);
       }
     where
-      by : (i : ℕ) (g : Signs) (s : ℕ) → SoundsKey l key (spelt i g s) → (m : ℕ) → g ≡ Flats m → flats ≤ m
-      by i g s h m q = flats-least i m s (subst (λ (z : Signs). SoundsKey l key (spelt i z s)) q h)
+      by : (i : ℕ) (g : Signs) (s : ℕ) → Sounding l key (spelt i g s) → (m : ℕ) → g ≡ Flats m → flats ≤ m
+      by i g s h m q = flats-least i m s (subst (λ (z : Signs). Sounding l key (spelt i z s)) q h)
 
   sharps-are : (k : ℕ) → Least l key Sharps k → k ≡ sharps
   unfolding sharpSpelling
   sharps-are k h =
-      le-antisymm (h .least _ _ (sharp-sound l a key) refl) (least-sharps sharps refl .least (h .some .0) k (h .some .1) (h .some .2))
+      le-antisymm (h .least _ _ sharp-sounding refl) (least-sharps sharps refl .least (h .some .0) k (h .some .1) (h .some .2))
 
   flats-are : (k : ℕ) → Least l key Flats k → k ≡ flats
   unfolding flatSpelling
   flats-are k h =
-      le-antisymm (h .least _ _ (flat-sound l a key) refl) (least-flats flats refl .least (h .some .0) k (h .some .1) (h .some .2))
+      le-antisymm (h .least _ _ flat-sounding refl) (least-flats flats refl .least (h .some .0) k (h .some .1) (h .some .2))
 
   equally-many : sharps ≡ flats → 0 < sharps → EquallyMany l key
   equally-many p q = (sharps, omega arith, least-sharps sharps refl, least-flats sharps p)
@@ -274,4 +287,5 @@ names-have-fewest-signs r l e key =
       every = every-among l a key v;
       bare = bare-letter l a key v;
       two = two-printed l a key v;
+      stars = stars-follow l a key;
     }

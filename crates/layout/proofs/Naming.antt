@@ -35,7 +35,7 @@ pub enough-keys : EnoughKeys
 enough-keys r l e = pattern-shape l (accepted r l e) .enough-keys
 
 pub spellings-sound-one-key : SpellingsSoundOneKey
-unfolding keyOf
+unfolding keyOf placeIn
 spellings-sound-one-key r l e x y hx hy =
     spellings-of-one-key (l .octave) (l .generator) (accepted r l e .positive)
     (placeIn l x) (placeIn l y) (x .stars) (y .stars) (hx .stars) (hy .stars)
@@ -118,7 +118,7 @@ names-sound-their-key r l e i =
 
 -- one place and as many stars: one key
 same-sound : (l : Layout) (x y : Spelling) → SameSpelling x y → keyOf l x ≡ keyOf l y
-unfolding keyOf soundedKey
+unfolding keyOf
 same-sound l x y s =
     ap₂ (λ (p : ℤ) (k : ℕ). sounds (l .octave) (l .generator) p k) (s .place (l .letters) (l .start)) (s .stars)
 

@@ -7,7 +7,7 @@ use Rattle.notes.specs.Names.{printed, printedText, nameText}
 use Rattle.pergen.specs.declared.Cycle.{Cycle}
 use Rattle.pergen.specs.declared.Spelling.{Spelling}
 use Rattle.pergen.specs.Pergen.{cycleOf}
-use Rattle.pergen.specs.Spelling.{place, sounds, soundedKey}
+use Rattle.pergen.specs.Spelling.{place, soundedKey}
 use Rattle.layout.specs.Layouts.{Layout, cyclesIn, accidentalsIn, sharpFirst}
 
 -- "a spelling there is a letter, whose index is counted from 0 along the chain, a number of sharps or of flats, 0 included, and
@@ -23,8 +23,8 @@ placeIn l x = place (l .letters) (l .start) x
 
 -- The key of the octave that it sounds: "key (G × place + stars) mod P".
 unfoldable pub keyOf : Layout → Spelling → ℕ
-unfolding soundedKey placeIn
-keyOf l x = sounds (l .octave) (l .generator) (placeIn l x) (x .stars)
+unfolding soundedKey
+keyOf l x = soundedKey (l .octave) (l .generator) (l .letters) (l .start) x
 
 -- "The spellings in a name are the ones printed"
 unfoldable pub printedIn : Layout → ℤ → List Spelling

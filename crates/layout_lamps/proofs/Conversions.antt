@@ -1,4 +1,4 @@
--- A layout's strip of one-byte codes is widened to its strip of today, and that goes back: code by code, by the kinds.
+-- A layout's strips of one-byte codes are widened to its strip of today, and that goes back: code by code, by the kinds.
 use Prim.Native.Nat.{ℕ, zero, suc, _+_, _%_, _<_}
 use mathlib.Core.Bool.{Bool, true, false}
 use mathlib.Core.List.{List, [], _∷_, _++_, map, map-append}
@@ -6,6 +6,7 @@ use mathlib.Core.Path.{_≡_, refl, sym, ap, ap₂, _∙_}
 use native.Mathlib.Nat.{mod-eq-of-lt}
 use native.Mathlib.Omega.{arith}
 use lib.Dec.{eqb}
+use lib.ListN.{take}
 use borrow.Author.Tests.{eqb-true, eqb-false, ne-eqb, leb-false, ltb-true}
 use Rattle.answer.specs.Choice.{pick}
 use Rattle.answer.specs.Outcome.{given, refused, ask}
@@ -27,9 +28,10 @@ use Rattle.layout_layers.proofs.SpreadLaws.{length-listed, listed-at}
 use Rattle.layout_layers.proofs.PlanLaws.{kind-sharp}
 use Rattle.layout_layers.proofs.Theorems.{key-zero-is-natural}
 use Rattle.layout_layers.specs.LampCodes.{lampCode}
-use Rattle.layout_lamps.specs.Lamps.{lampOf, codesOf, stripOf, lampable, every, lampIn, stripLengthIn, stripIn, kindAt, kindIn, byteCode, byteLampIn, byteStripIn, hadLampsIn}
-use Rattle.layout_lamps.specs.Theorems.{StripsConvert, OldStripsConvert}
-use Rattle.layout_lamps.proofs.StripLaws.{lamps-by-count-at, met-at, in-the-strip-at}
+use Rattle.layout_lamps.specs.Lamps.{lampOf, codesOf, stripOf, lampable, every, lampIn, stripLengthIn, stripIn, kindAt, kindIn, byteCode, byteLampIn, byteStripIn, hadLampsIn, firstStripIn, firstHadLampsIn}
+use Rattle.layout_lamps.specs.Theorems.{OldStripsConvert, FirstStripsConvert}
+use Rattle.layout_lamps.proofs.StripLaws.{lamps-by-count-at, first-lamps-by-count, met-at, in-the-strip-at}
+use Rattle.layout_lamps.proofs.Theorems.{first-octave}
 
 -- ---- a kind's two codes
 
@@ -70,20 +72,27 @@ map-listed g f zero = refl
 map-listed g f (suc count) =
     map-append g (listed f count) (f count ∷ []) ∙ ap (λ (l : List ℕ). l ++ (g (f count) ∷ [])) (map-listed g f count)
 
-module _ (r : IsomorphicLayout) (l : Layout) (ok : Accepted r l) where
-  module _ (had : hadLampsIn l ≡ true) where
-    each : (i : ℕ) → i < stripLengthIn l → lampable (kindIn l i) ≡ true
-    unfolding hadLampsIn
-    each i h = each-of (λ k. lampable (kindIn l k)) (stripLengthIn l) had i h
+-- the way back of a strip, by what question 9 said: what was converted returns, and with a code that was none there is no way
+returns : (had : Bool) (old wide : List ℕ)
+    → (had ≡ true → getWidened old ≡ given wide) → (had ≡ false → getNarrowed wide ≡ refused 17)
+    → getNarrowed wide ≡ ask 17 had (given old)
+returns true old wide there none = round-trips .there-and-back old wide (there refl)
+returns false old wide there none = none refl
 
-    old-code : (i : ℕ) → i < stripLengthIn l → isOld (byteLampIn l i) ≡ true
+module _ (r : IsomorphicLayout) (l : Layout) (ok : Accepted r l) where
+  -- the first entries, where question 9 said yes to them
+  module _ (count : ℕ) (had : every (λ i. lampable (kindIn l i)) count ≡ true) where
+    each : (i : ℕ) → i < count → lampable (kindIn l i) ≡ true
+    each i h = each-of (λ k. lampable (kindIn l k)) count had i h
+
+    old-code : (i : ℕ) → i < count → isOld (byteLampIn l i) ≡ true
     old-code i h = by (eqb (i % l .octave) 0)
       where
         by : (b : Bool) → isOld (pick b 0 (byteCode (kindIn l i))) ≡ true
         by true = refl
         by false = code-is-old (kindIn l i) (each i h)
 
-    widens : (i : ℕ) → i < stripLengthIn l → wideCode (byteLampIn l i) ≡ lampIn l i
+    widens : (i : ℕ) → i < count → wideCode (byteLampIn l i) ≡ lampIn l i
     unfolding lampOf
     widens i h = by (eqb (i % l .octave) 0)
       where
@@ -91,13 +100,28 @@ module _ (r : IsomorphicLayout) (l : Layout) (ok : Accepted r l) where
         by true = sym (wide-plain 0 (omega arith))
         by false = code-widens (kindIn l i) (each i h)
 
-    pub widened : getWidened (byteStripIn l) ≡ given (stripIn l)
-    unfolding getWidened byteStripIn stripOf codesOf
-    widened =
+    codes-widen : getWidened (listed (byteLampIn l) count) ≡ given (listed (lampIn l) count)
+    unfolding getWidened
+    codes-widen =
         ap₂ (λ (b : Bool) (s : List ℕ). ask 17 b (given s))
-        (all-listed isOld (byteLampIn l) (stripLengthIn l) old-code)
-        (map-listed wideCode (byteLampIn l) (stripLengthIn l)
-        ∙ joined-same (λ i. wideCode (byteLampIn l i) ∷ []) (λ i. lampIn l i ∷ []) (stripLengthIn l) (λ i h. ap (λ (x : ℕ). x ∷ []) (widens i h)))
+        (all-listed isOld (byteLampIn l) count old-code)
+        (map-listed wideCode (byteLampIn l) count
+        ∙ joined-same (λ i. wideCode (byteLampIn l i) ∷ []) (λ i. lampIn l i ∷ []) count (λ i h. ap (λ (x : ℕ). x ∷ []) (widens i h)))
+
+  widened : hadLampsIn l ≡ true → getWidened (byteStripIn l) ≡ given (stripIn l)
+  unfolding hadLampsIn byteStripIn stripOf codesOf
+  widened had = codes-widen (stripLengthIn l) had
+
+  -- below the octave key 0 alone is home, by either rule
+  first-is : firstStripIn l ≡ listed (byteLampIn l) (l .octave)
+  unfolding firstStripIn
+  first-is =
+      joined-same (λ i. pick (eqb i 0) 0 (byteCode (kindIn l i)) ∷ []) (λ i. byteLampIn l i ∷ []) (l .octave)
+      (λ i h. ap (λ (k : ℕ). pick (eqb k 0) 0 (byteCode (kindIn l i)) ∷ []) (sym (mod-eq-of-lt h)))
+
+  first-widened : firstHadLampsIn l ≡ true → getWidened (firstStripIn l) ≡ given (take (l .octave) (stripIn l))
+  unfolding firstHadLampsIn codesOf
+  first-widened had = ap getWidened first-is ∙ codes-widen (l .octave) had ∙ ap given (sym (first-octave l))
 
   -- sharp layer 100 has a code that no old code converts to
   module _ (many : 202 < countIn l) where
@@ -117,25 +141,35 @@ module _ (r : IsomorphicLayout) (l : Layout) (ok : Accepted r l) where
         ∙ ap (λ (j : ℕ). lampCode (kindOf (countIn l) j)) (met-at r l ok many .2)
         ∙ sym (ap lampCode (kind-sharp (countIn l) 101 (λ e. omega (arith, e)) (omega (arith, many))))
 
-    pub not-narrowed : getNarrowed (stripIn l) ≡ refused 17
-    unfolding getNarrowed stripOf codesOf
-    not-narrowed =
-        let n = stripLengthIn l in
-        let inside = in-the-strip-at r l ok key (met-at r l ok many .1) in
-        ap (λ (b : Bool). ask 17 b (given (map oldCode (listed (lampIn l) n))))
-        (sym (one-fails isConverted (listed (lampIn l) n) key (omega (arith, inside, length-listed (lampIn l) n))
-        (ap isConverted (listed-at (lampIn l) n key inside ∙ its-code))))
+    no-way-back : (count : ℕ) → key < count → getNarrowed (listed (lampIn l) count) ≡ refused 17
+    unfolding getNarrowed
+    no-way-back count inside =
+        ap (λ (b : Bool). ask 17 b (given (map oldCode (listed (lampIn l) count))))
+        (sym (one-fails isConverted (listed (lampIn l) count) key (omega (arith, inside, length-listed (lampIn l) count))
+        (ap isConverted (listed-at (lampIn l) count key inside ∙ its-code))))
 
-  convert : StripsConvert l
-  convert = record { there = widened; back = by (hadLampsIn l) refl }
-    where
-      by : (b : Bool) → hadLampsIn l ≡ b → getNarrowed (stripIn l) ≡ ask 17 (hadLampsIn l) (given (byteStripIn l))
-      by true e =
-          round-trips .there-and-back (byteStripIn l) (stripIn l) (widened e)
-          ∙ ap (λ (b : Bool). ask 17 b (given (byteStripIn l))) (sym e)
-      by false e =
-          not-narrowed (leb-false (countIn l) 202 (sym (lamps-by-count-at r l ok) ∙ e))
-          ∙ ap (λ (b : Bool). ask 17 b (given (byteStripIn l))) (sym e)
+    not-narrowed : getNarrowed (stripIn l) ≡ refused 17
+    unfolding stripOf codesOf
+    not-narrowed = no-way-back (stripLengthIn l) (in-the-strip-at r l ok key (met-at r l ok many .1))
+
+    first-not-narrowed : getNarrowed (take (l .octave) (stripIn l)) ≡ refused 17
+    unfolding codesOf
+    first-not-narrowed = ap getNarrowed (first-octave l) ∙ no-way-back (l .octave) (met-at r l ok many .1)
 
 pub old-strips-convert : OldStripsConvert
-old-strips-convert r l ok = convert r l ok
+old-strips-convert r l ok =
+    record {
+      there = widened r l ok;
+      back =
+          returns (hadLampsIn l) (byteStripIn l) (stripIn l) (widened r l ok)
+          (λ e. not-narrowed r l ok (leb-false (countIn l) 202 (sym (lamps-by-count-at r l ok) ∙ e)));
+    }
+
+pub first-strips-convert : FirstStripsConvert
+first-strips-convert r l ok =
+    record {
+      there = first-widened r l ok;
+      back =
+          returns (firstHadLampsIn l) (firstStripIn l) (take (l .octave) (stripIn l)) (first-widened r l ok)
+          (λ e. first-not-narrowed r l ok (leb-false (countIn l) 202 (sym (first-lamps-by-count r l ok) ∙ e)));
+    }

@@ -29,7 +29,7 @@ use Rattle.layout_layers.proofs.LampCodeLaws.{limit-coded, codes-written}
 use Rattle.layout_layers.proofs.PlanLaws.{number-is, keys-are, turns-fill, kind-sharp, turn-below}
 use Rattle.layout_layers.proofs.Theorems.{counts-fit, each-number-is-met, first-keys}
 use Rattle.layout_layers.specs.LampCodes.{lampCode, codeOf}
-use Rattle.layout_lamps.specs.Lamps.{kindAt, lampOf, codesOf, stripOf, lampable, every, lampIn, stripLengthIn, stripIn, hadLampsIn, kindIn}
+use Rattle.layout_lamps.specs.Lamps.{kindAt, lampOf, codesOf, stripOf, lampable, every, lampIn, stripLengthIn, stripIn, hadLampsIn, firstHadLampsIn, kindIn}
 use Rattle.layout_lamps.specs.Parts.{planCodes, homed, planStrip, planLamp}
 
 pub equal-or-not : (i j : ℕ) → Dec (i ≡ j)
@@ -177,10 +177,9 @@ module _ (r : IsomorphicLayout) (l : Layout) (ok : Accepted r l) where
   unfolding kindAt
   kind-in i = refl
 
-  all-lamps : T ≤ 202 → hadLampsIn l ≡ true
-  unfolding hadLampsIn
-  all-lamps h =
-      every-true (λ i. lampable (kindIn l i)) (stripLengthIn l) (λ i. ap lampable (kind-in i) ∙ few-layers T (numberIn l i) h)
+  all-lamps : (count : ℕ) → T ≤ 202 → every (λ i. lampable (kindIn l i)) count ≡ true
+  all-lamps count h =
+      every-true (λ i. lampable (kindIn l i)) count (λ i. ap lampable (kind-in i) ∙ few-layers T (numberIn l i) h)
 
   -- a key of layer 101, which is sharp layer 100
   pub met-at : 202 < T → (key : ℕ) × (key < P) × (numberIn l key ≡ 101)
@@ -205,22 +204,30 @@ module _ (r : IsomorphicLayout) (l : Layout) (ok : Accepted r l) where
       by true = omega arith
       by false = h
 
-  some-lamp-missing : 202 < T → hadLampsIn l ≡ false
-  unfolding hadLampsIn
-  some-lamp-missing h =
+  -- in any entries that hold the octave's keys
+  some-lamp-missing : (count : ℕ) → ((i : ℕ) → i < P → i < count) → 202 < T → every (λ i. lampable (kindIn l i)) count ≡ false
+  some-lamp-missing count inside h =
       let key = met-at h in
-      every-false (λ i. lampable (kindIn l i)) (stripLengthIn l) (key .0) (in-the-strip-at (key .0) (key .1))
+      every-false (λ i. lampable (kindIn l i)) count (key .0) (inside (key .0) (key .1))
       (ap lampable
       (kind-in (key .0)
       ∙ ap (kindOf T) (key .2)
       ∙ sym (kind-sharp T 101 (λ e. omega arith) (omega arith))))
 
-  pub lamps-by-count-at : hadLampsIn l ≡ leb (countIn l) 202
-  lamps-by-count-at = by (leb (countIn l) 202) refl
+  lamps-by-count-to : (count : ℕ) → ((i : ℕ) → i < P → i < count) → every (λ i. lampable (kindIn l i)) count ≡ leb (countIn l) 202
+  lamps-by-count-to count inside = by (leb (countIn l) 202) refl
     where
-      by : (b : Bool) → leb (countIn l) 202 ≡ b → hadLampsIn l ≡ b
-      by true t = all-lamps (leb-true (countIn l) 202 t)
-      by false t = some-lamp-missing (leb-false (countIn l) 202 t)
+      by : (b : Bool) → leb (countIn l) 202 ≡ b → every (λ i. lampable (kindIn l i)) count ≡ b
+      by true t = all-lamps count (leb-true (countIn l) 202 t)
+      by false t = some-lamp-missing count inside (leb-false (countIn l) 202 t)
+
+  pub lamps-by-count-at : hadLampsIn l ≡ leb (countIn l) 202
+  unfolding hadLampsIn
+  lamps-by-count-at = lamps-by-count-to (stripLengthIn l) in-the-strip-at
+
+  pub first-lamps-by-count : firstHadLampsIn l ≡ leb (countIn l) 202
+  unfolding firstHadLampsIn
+  first-lamps-by-count = lamps-by-count-to P (λ i h. h)
 
 -- ---- the strip
 

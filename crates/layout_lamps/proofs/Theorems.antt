@@ -8,7 +8,7 @@ use lib.IntN.{ℤ, pos, _+ℤ_, _*ℤ_}
 use mathlib.Core.Logic.{_↔_}
 use native.Mathlib.Omega.{arith}
 use lib.Dec.{eqb, ltb}
-use lib.ListN.{take}
+use lib.ListN.{length, take}
 use lib.Seq.{take-append-seam}
 use borrow.Author.Tests.{eq-eqb, ne-eqb, eqb-true, eqb-false, ltb-true, ltb-false}
 use Rattle.answer.specs.Choice.{pick}
@@ -28,13 +28,13 @@ use Rattle.layout_layers.specs.declared.Layer.the-variants.{Natural, Sharp, Enh
 use Rattle.layout_layers.specs.KeyLayers.{equalized, kindOf, numberIn, countIn}
 use Rattle.layout_layers.proofs.Theorems.{counts-fit, numbers-are-below}
 use Rattle.layout_layers.specs.LampCodes.{lampCode}
-use Rattle.layout_lamps.specs.Lamps.{kindAt, lampOf, codesOf, stripOf, lampIn, stripLengthIn, kindIn}
+use Rattle.layout_lamps.specs.Lamps.{kindAt, lampOf, codesOf, stripOf, lampIn, stripLengthIn, stripIn, octaveStripIn, kindIn}
 use Rattle.layout_lamps.specs.Answers.{getLamp}
 use Rattle.layout_lamps.specs.Theorems.{CodesFit, CodesTellKindsApart, NoCodeIsShared, LampsByCount, OneHome, HomeKeys, StripsAreWhole, FirstOctaveStays, HomeChangesOneEntry}
-use Rattle.layout_lamps.proofs.StripLaws.{lamps-by-count-at, equal-or-not, between}
+use Rattle.layout_lamps.proofs.StripLaws.{lamps-by-count-at, first-lamps-by-count, equal-or-not, between}
 
 pub lamps-by-count : LampsByCount
-lamps-by-count r l ok = lamps-by-count-at r l ok
+lamps-by-count r l ok = (first-lamps-by-count r l ok, lamps-by-count-at r l ok)
 
 pub strips-are-whole : StripsAreWhole
 unfolding stripOf codesOf
@@ -42,21 +42,37 @@ strips-are-whole l = length-joined-each (λ i. lampIn l i ∷ []) 1 (λ i. refl)
 
 -- ---- what the first octave was, it is
 
+-- the first of so many and more
+front : (f : ℕ → List ℕ) → ((i : ℕ) → length (f i) ≡ 1) → (P more : ℕ) → take P (joined f (P + more)) ≡ joined f P
+front f one P more =
+    let behind = joined (λ i. f (P + i)) more in
+    ap (take P) (joined-add f P more)
+    ∙ ap (λ (k : ℕ). take k (joined f P ++ behind)) (sym (length-joined-each f 1 one P ∙ one-mul P))
+    ∙ take-append-seam (joined f P) behind
+
+pub first-octave : (l : Layout) → take (l .octave) (stripIn l) ≡ octaveStripIn l
+unfolding stripOf codesOf
+first-octave l = by (equalized (l .pattern))
+  where
+    P : ℕ
+    P = l .octave
+
+    f : ℕ → List ℕ
+    f i = lampIn l i ∷ []
+
+    whole : (n more : ℕ) → n ≡ P + more → take P (joined f n) ≡ joined f P
+    whole n more e = ap (λ (k : ℕ). take P (joined f k)) e ∙ front f (λ i. refl) P more
+
+    by : (b : Bool) → take P (joined f (pick b (2 * P) P)) ≡ joined f P
+    by true = whole (2 * P) P (omega arith)
+    by false = whole P 0 (omega arith)
+
 pub first-octave-stays : FirstOctaveStays
 unfolding stripOf codesOf
 first-octave-stays =
     record {
       unchanged = λ l e. ap (λ (b : Bool). joined (λ i. lampIn l i ∷ []) (pick b (2 * l .octave) (l .octave))) e;
-      first-half =
-          λ l e.
-          let P = l .octave in
-          let f : ℕ → List ℕ = λ i. lampIn l i ∷ [] in
-          let more = joined (λ i. f (P + i)) P in
-          ap (λ (b : Bool). take P (joined f (pick b (2 * P) P))) e
-          ∙ ap (λ (k : ℕ). take P (joined f k)) (let q : 2 * P ≡ P + P = omega arith in q)
-          ∙ ap (take P) (joined-add f P P)
-          ∙ ap (λ (k : ℕ). take k (joined f P ++ more)) (sym (length-joined-each f 1 (λ i. refl) P ∙ one-mul P))
-          ∙ take-append-seam (joined f P) more;
+      first-half = λ l e. first-octave l;
     }
 
 code-above : (k : Layer) → 0 < lampCode k

@@ -1,7 +1,7 @@
 -- Document 01's bench examples that are marked P, as document 02 amends them: one list of data, in the document's order, and one theorem
 -- that each holds.
 use lib.IntN.{pos}
-use Prim.Native.Nat.{ℕ}
+use Prim.Native.Nat.{ℕ, _<_}
 use mathlib.Core.List.{List, [], _∷_}
 use mathlib.Core.Path.{_≡_}
 use Rattle.answer.specs.Outcome.{Outcome, given, refused, andThen}
@@ -12,13 +12,16 @@ use Rattle.pergen.specs.declared.Accidentals.{Accidentals}
 use Rattle.pergen.specs.Answers as Pergen
 use Rattle.pergen.specs.Examples.{pergen, format}
 use Rattle.layout.specs.Answers.{getMos, getScaleName, getNoteName}
-use Rattle.layout.specs.Examples.{layout}
+use Rattle.layout.specs.Layouts.{layoutOutcome}
+use Rattle.layout.specs.Examples.{layout, beginning}
 use Rattle.layout_lamps.specs.Answers.{getStrip}
 
 pub data Example : Type 0 where
   -- the pattern of a layout, or its refusal: chain code, octave, tritave
   pattern : (code octave tritave : ℕ) → Outcome Mos → Example
-  -- its layer sizes
+  -- every layout with octave 0, whatever its chain, tritave and start: the number of its refusal
+  no-octave : ℕ → Example
+  -- the layer sizes of a layout
   sizes : (code octave tritave : ℕ) → List ℕ → Example
   -- its scale name
   scale : (code octave tritave : ℕ) → List ℕ → Example
@@ -42,7 +45,7 @@ examples =
     -- "code 0, 12, 19: 4.", "code 3, 12, 19: 3.", "octave 0: 2."
     ∷ pattern 0 12 19 (refused 4)
     ∷ pattern 3 12 19 (refused 3)
-    ∷ pattern 1 0 19 (refused 2)
+    ∷ no-octave 2
     -- "code 1, 24, 38: keys 1, 2, 3 are D*, (D#/Eb), (D#/Eb)*."
     ∷ name 1 24 38 1 (68 ∷ 42 ∷ [])
     ∷ name 1 24 38 2 (40 ∷ 68 ∷ 35 ∷ 47 ∷ 69 ∷ 98 ∷ 41 ∷ [])
@@ -61,6 +64,7 @@ examples =
 -- What an example says.
 abbrev pub Holds : Example → Type 0
 Holds (pattern code octave tritave m) = getMos (layout code octave tritave) ≡ m
+Holds (no-octave n) = (code tritave start : ℕ) → code < 6 → layoutOutcome (beginning start code 0 tritave) ≡ refused n
 Holds (sizes code octave tritave s) = andThen (getMos (layout code octave tritave)) (λ (m : Mos). given (layerSizes m)) ≡ given s
 Holds (scale code octave tritave text) = getScaleName (layout code octave tritave) ≡ given text
 Holds (name code octave tritave key text) = getNoteName (layout code octave tritave) (pos key) ≡ given text

@@ -9,7 +9,7 @@ use Rattle.answer.specs.Lent.{counted}
 use Rattle.layout.specs.declared.IsomorphicLayout.{IsomorphicLayout}
 use Rattle.layout.specs.Examples.{layout}
 use Rattle.layout_layers.specs.declared.Layer.the-variants.{Natural, Sharp, Enharmonic, Flat}
-use Rattle.layout_lamps.specs.Lamps.{earlierLampIn, byteCode, byteStripIn, hadLampsIn}
+use Rattle.layout_lamps.specs.Lamps.{earlierLampIn, byteCode, byteStripIn, hadLampsIn, firstStripIn, firstHadLampsIn}
 use Rattle.layout.specs.Answers.{ofLayout}
 use Rattle.layout.specs.Layouts.{Layout}
 use Rattle.layout_lamps.specs.Answers.{getStrip, getLamp}
@@ -93,9 +93,17 @@ pub record ExamplesHold : Type 0 where
   pub strips : map (λ (e : StripExample). getStrip (e .layout)) stripExamples ≡ map (λ (e : StripExample). e .strip) stripExamples
   pub lamps : map (λ (e : LampExample). getLamp (e .layout) (e .key)) lampExamples ≡ map (λ (e : LampExample). e .code) lampExamples
   pub long : counted (getStrip (layout 1 2400 3800)) ≡ given 2400
-  -- the strip of 2 7 8, and what question 9 said, as they were
+  -- the last strip of one-byte codes of 2 7 8, and what question 9 said
   pub old : ofLayout (layout 2 7 8) (λ (l : Layout). given (byteStripIn l)) ≡ given (0 ∷ 1 ∷ 1 ∷ 2 ∷ 102 ∷ 1 ∷ 1 ∷ [])
   pub had : map (λ (r : IsomorphicLayout). ofLayout r (λ (l : Layout). given (hadLampsIn l))) (layout 1 707 1111 ∷ layout 1 714 1122 ∷ layout 1 2400 3800 ∷ [])
       ≡ given true ∷ given false ∷ given false ∷ []
-  -- before W-206 the entry at the octave of code 3, 8, 13 was enharmonic
+  -- document 01: "code 1, 7, 11: .. strip 0 1 255 255 255 255 1", the lamps of its key table; "code 1, 2400, 3800: strip refused with 9"
+  pub first : map (λ (r : IsomorphicLayout). ofLayout r (λ (l : Layout). given (firstStripIn l))) (layout 1 7 11 ∷ layout 1 12 19 ∷ [])
+      ≡ given (0 ∷ 1 ∷ 255 ∷ 255 ∷ 255 ∷ 255 ∷ 1 ∷ [])
+      ∷ given (0 ∷ 255 ∷ 1 ∷ 1 ∷ 255 ∷ 1 ∷ 255 ∷ 1 ∷ 255 ∷ 1 ∷ 1 ∷ 255 ∷ [])
+      ∷ []
+  pub first-had : map (λ (r : IsomorphicLayout). ofLayout r (λ (l : Layout). given (firstHadLampsIn l)))
+      (layout 1 7 11 ∷ layout 1 2400 3800 ∷ [])
+      ≡ given true ∷ given false ∷ []
+  -- by the home rule before W-206 the entry at the octave of code 3, 8, 13 was enharmonic (in W-207's codes)
   pub earlier : ofLayout (layout 3 8 13) (λ (l : Layout). given (earlierLampIn l 8)) ≡ given 65535

@@ -51,11 +51,12 @@ stripLengthIn l = stripLength (l .octave) (l .pattern)
 abbrev pub stripIn : Layout → List ℕ
 stripIn l = stripOf (l .octave) (l .generator) (l .letters) (l .start) (l .pattern)
 
--- Document 01's strip, before W-204: the codes of one octave, whatever the sharpness. The key table still has these.
+-- One octave, whatever the sharpness, as before W-204, in W-207's codes. Below the octave key 0 alone is home, by W-206's rule and by
+-- document 01's. The key table has these codes.
 abbrev pub octaveStripIn : Layout → List ℕ
 octaveStripIn l = codesOf (l .octave) (l .generator) (l .letters) (l .start) (l .pattern) (l .octave)
 
--- The code of an entry before W-206: key 0 alone was home. For the statement `HomeGoesFirst`.
+-- The code of one entry by the home rule before W-206, key 0 alone, in W-207's codes. For the statement `HomeGoesFirst`.
 abbrev pub earlierLampIn : Layout → ℕ → ℕ
 earlierLampIn l i = pick (eqb i 0) home (lampCode (kindAt (l .octave) (l .generator) (l .letters) (l .start) (l .pattern) i))
 
@@ -63,7 +64,7 @@ earlierLampIn l i = pick (eqb i 0) home (lampCode (kindAt (l .octave) (l .genera
 abbrev pub kindIn : Layout → ℕ → Layer
 kindIn l i = kindAt (l .octave) (l .generator) (l .letters) (l .start) (l .pattern) i
 
--- ---- codes of one byte, before W-207
+-- ---- codes of one byte, before W-207: for the statements of what became of old strips
 
 -- Document 01: "natural 1, sharp k 2 + k, flat k 102 + k, enharmonic 255".
 unfoldable pub byteCode : Layer → ℕ
@@ -72,7 +73,7 @@ byteCode (Sharp k) = 2 + k
 byteCode (Enharmonic k) = 255
 byteCode (Flat k) = 102 + k
 
--- The strip as it was: for the statements `StripsConvert` and `LampsByCount` alone.
+-- The last strip of one-byte codes: as long as today's (W-204), home where today's is (W-206), and with document 01's codes.
 abbrev pub byteLampIn : Layout → ℕ → ℕ
 byteLampIn l i = pick (eqb (i % l .octave) 0) home (byteCode (kindIn l i))
 
@@ -92,7 +93,18 @@ abbrev pub every : (ℕ → Bool) → ℕ → Bool
 every test zero = true
 every test (suc count) = test count && every test count
 
--- 9. "Is every sharp and flat layer number of the lamp strip below 100?" Where not, there was no strip.
+-- 9, of that strip, so of all its entries: "Is every sharp and flat layer number of the lamp strip below 100?" Where not, there was none.
 unfoldable pub hadLampsIn : Layout → Bool
 unfolding kindAt
 hadLampsIn l = every (λ i. lampable (kindIn l i)) (stripLengthIn l)
+
+-- Document 01's own strip, before W-204, W-206 and W-207: "A lamp strip holds P one-byte codes: key 0 is 0, home. Other keys, from the
+-- first P layer entries: natural 1, sharp k 2 + k, flat k 102 + k, enharmonic 255."
+unfoldable pub firstStripIn : Layout → List ℕ
+unfolding joined byteCode kindAt
+firstStripIn l = joined (λ i. pick (eqb i 0) home (byteCode (kindIn l i)) ∷ []) (l .octave)
+
+-- 9, of document 01's own strip, so of the first P entries.
+unfoldable pub firstHadLampsIn : Layout → Bool
+unfolding kindAt
+firstHadLampsIn l = every (λ i. lampable (kindIn l i)) (l .octave)

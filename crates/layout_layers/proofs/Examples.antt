@@ -7,4 +7,4 @@ use Rattle.layout_layers.specs.Examples.{ExamplesHold}
 
 pub examples-hold : ExamplesHold
 unfolding getLayers getLayerCount getLayer kindOf lampCode
-examples-hold = record { totals = refl; numbers = refl; kinds = refl; keys = refl; codes = refl; last-codes = refl; no-number = refl }
+examples-hold = record { totals = refl; numbers = refl; kinds = refl; keys = refl; codes = refl; last-codes = refl; no-number = refl; no-numbers = refl }

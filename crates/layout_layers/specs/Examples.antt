@@ -107,7 +107,7 @@ keyExamples =
     ∷ record { layout = layout 0 12 19; key = pos 0; number = refused 4 }
     ∷ []
 
--- Theorem: the definitions give what the examples say. A number from T on counts as flat 0.
+-- Theorem: the definitions give what the examples say.
 pub record ExamplesHold : Type 0 where
   pub totals : map (λ (e : NumbersExample). getLayerCount (e .layout)) numbersExamples ≡ map (λ (e : NumbersExample). e .total) numbersExamples
   pub numbers : map (λ (e : NumbersExample). getLayers (e .layout)) numbersExamples ≡ map (λ (e : NumbersExample). e .numbers) numbersExamples
@@ -116,4 +116,6 @@ pub record ExamplesHold : Type 0 where
   pub codes : map lampCode (Natural ∷ Sharp 0 ∷ Sharp 99 ∷ Flat 0 ∷ Flat 99 ∷ Enharmonic 7 ∷ []) ≡ 1 ∷ 2 ∷ 200 ∷ 3 ∷ 201 ∷ 65535 ∷ []
   -- the last of each kind that 16 bits hold
   pub last-codes : map lampCode (Sharp 32766 ∷ Flat 32765 ∷ []) ≡ 65534 ∷ 65533 ∷ []
+  -- a number from T on counts as flat 0, but 0 is natural, where T is 0 too
   pub no-number : map (kindOf 5) (2 ∷ 3 ∷ 5 ∷ 9 ∷ []) ≡ Sharp 1 ∷ Flat 1 ∷ Flat 0 ∷ Flat 0 ∷ []
+  pub no-numbers : map (kindOf 0) (0 ∷ 1 ∷ 2 ∷ []) ≡ Natural ∷ Flat 0 ∷ Flat 0 ∷ []

@@ -60,7 +60,7 @@ unfolding layerSizes cycles
 layerCount P G m = pick (equalized m) 2 (length (layerSizes m)) * cycles P G
 
 -- "0 is natural, j below T / 2 is sharp j − 1, j = T / 2 is enharmonic j − 1, any other is flat T − j − 1": the half is exact.
--- A number from T on, which no entry has, counts as flat 0.
+-- A number from T on, which no entry has, counts as flat 0, but 0 is natural whatever T is.
 unfoldable pub kindOf : (T j : ℕ) → Layer
 kindOf T j =
     pick (eqb j 0) Natural

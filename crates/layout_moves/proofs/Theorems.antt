@@ -28,7 +28,7 @@ use Rattle.layout.proofs.Finding.{Parts, accepted}
 use Rattle.layout_moves.specs.Answers.{movesIn, getMoves, moveNumbers, getMoveNumbers}
 use Rattle.layout_moves.specs.Theorems.{OwnMoves, LayoutsHaveMoves, MovesReachEveryKey}
 
-own-moves : (l : Layout) → Parts l → (t : Table) × OwnMoves l t
+own-moves : (l : Layout) → Parts l → (t : Table ℤ) × OwnMoves l t
 unfolding movesIn
 own-moves l p =
     let P = l .octave in
@@ -93,12 +93,12 @@ moves-reach-every-key r l e key =
 pub on-walk : (l : Layout) → Parts l → OnWalk (l .octave) (l .generator) (l .pattern)
 on-walk l p = let own = own-moves l p in (own .1 .at .0, own .1 .at .1 .pattern)
 
-module _ (r : IsomorphicLayout) (before : Table) where
+module _ (r : IsomorphicLayout) (before : Table ℤ) where
   pub moves-refused : (n : ℕ) → refused n ≡ layoutOutcome r → Tabled (refused n) (getMos r) (getMoves r) before before
   unfolding getMoves
   moves-refused n e = tabled-refused n (mos-refused r n e) (sym (of-refused r (λ (l : Layout). given (movesIn l)) n e))
 
-  pub moves-given : (l : Layout) → given l ≡ layoutOutcome r → (t : Table) → t ≡ patternMoves (l .octave) (l .generator) (l .pattern)
+  pub moves-given : (l : Layout) → given l ≡ layoutOutcome r → (t : Table ℤ) → t ≡ patternMoves (l .octave) (l .generator) (l .pattern)
       → Tabled (given (l .pattern)) (getMos r) (getMoves r) before t
   unfolding getMoves
   moves-given l e t is =
@@ -116,7 +116,7 @@ module _ (r : IsomorphicLayout) (xs : List ℤ) where
       signed-refused n xs (ap (inSignedRoom (length xs)) (sym (of-refused r (λ (l : Layout). given (moveNumbers (movesIn l))) n e)))
 
   module _ (l : Layout) (e : given l ≡ layoutOutcome r) where
-    abbrev own : Table
+    abbrev own : Table ℤ
     own = patternMoves (l .octave) (l .generator) (l .pattern)
 
     asked : getMoveNumbers r ≡ given (numbersOf own)
@@ -124,13 +124,13 @@ module _ (r : IsomorphicLayout) (xs : List ℤ) where
     asked =
         let mine = own-moves l (accepted r l (sym e)) in
         sym (of-given r (λ (k : Layout). given (moveNumbers (movesIn k))) l e)
-        ∙ ap (λ (o : Option Table). given (moveNumbers o)) (mine .1 .are ∙ ap some (mine .1 .by-pattern))
+        ∙ ap (λ (o : Option (Table ℤ)). given (moveNumbers o)) (mine .1 .are ∙ ap some (mine .1 .by-pattern))
 
     pub numbers-short : length xs < 4 → FilledSigned (inSignedRoom (length xs) (getMoveNumbers r)) (refused 10) xs xs
     numbers-short h = signed-short xs (numbersOf own) asked h
 
-    pub numbers-given : 4 ≤ length xs → (t : Table) → t ≡ own → {ys : List ℤ} {next : ℕ} → StoredFrom xs 0 (numbersOf t) ys next
+    pub numbers-given : 4 ≤ length xs → (t : Table ℤ) → t ≡ own → {ys : List ℤ} {next : ℕ} → StoredFrom xs 0 (numbersOf t) ys next
         → FilledSigned (inSignedRoom (length xs) (getMoveNumbers r)) (given next) xs ys
     numbers-given room t is {ys} {next} w =
         signed-given xs (numbersOf own) asked room
-        (subst (λ (u : Table). StoredFrom xs 0 (numbersOf u) ys next) is w)
+        (subst (λ (u : Table ℤ). StoredFrom xs 0 (numbersOf u) ys next) is w)

@@ -12,16 +12,16 @@ use Rattle.layout.specs.Answers.{ofLayout}
 
 -- The moves of the pattern that question 4 asks for, the first with as many steps as the chain has letters, on the walk from the genesis of
 -- octave and generator.
-unfoldable pub movesIn : Layout → Option Table
+unfoldable pub movesIn : Layout → Option (Table ℤ)
 unfolding movesWith genesisMoves children
 movesIn l = movesWith (l .letters) (children (genesis (l .octave) (l .generator))) (genesisMoves (l .octave) (l .generator))
 
-unfoldable pub getMoves : IsomorphicLayout → Outcome (Option Table)
+unfoldable pub getMoves : IsomorphicLayout → Outcome (Option (Table ℤ))
 unfolding layoutOutcome movesIn
 getMoves r = ofLayout r (λ (l : Layout). given (movesIn l))
 
 -- The four numbers of a table.
-abbrev pub moveNumbers : Option Table → List ℤ
+abbrev pub moveNumbers : Option (Table ℤ) → List ℤ
 moveNumbers none = []
 moveNumbers (some t) = numbersOf t
 

@@ -2,7 +2,7 @@
 use mathlib.Core.List.{List, [], _∷_, map}
 use mathlib.Core.Option.{Option, some}
 use mathlib.Core.Path.{_≡_}
-use lib.IntN.{pos, negsuc}
+use lib.IntN.{ℤ, pos, negsuc}
 use Rattle.answer.specs.Outcome.{Outcome, given, refused}
 use Rattle.mos_moves.specs.Moves.{Table, row}
 use Rattle.layout.specs.declared.IsomorphicLayout.{IsomorphicLayout}
@@ -11,7 +11,7 @@ use Rattle.layout_moves.specs.Answers.{getMoves, getMoveNumbers}
 
 pub record MovesExample : Type 0 where
   pub layout : IsomorphicLayout
-  pub moves : Outcome (Option Table)
+  pub moves : Outcome (Option (Table ℤ))
 
 abbrev pub movesExamples : List MovesExample
 movesExamples =

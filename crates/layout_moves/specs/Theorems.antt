@@ -13,7 +13,7 @@ use Rattle.layout_moves.specs.Answers.{movesIn}
 
 -- A layout always has moves, those that stand beside its pattern on the walk. So their rows reach the steps, the determinant is −1, the
 -- numbers are small, where octave and generator have 16 bits, and all octaves and generators are made of them in one way.
-pub record OwnMoves (l : Layout) (t : Table) : Type 0 where
+pub record OwnMoves (l : Layout) (t : Table ℤ) : Type 0 where
   pub are : movesIn l ≡ some t
   pub at : (k : ℕ) × MovesAt (l .octave) (l .generator) k (l .pattern) t
   pub by-pattern : t ≡ patternMoves (l .octave) (l .generator) (l .pattern)
@@ -21,7 +21,7 @@ pub record OwnMoves (l : Layout) (t : Table) : Type 0 where
   pub reach : (x y : ℤ) → ReachedInOneWay (l .octave) (l .generator) (l .pattern) t x y
 
 abbrev pub LayoutsHaveMoves : Type 0
-LayoutsHaveMoves = (r : IsomorphicLayout) (l : Layout) → Accepted r l → (t : Table) × OwnMoves l t
+LayoutsHaveMoves = (r : IsomorphicLayout) (l : Layout) → Accepted r l → (t : Table ℤ) × OwnMoves l t
 
 -- And the two moves reach every key, each from the key with its cycle's number: where there is one cycle, from key 0.
 abbrev pub MovesReachEveryKey : Type 0

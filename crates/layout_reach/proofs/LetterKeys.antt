@@ -39,8 +39,7 @@ use Rattle.layout.specs.Names.{placeIn, keyOf, printedIn, nameIn}
 use Rattle.layout.specs.Theorems.{SoundsKey}
 use Rattle.layout.proofs.Finding.{Parts, accepted}
 use Rattle.layout.proofs.Naming.{enough-keys, lettered, names-sound-their-key}
-use Rattle.layout_reach.specs.Reach.{passing, starred, bears, keysOf}
-use Rattle.layout_reach.specs.Parts.{run}
+use Rattle.layout_reach.specs.Reach.{run, passing, starred, bears, keysOf}
 use Rattle.layout_reach.specs.Theorems.{BearsIsTheName, bare, BareLettersSoundTheirKeys, LettersHaveKeys}
 use Rattle.layout_reach.proofs.Passing.{length-run, kept-to, left-out-to, none-passes, not-true}
 
@@ -160,7 +159,7 @@ module _ (r : IsomorphicLayout) (l : Layout) (e : Accepted r l) (letter : ℕ) (
       rep-agree (place-sharps N (l .start) letter 0 s) (rep-minus (rep-pos letter) (rep-pos (l .start))) (omega (arith, mul-zero N))
 
   pub key-bare : (s : ℕ) → keyOf l (bare letter s) ≡ sounds P G at s
-  unfolding keyOf
+  unfolding keyOf placeIn
   key-bare s = ap (λ (z : ℤ). sounds P G z s) (place-bare s)
 
   -- a key that is sounded so has the degree that the letter's place leaves

@@ -11,8 +11,7 @@ use native.Mathlib.Nat.{add-zero, zero-add, suc-add, add-suc, eq-or-lt-of-le, ad
 use native.Mathlib.Omega.{arith}
 use Rattle.answer.proofs.Asked.{and-left, and-right}
 use Rattle.pergen.specs.Pergen.{first}
-use Rattle.layout_reach.specs.Reach.{passing}
-use Rattle.layout_reach.specs.Parts.{run}
+use Rattle.layout_reach.specs.Reach.{run, passing}
 use Rattle.layout_reach.specs.Theorems.{RisingFrom}
 
 -- ---- runs

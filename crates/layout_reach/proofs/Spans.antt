@@ -21,9 +21,9 @@ use Rattle.layout.specs.declared.IsomorphicLayout.{IsomorphicLayout}
 use Rattle.layout.specs.Layouts.{Layout, layoutOutcome}
 use Rattle.layout.specs.Answers.{inRoom}
 use Rattle.layout.proofs.Calls.{of-refused, of-given, parts-of, filled-as, refused-in-room}
-use Rattle.layout_reach.specs.Reach.{distance, passing, inReach}
+use Rattle.layout_reach.specs.Reach.{distance, run, passing, inReach}
 use Rattle.layout_reach.specs.Answers.{getReach, CountsReach}
-use Rattle.layout_reach.specs.Parts.{SpanOf, run}
+use Rattle.layout_reach.specs.Parts.{SpanOf}
 use Rattle.layout_reach.specs.Theorems.{ReachIs, ReachIsExact}
 use Rattle.layout_reach.specs.declared.parts.Span.{Span}
 use Rattle.layout_reach.proofs.Distances.{gap, distance-is, distance-key}

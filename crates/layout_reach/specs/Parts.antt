@@ -1,19 +1,13 @@
 -- What the parts behind the calls promise, by the numbers that the code carries.
-use Prim.Native.Nat.{ℕ, zero, suc, _+_, _*_, _-_, _<_, _≤_, min}
+use Prim.Native.Nat.{ℕ, _+_, _*_, _-_, _<_, _≤_, min}
 use mathlib.Core.Path.{_≡_}
 use mathlib.Core.Logic.{_⊎_}
-use mathlib.Core.List.{List, [], _∷_}
 use lib.IntN.{ℤ, pos, _-ℤ_}
 use Rattle.math.specs.Division.{remainder}
 use Rattle.pergen.specs.Pergen.{cycles}
 use Rattle.pergen.specs.Spelling.{sounds}
 use Rattle.layout_reach.specs.Reach.{distance}
 use Rattle.layout_reach.specs.declared.parts.Span.{Span}
-
--- The numbers from `from` on, so many.
-unfoldable pub run : ℕ → ℕ → List ℕ
-run from zero = []
-run from (suc count) = from ∷ run (suc from) count
 
 -- n neighbouring keys of the octave, from `base` on.
 pub record Block (octave base n : ℕ) : Type 0 where

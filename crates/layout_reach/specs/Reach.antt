@@ -17,6 +17,11 @@ use Rattle.layout.specs.Names.{nameIn}
 unfoldable pub distance : ℕ → ℤ → ℤ → ℕ
 distance octave x y = min (remainder (x -ℤ y) octave) (remainder (y -ℤ x) octave)
 
+-- The numbers from `from` on, so many.
+unfoldable pub run : ℕ → ℕ → List ℕ
+run from zero = []
+run from (suc count) = from ∷ run (suc from) count
+
 -- The numbers from `from` on, `count` of them, that pass a test: "each once, rising".
 unfoldable pub passing : (ℕ → Bool) → ℕ → ℕ → List ℕ
 passing test zero from = []

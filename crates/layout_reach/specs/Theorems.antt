@@ -16,9 +16,8 @@ use Rattle.pergen.specs.declared.Spelling.{Spelling}
 use Rattle.layout.specs.declared.IsomorphicLayout.{IsomorphicLayout}
 use Rattle.layout.specs.Layouts.{Layout, Accepted, cyclesIn}
 use Rattle.layout.specs.Names.{IsSpelling, keyOf, nameIn}
-use Rattle.layout_reach.specs.Reach.{distance, bears, keysOf, inReach}
+use Rattle.layout_reach.specs.Reach.{distance, run, bears, keysOf, inReach}
 use Rattle.layout_reach.specs.Answers.{getNearest}
-use Rattle.layout_reach.specs.Parts.{run}
 
 -- ---- distances
 

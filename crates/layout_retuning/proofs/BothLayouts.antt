@@ -6,7 +6,7 @@ use lib.IntN.{ℤ, pos}
 use Rattle.answer.specs.Outcome.{Outcome, given, refused, andThen}
 use Rattle.answer.proofs.Asked.{given-same}
 use Rattle.genchain.proofs.GoodChains.{chains-are-good}
-use Rattle.pergen.specs.Spelling.{place, sounds, soundedKey}
+use Rattle.pergen.specs.Spelling.{place, sounds}
 use Rattle.pergen.specs.declared.Spelling.{Spelling}
 use Rattle.layout.specs.Layouts.{Layout, layoutOutcome, Accepted, lettersOf}
 use Rattle.layout.specs.Names.{placeIn, keyOf}
@@ -65,11 +65,11 @@ module _ (l m : Layout) (s : Shared l m) (x : Spelling) where
 
   -- the second layout's key, by the numbers of the first and its own generator
   pub second-key : keyOf m x ≡ sounds (l .octave) (m .generator) (placeIn l x) (x .stars)
-  unfolding keyOf
+  unfolding keyOf placeIn
   second-key = ap₂ (λ (P : ℕ) (u : ℤ). sounds P (m .generator) u (x .stars)) (s .octave) (sym place-shared)
 
   pub moved-by-numbers : stepsBy (tuningsOf l m) x ≡ moved l m x
-  unfolding stepsBy moved keyOf placeIn soundedKey
+  unfolding stepsBy moved keyOf placeIn
   moved-by-numbers = ap (λ (k : ℕ). distance (l .octave) (pos (keyOf l x)) (pos k)) (sym second-key)
 
 -- ---- what an answer tells

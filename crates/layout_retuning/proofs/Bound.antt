@@ -94,7 +94,7 @@ module _ (l m : Layout) (s : Shared l m) (x : Spelling) where
   far u = distance (l .octave) (pos (l .generator) *ℤ u) (pos (m .generator) *ℤ u)
 
   place-alone : moved l m x ≡ far (placeIn l x)
-  unfolding moved keyOf
+  unfolding moved keyOf placeIn
   place-alone =
       ap (λ (k : ℕ). distance (l .octave) (pos (keyOf l x)) (pos k)) (second-key l m s x)
       ∙ stars-and-octaves-aside (l .octave) (l .generator) (m .generator) (placeIn l x) (x .stars) (s .positive)

@@ -1,1 +1,2 @@
+pub mod BySharpness
 pub mod ScalePlaces

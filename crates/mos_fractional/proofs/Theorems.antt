@@ -12,7 +12,7 @@ use Rattle.mos_fractional.specs.declared.FractionalMos.{FractionalMos}
 use Rattle.mos_fractional.specs.Fractional.{primaries, secondaries, countOf, genesis, childOf}
 use Rattle.mos_fractional.specs.Walk.{onward, walk, children, childrenFrom}
 use Rattle.mos_fractional.specs.Parts.{Growing}
-use Rattle.mos_fractional.specs.Theorems.{WalkIsWhole, CountsGrow, WholePartsAreExact, RemainderIsExact}
+use Rattle.mos_fractional.specs.Theorems.{WalkIsWhole, FractionalCountsGrow, WholePartsAreExact, RemainderIsExact}
 use Rattle.mos_fractional.proofs.Descent.{child-at, child-counts, child-fits, child-grows}
 use Rattle.mos_fractional.proofs.Walking.{left, growing-child, growing-genesis, children-follow}
 use Rattle.mos_fractional.proofs.Rounding.{positive-parts}
@@ -67,8 +67,8 @@ genesis-fits : (g : Float) → Fits (genesis g)
 unfolding genesis
 genesis-fits g = (lit≤ tt, lit≤ tt)
 
-pub counts-grow : CountsGrow
-counts-grow =
+pub fractional-counts-grow : FractionalCountsGrow
+fractional-counts-grow =
     record {
       never-fall = λ m c e. child-counts (child-at e);
       grow = λ m c p s e. child-grows (child-at e) p s;

@@ -26,7 +26,7 @@ pub record WalkIsWhole : Type 0 where
 
 -- Theorem: counts only grow, from any record to its child; with each child of a walk their sum does; and "two counts up to 65,535" they
 -- stay.
-pub record CountsGrow : Type 0 where
+pub record FractionalCountsGrow : Type 0 where
   pub never-fall : (m c : FractionalMos) → childOf m ≡ some c → (primaries m ≤ primaries c) × (secondaries m ≤ secondaries c)
   pub grow : (m c : FractionalMos) → 0 < primaries m → 0 < secondaries m → childOf m ≡ some c → countOf m < countOf c
   pub fit : (g : Float) (k : ℕ) (m : FractionalMos) → getElem? (childrenFrom g) k ≡ some m → (primaries m ≤ 65535) × (secondaries m ≤ 65535)

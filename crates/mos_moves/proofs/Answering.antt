@@ -28,56 +28,56 @@ use Rattle.mos_moves.proofs.Listing.{stored-front}
 
 -- ---- lent tables
 
-module _ {A : Type 0} {answer outcome : Outcome A} {table : Outcome (Option Table)} {before : Table} where
+module _ {A : Type 0} {answer outcome : Outcome A} {table : Outcome (Option (Table ℤ))} {before : Table ℤ} where
   -- a refusal, and an answer without moves, with the table untouched
   pub tabled-refused : (n : ℕ) → answer ≡ outcome → table ≡ refused n → Tabled answer outcome table before before
-  tabled-refused n e f = record { answered = e; content = sym (ap (λ (o : Outcome (Option Table)). tableAfter o before) f) }
+  tabled-refused n e f = record { answered = e; content = sym (ap (λ (o : Outcome (Option (Table ℤ))). tableAfter o before) f) }
 
   pub tabled-none : answer ≡ outcome → table ≡ given none → Tabled answer outcome table before before
-  tabled-none e f = record { answered = e; content = sym (ap (λ (o : Outcome (Option Table)). tableAfter o before) f) }
+  tabled-none e f = record { answered = e; content = sym (ap (λ (o : Outcome (Option (Table ℤ))). tableAfter o before) f) }
 
-  pub tabled-moves : (t : Table) → answer ≡ outcome → table ≡ given (some t) → Tabled answer outcome table before t
-  tabled-moves t e f = record { answered = e; content = sym (ap (λ (o : Outcome (Option Table)). tableAfter o before) f) }
+  pub tabled-moves : (t : Table ℤ) → answer ≡ outcome → table ≡ given (some t) → Tabled answer outcome table before t
+  tabled-moves t e f = record { answered = e; content = sym (ap (λ (o : Outcome (Option (Table ℤ))). tableAfter o before) f) }
 
 -- ---- the genesis
 
-pub genesis-refused : (P G : ℕ) → P ≡ 0 → (before : Table) → Tabled (refused 2) (genesisOutcome P G) (genesisTable P G) before before
+pub genesis-refused : (P G : ℕ) → P ≡ 0 → (before : Table ℤ) → Tabled (refused 2) (genesisOutcome P G) (genesisTable P G) before before
 unfolding genesisOutcome genesisTable
 genesis-refused P G e before = tabled-refused 2 (sym (ask-none 2 P _ e)) (ask-none 2 P _ e)
 
-pub genesis-tabled : (P G : ℕ) → (P ≡ 0 → ⊥) → (m : Mos) (t before : Table) → m ≡ genesis P G → t ≡ genesisMoves P G
+pub genesis-tabled : (P G : ℕ) → (P ≡ 0 → ⊥) → (m : Mos) (t before : Table ℤ) → m ≡ genesis P G → t ≡ genesisMoves P G
     → Tabled (given m) (genesisOutcome P G) (genesisTable P G) before t
 unfolding genesisOutcome genesisTable
 genesis-tabled P G h m t before e f =
-    tabled-moves t (ap given e ∙ sym (ask-some 2 P _ h)) (ask-some 2 P _ h ∙ ap (λ (u : Table). given (some u)) (sym f))
+    tabled-moves t (ap given e ∙ sym (ask-some 2 P _ h)) (ask-some 2 P _ h ∙ ap (λ (u : Table ℤ). given (some u)) (sym f))
 
 -- ---- the k-th pattern: what is left of the walk from here is what is left of it from the genesis
 
-pub record Descending (P G k : ℕ) (m : Mos) (t : Table) (left : ℕ) : Type 0 where
+pub record Descending (P G k : ℕ) (m : Mos) (t : Table ℤ) (left : ℕ) : Type 0 where
   pub positive : 1 ≤ P
   pub going : Going P G m t
   pub pattern-left : getElem? (children m) left ≡ getElem? (children (genesis P G)) k
   pub moves-left : getElem? (movesAlong (children m) t) left ≡ getElem? (walkMoves P G) k
 
-pub nth-start : (P G k : ℕ) → 1 ≤ P → (m : Mos) (t : Table) → m ≡ genesis P G → t ≡ genesisMoves P G → Descending P G k m t k
+pub nth-start : (P G k : ℕ) → 1 ≤ P → (m : Mos) (t : Table ℤ) → m ≡ genesis P G → t ≡ genesisMoves P G → Descending P G k m t k
 nth-start P G k h m t e f =
     subst (λ (n : Mos). Descending P G k n t k) (sym e)
-    (subst (λ (u : Table). Descending P G k (genesis P G) u k) (sym f)
+    (subst (λ (u : Table ℤ). Descending P G k (genesis P G) u k) (sym f)
     (record {
       positive = h;
       going = going-genesis P G h;
       pattern-left = refl;
-      moves-left = ap (λ (l : List Table). getElem? l k) (walk-starts P G);
+      moves-left = ap (λ (l : List (Table ℤ)). getElem? l k) (walk-starts P G);
     }))
 
-pub nth-refused : (P G k : ℕ) → P ≡ 0 → (before : Table) → Tabled (refused 2) (nthOutcome P G k) (nthTable P G k) before before
+pub nth-refused : (P G k : ℕ) → P ≡ 0 → (before : Table ℤ) → Tabled (refused 2) (nthOutcome P G k) (nthTable P G k) before before
 unfolding nthOutcome nthTable
 nth-refused P G k e before = tabled-refused 2 (sym (ask-none 2 P _ e)) (ask-none 2 P _ e)
 
-module _ {P G k : ℕ} {m : Mos} {t : Table} {left : ℕ} (d : Descending P G k m t left) where
-  pub nth-next : (left ≡ 0 → ⊥) → {c : Mos} → childOf m ≡ some c → {u : Table} → u ≡ childMoves m t → Descending P G k c u (left - 1)
+module _ {P G k : ℕ} {m : Mos} {t : Table ℤ} {left : ℕ} (d : Descending P G k m t left) where
+  pub nth-next : (left ≡ 0 → ⊥) → {c : Mos} → childOf m ≡ some c → {u : Table ℤ} → u ≡ childMoves m t → Descending P G k c u (left - 1)
   nth-next h {c} e f =
-      subst (λ (x : Table). Descending P G k c x (left - 1)) (sym f)
+      subst (λ (x : Table ℤ). Descending P G k c x (left - 1)) (sym f)
       (record {
         positive = d .positive;
         going = going-child P G m c t e (d .going);
@@ -92,15 +92,15 @@ module _ {P G k : ℕ} {m : Mos} {t : Table} {left : ℕ} (d : Descending P G k 
   unfolding nthOutcome
   pattern-asked o e = ap given (e ∙ d .pattern-left) ∙ sym (ask-some 2 P _ some-period)
 
-  moves-asked : (o : Option Table) → o ≡ getElem? (movesAlong (children m) t) left → nthTable P G k ≡ given o
+  moves-asked : (o : Option (Table ℤ)) → o ≡ getElem? (movesAlong (children m) t) left → nthTable P G k ≡ given o
   unfolding nthTable
   moves-asked o e = ask-some 2 P _ some-period ∙ ap given (sym (e ∙ d .moves-left))
 
-  pub nth-here : left ≡ 0 → (before : Table) → Tabled (given (some m)) (nthOutcome P G k) (nthTable P G k) before t
+  pub nth-here : left ≡ 0 → (before : Table ℤ) → Tabled (given (some m)) (nthOutcome P G k) (nthTable P G k) before t
   nth-here e before =
       tabled-moves t (pattern-asked (some m) (child-here m left e)) (moves-asked (some t) (moves-here m t left e))
 
-  pub nth-none : (left ≡ 0 → ⊥) → isSome (childOf m) ≡ false → (before : Table)
+  pub nth-none : (left ≡ 0 → ⊥) → isSome (childOf m) ≡ false → (before : Table ℤ)
       → Tabled (given none) (nthOutcome P G k) (nthTable P G k) before before
   nth-none h e before =
       tabled-none (pattern-asked none (child-never m left h e)) (moves-asked none (moves-never m t left h e))

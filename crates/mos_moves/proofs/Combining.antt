@@ -158,7 +158,7 @@ module _ (u v a b : ℕ) (unit : v * b ≡ u * a + 1) where
 
 -- ---- of the moves of a walk
 
-reached-shape : (P G : ℕ) (m : Mos) (t : Table) (g : Going P G m t) (x y : ℤ) → ReachedInOneWay P G m (shape m (g .u) (g .v)) x y
+reached-shape : (P G : ℕ) (m : Mos) (t : Table ℤ) (g : Going P G m t) (x y : ℤ) → ReachedInOneWay P G m (shape m (g .u) (g .v)) x y
 reached-shape P G m t g x y =
     let a = primaries m in
     let b = secondaries m in
@@ -183,4 +183,4 @@ reached-shape P G m t g x y =
 pub moves-reach-all : MovesReachAll
 moves-reach-all P G k m t h at x y =
     let g = going-at P G k m t h at in
-    subst (λ (s : Table). ReachedInOneWay P G m s x y) (sym (g .is)) (reached-shape P G m t g x y)
+    subst (λ (s : Table ℤ). ReachedInOneWay P G m s x y) (sym (g .is)) (reached-shape P G m t g x y)

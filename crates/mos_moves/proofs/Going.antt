@@ -13,8 +13,7 @@ use Rattle.mos.specs.Patterns.{mos, primaries, secondaries, primary, secondary,
 use Rattle.mos.proofs.Sizes.{fits-pattern, counts-fit}
 use Rattle.mos.proofs.Descent.{Child, longer-primary, longer-secondary, child-at, child-keeps-size, child-steps}
 use Rattle.mos.proofs.Theorems.{genesis-size}
-use Rattle.mos_moves.specs.Moves.{Row, Table, row, primaryRow, secondaryRow, lessRow, childMoves, genesisMoves, reached, determinant}
-use Rattle.mos_moves.specs.Parts.{SmallTable}
+use Rattle.mos_moves.specs.Moves.{Row, Table, row, primaryRow, secondaryRow, lessRow, childMoves, genesisMoves, reached, determinant, SmallTable}
 use Rattle.mos_moves.specs.Theorems.{BoardMoves}
 use Rattle.math.proofs.Integers.{rep-self, rep-pos, rep-neg, rep-add, rep-minus, rep-mul, rep-agree}
 
@@ -28,22 +27,22 @@ pos-less u v = rep-agree (rep-minus (rep-pos u) (rep-neg (rep-pos v))) (rep-pos 
 
 -- ---- the child's table, by what the code tests
 
-module _ (m : Mos) (t : Table) where
-  pub moves-longer-primary : {r : Row} → secondary m < primary m → r ≡ lessRow (primaryRow t) (secondaryRow t) → r ∷ secondaryRow t ∷ [] ≡ childMoves m t
+module _ (m : Mos) (t : Table ℤ) where
+  pub moves-longer-primary : {r : Row ℤ} → secondary m < primary m → r ≡ lessRow (primaryRow t) (secondaryRow t) → r ∷ secondaryRow t ∷ [] ≡ childMoves m t
   unfolding childMoves
   moves-longer-primary h e = simp (lt-ltb _ _ h, e)
 
-  pub moves-longer-secondary : {r : Row} → primary m ≤ secondary m → r ≡ lessRow (secondaryRow t) (primaryRow t) → primaryRow t ∷ r ∷ [] ≡ childMoves m t
+  pub moves-longer-secondary : {r : Row ℤ} → primary m ≤ secondary m → r ≡ lessRow (secondaryRow t) (primaryRow t) → primaryRow t ∷ r ∷ [] ≡ childMoves m t
   unfolding childMoves
   moves-longer-secondary h e = simp (le-ltb _ _ h, e)
 
 -- ---- what the walk keeps
 
 -- the table of a pattern whose octaves are −u and v
-abbrev pub shape : Mos → ℕ → ℕ → Table
+abbrev pub shape : Mos → ℕ → ℕ → Table ℤ
 shape m u v = row (negℤ (pos u)) (pos (secondaries m)) ∷ row (pos v) (negℤ (pos (primaries m))) ∷ []
 
-pub record Going (P G : ℕ) (m : Mos) (t : Table) : Type 0 where
+pub record Going (P G : ℕ) (m : Mos) (t : Table ℤ) : Type 0 where
   pub u : ℕ
   pub v : ℕ
   pub is : t ≡ shape m u v
@@ -86,7 +85,7 @@ shape-secondary m u v h =
     sym (moves-longer-secondary m (shape m u v) h refl)
     ∙ ap₂ (λ (x y : ℤ). row (negℤ (pos u)) (pos (secondaries m)) ∷ row x y ∷ []) (pos-less v u) (neg-less (primaries m) (secondaries m))
 
-going-on : (P G : ℕ) (m c : Mos) (t : Table) → Child m (some c) → sizeOf c ≡ P → countOf c ≤ P → Going P G m t → Going P G c (childMoves m t)
+going-on : (P G : ℕ) (m c : Mos) (t : Table ℤ) → Child m (some c) → sizeOf c ≡ P → countOf c ≤ P → Going P G m t → Going P G c (childMoves m t)
 going-on P G m c t (longer-primary z h) s n g =
     record {
       u = g .u + g .v;
@@ -114,7 +113,7 @@ going-on P G m c t (longer-secondary z h) s n g =
       step-fits = omega (arith, g .step-fits);
     }
 
-pub going-child : (P G : ℕ) (m c : Mos) (t : Table) → childOf m ≡ some c → Going P G m t → Going P G c (childMoves m t)
+pub going-child : (P G : ℕ) (m c : Mos) (t : Table ℤ) → childOf m ≡ some c → Going P G m t → Going P G c (childMoves m t)
 going-child P G m c t e g =
     let s : sizeOf c ≡ P = child-keeps-size (child-at e) ∙ g .size in
     going-on P G m c t (child-at e) s (omega (arith, counts-fit c (child-steps (child-at e) .0) (child-steps (child-at e) .1))) g
@@ -147,7 +146,7 @@ abs-neg : (n : ℕ) → natAbs (negℤ (pos n)) ≡ n
 abs-neg zero = refl
 abs-neg (suc n) = refl
 
-module _ (P G : ℕ) (hP : 1 ≤ P) (lP : P ≤ 65535) (lG : G ≤ 65535) (m : Mos) (t : Table) (g : Going P G m t) where
+module _ (P G : ℕ) (hP : 1 ≤ P) (lP : P ≤ 65535) (lG : G ≤ 65535) (m : Mos) (t : Table ℤ) (g : Going P G m t) where
   pub u-small : g .u ≤ 65535
   u-small =
       let e : g .u * P ≤ G * P = omega (arith, g .first, mul-comm G P, mul-le-mul-right G (g .secondaries-fit)) in
@@ -173,8 +172,8 @@ module _ (P G : ℕ) (hP : 1 ≤ P) (lP : P ≤ 65535) (lG : G ≤ 65535) (m : M
   pub going-reaches : BoardMoves P G m t
   going-reaches =
       record {
-        primary-reached = ap (λ (x : Table). reached P G (primaryRow x)) (g .is) ∙ first-reached (g .u) P (secondaries m) G (primary m) (g .first);
-        secondary-reached = ap (λ (x : Table). reached P G (secondaryRow x)) (g .is) ∙ second-reached (g .v) P (primaries m) G (secondary m) (g .second);
+        primary-reached = ap (λ (x : Table ℤ). reached P G (primaryRow x)) (g .is) ∙ first-reached (g .u) P (secondaries m) G (primary m) (g .first);
+        secondary-reached = ap (λ (x : Table ℤ). reached P G (secondaryRow x)) (g .is) ∙ second-reached (g .v) P (primaries m) G (secondary m) (g .second);
         determinant-kept = ap determinant (g .is) ∙ determined (g .u) (g .v) (primaries m) (secondaries m) (g .unit);
         small = going-small;
       }

@@ -67,16 +67,16 @@ stored-four xs at a b c d is =
 -- ---- the loop
 
 -- the walk has been listed up to the pattern m, whose moves are t
-pub record Listing (P G : ℕ) (before after : List ℤ) (m : Mos) (t : Table) (place : ℕ) : Type 0 where
+pub record Listing (P G : ℕ) (before after : List ℤ) (m : Mos) (t : Table ℤ) (place : ℕ) : Type 0 where
   pub going : Going P G m t
   pub part : List ℤ
   pub stored : StoredFrom before 0 part after place
   pub whole : part ++ listedMoves (movesAlong (children m) t) ≡ listedMoves (walkMoves P G)
 
-pub listing-start : (P G : ℕ) → 1 ≤ P → (xs : List ℤ) (m : Mos) (t : Table) → m ≡ genesis P G → t ≡ genesisMoves P G → Listing P G xs xs m t 0
+pub listing-start : (P G : ℕ) → 1 ≤ P → (xs : List ℤ) (m : Mos) (t : Table ℤ) → m ≡ genesis P G → t ≡ genesisMoves P G → Listing P G xs xs m t 0
 listing-start P G h xs m t e f =
     subst (λ (n : Mos). Listing P G xs xs n t 0) (sym e)
-    (subst (λ (u : Table). Listing P G xs xs (genesis P G) u 0) (sym f)
+    (subst (λ (u : Table ℤ). Listing P G xs xs (genesis P G) u 0) (sym f)
     (record {
       going = going-genesis P G h;
       part = [];
@@ -84,7 +84,7 @@ listing-start P G h xs m t e f =
       whole = ap listedMoves (walk-starts P G);
     }))
 
-module _ {P G : ℕ} {xs ys : List ℤ} {m : Mos} {t : Table} {place : ℕ} (l : Listing P G xs ys m t place) where
+module _ {P G : ℕ} {xs ys : List ℤ} {m : Mos} {t : Table ℤ} {place : ℕ} (l : Listing P G xs ys m t place) where
   here : listedMoves (movesAlong (children m) t) ≡ numbersOf t ++ listedMoves (restOf m t)
   here = ap listedMoves (moves-follow m t)
 
@@ -109,20 +109,20 @@ module _ {P G : ℕ} {xs ys : List ℤ} {m : Mos} {t : Table} {place : ℕ} (l :
     behind =
         append-assoc (l .part) (numbersOf t) (listedMoves (restOf m t)) ∙ ap (λ (r : List ℤ). l .part ++ r) (sym here) ∙ l .whole
 
-    pub listing-more : (c : Mos) → childOf m ≡ some c → (u : Table) → u ≡ childMoves m t → Listing P G xs zs c u next
+    pub listing-more : (c : Mos) → childOf m ≡ some c → (u : Table ℤ) → u ≡ childMoves m t → Listing P G xs zs c u next
     listing-more c e u f =
-        subst (λ (v : Table). Listing P G xs zs c v next) (sym f)
+        subst (λ (v : Table ℤ). Listing P G xs zs c v next) (sym f)
         (record {
           going = going-child P G m c t e (l .going);
           part = l .part ++ numbersOf t;
           stored = listed-here;
-          whole = ap (λ (r : List Table). (l .part ++ numbersOf t) ++ listedMoves r) (sym (rest-next m t c e)) ∙ behind;
+          whole = ap (λ (r : List (Table ℤ)). (l .part ++ numbersOf t) ++ listedMoves r) (sym (rest-next m t c e)) ∙ behind;
         })
 
     pub listing-end : isSome (childOf m) ≡ false → StoredFrom xs 0 (listedMoves (walkMoves P G)) zs next
     listing-end e =
         stored-as
         (sym (append-nil (l .part ++ numbersOf t))
-        ∙ ap (λ (r : List Table). (l .part ++ numbersOf t) ++ listedMoves r) (sym (rest-end m t e))
+        ∙ ap (λ (r : List (Table ℤ)). (l .part ++ numbersOf t) ++ listedMoves r) (sym (rest-end m t e))
         ∙ behind)
         listed-here

@@ -10,8 +10,7 @@ use native.Mathlib.Nat.{div-le-self}
 use native.Mathlib.Omega.{arith}
 use Rattle.math.proofs.Integers.{up, down, rep-self, rep-minus, abs-rep}
 use Rattle.math.proofs.Signed.{read-back, abs-fits}
-use Rattle.mos_moves.specs.Moves.{Row, Table, row, octaves, generators, primaryRow, secondaryRow, lessRow, genesisMoves, numbersOf}
-use Rattle.mos_moves.specs.Parts.{SmallRow, SmallTable}
+use Rattle.mos_moves.specs.Moves.{Row, Table, row, octaves, generators, primaryRow, secondaryRow, lessRow, genesisMoves, SmallRow, SmallTable, numbersOf}
 
 abs-is : (z : ℤ) → natAbs z ≡ up z + down z
 abs-is (pos n) = omega arith
@@ -30,13 +29,13 @@ module _ (x y : ℤ) (f : natAbs x ≤ 65536) (g : natAbs y ≤ 65536) where
   less-is = read-back w32 _ less-fits ∙ same
 
 -- the row that the code makes
-pub octaves-fit : {x y : Row} → SmallRow x → SmallRow y → SFits w32 (toZ w32 (ofZ w32 (octaves x)) -ℤ toZ w32 (ofZ w32 (octaves y)))
+pub octaves-fit : {x y : Row ℤ} → SmallRow x → SmallRow y → SFits w32 (toZ w32 (ofZ w32 (octaves x)) -ℤ toZ w32 (ofZ w32 (octaves y)))
 octaves-fit {x} {y} f g = less-fits (octaves x) (octaves y) (f .few-octaves) (g .few-octaves)
 
-pub generators-fit : {x y : Row} → SmallRow x → SmallRow y → SFits w32 (toZ w32 (ofZ w32 (generators x)) -ℤ toZ w32 (ofZ w32 (generators y)))
+pub generators-fit : {x y : Row ℤ} → SmallRow x → SmallRow y → SFits w32 (toZ w32 (ofZ w32 (generators x)) -ℤ toZ w32 (ofZ w32 (generators y)))
 generators-fit {x} {y} f g = less-fits (generators x) (generators y) (f .few-generators) (g .few-generators)
 
-pub less-row-is : {x y : Row} → SmallRow x → SmallRow y
+pub less-row-is : {x y : Row ℤ} → SmallRow x → SmallRow y
     → row (toZ w32 (ofZ w32 (toZ w32 (ofZ w32 (octaves x)) -ℤ toZ w32 (ofZ w32 (octaves y)))))
     (toZ w32 (ofZ w32 (toZ w32 (ofZ w32 (generators x)) -ℤ toZ w32 (ofZ w32 (generators y)))))
     ≡ lessRow x y
@@ -92,7 +91,7 @@ table-is u v a b hu hv ha hb =
     ∙ ap₂ (λ (x y : ℤ). row (negℤ (pos u)) x ∷ row y (negℤ (pos a)) ∷ []) (number-is b hb) (number-is v hv)
 
 -- a table's numbers as a slice holds them
-pub numbers-read : (t : Table) → SmallTable t
+pub numbers-read : (t : Table ℤ) → SmallTable t
     → toZ w32 (ofZ w32 (octaves (primaryRow t))) ∷ toZ w32 (ofZ w32 (generators (primaryRow t)))
     ∷ toZ w32 (ofZ w32 (octaves (secondaryRow t))) ∷ toZ w32 (ofZ w32 (generators (secondaryRow t))) ∷ []
     ≡ numbersOf t

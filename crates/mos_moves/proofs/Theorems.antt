@@ -4,14 +4,14 @@ use mathlib.Core.Path.{_≡_, sym, ap, ap₂, _∙_, subst}
 use mathlib.Core.List.{[], _∷_}
 use native.Mathlib.Nat.{mul-div-cancel, mul-le-mul}
 use native.Mathlib.Omega.{arith}
-use lib.IntN.{pos, negℤ, _-ℤ_}
+use lib.IntN.{ℤ, pos, negℤ, _-ℤ_}
 use mir.Syntax.{w32}
 use mir.Val.{toZ, ofZ}
 use Rattle.mos.specs.declared.Mos.{Mos}
 use Rattle.mos.specs.Patterns.{primaries, secondaries, primary, secondary}
 use Rattle.mos.proofs.Sizes.{product-fits}
-use Rattle.mos_moves.specs.Moves.{Table, row, patternMoves}
-use Rattle.mos_moves.specs.Parts.{SmallTable, OnWalk}
+use Rattle.mos_moves.specs.Moves.{Table, row, patternMoves, SmallTable}
+use Rattle.mos_moves.specs.Parts.{OnWalk}
 use Rattle.mos_moves.specs.Theorems.{MovesReachTheirSteps, PatternsTellTheirMoves}
 use Rattle.mos_moves.proofs.SignedRows.{table-is}
 use Rattle.mos_moves.proofs.Going.{Going, u-small, v-small, going-small, going-reaches}
@@ -22,7 +22,7 @@ moves-reach-their-steps P G k m t h lP lG at = going-reaches P G h lP lG m t (go
 
 -- ---- a pattern's own numbers
 
-module _ (P G : ℕ) (h : 1 ≤ P) (m : Mos) (t : Table) (g : Going P G m t) where
+module _ (P G : ℕ) (h : 1 ≤ P) (m : Mos) (t : Table ℤ) (g : Going P G m t) where
   pub down-is : (secondaries m * G - primary m) / P ≡ g .u
   down-is = ap (λ (n : ℕ). n / P) (let e : secondaries m * G - primary m ≡ g .u * P = omega (arith, g .first) in e) ∙ mul-div-cancel (g .u) h
 
@@ -45,7 +45,7 @@ module _ (P G : ℕ) (h : 1 ≤ P) (lP : P ≤ 65535) (lG : G ≤ 65535) (m : Mo
   own-going =
       let found = moves-beside-patterns P G .some-moves (w .0) m (w .1) in
       let g = going-at P G (w .0) m (found .0) h (found .1) in
-      subst (λ (t : Table). Going P G m t) (told P G h m (found .0) g) g
+      subst (λ (t : Table ℤ). Going P G m t) (told P G h m (found .0) g) g
 
   pub own-small : SmallTable (patternMoves P G m)
   own-small = going-small P G h lP lG m (patternMoves P G m) own-going

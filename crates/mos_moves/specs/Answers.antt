@@ -15,18 +15,18 @@ use Rattle.mos_moves.specs.Moves.{Table, genesisMoves, walkMoves, listed
 -- ---- a lent table
 
 -- The moves, where there are any; a refusal, and a walk that has no such pattern, leave what was there.
-abbrev pub tableAfter : Outcome (Option Table) → Table → Table
+abbrev pub tableAfter : Outcome (Option (Table ℤ)) → Table ℤ → Table ℤ
 tableAfter (given (some t)) before = t
 tableAfter (given none) before = before
 tableAfter (refused n) before = before
 
 -- The promise of a call that puts moves into a lent table: what it answers, and what the table then holds.
-pub record Tabled {A : Type 0} (answer outcome : Outcome A) (table : Outcome (Option Table)) (before after : Table) : Type 0 where
+pub record Tabled {A : Type 0} (answer outcome : Outcome A) (table : Outcome (Option (Table ℤ))) (before after : Table ℤ) : Type 0 where
   pub answered : answer ≡ outcome
   pub content : after ≡ tableAfter table before
 
 -- Question 2, then the moves of the genesis; the pattern is `genesisOutcome`'s.
-unfoldable pub genesisTable : ℕ → ℕ → Outcome (Option Table)
+unfoldable pub genesisTable : ℕ → ℕ → Outcome (Option (Table ℤ))
 unfolding genesisMoves
 genesisTable P G = ask 2 (leb 1 P) (given (some (genesisMoves P G)))
 
@@ -35,7 +35,7 @@ unfoldable pub nthOutcome : ℕ → ℕ → ℕ → Outcome (Option Mos)
 unfolding children
 nthOutcome P G k = ask 2 (leb 1 P) (given (getElem? (children (genesis P G)) k))
 
-unfoldable pub nthTable : ℕ → ℕ → ℕ → Outcome (Option Table)
+unfoldable pub nthTable : ℕ → ℕ → ℕ → Outcome (Option (Table ℤ))
 unfolding walkMoves
 nthTable P G k = ask 2 (leb 1 P) (given (getElem? (walkMoves P G) k))
 

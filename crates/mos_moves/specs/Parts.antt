@@ -1,24 +1,14 @@
 -- What the parts behind the calls ask and promise.
-use Prim.Native.Nat.{ℕ, _+_, _≤_}
+use Prim.Native.Nat.{ℕ, _+_}
 use mathlib.Core.Path.{_≡_}
 use mathlib.Core.Option.{some}
 use mathlib.Core.List.{List}
-use lib.IntN.{ℤ, natAbs}
+use lib.IntN.{ℤ}
 use lib.ListN.{length, getElem?}
 use lib.Seq.{sets}
 use Rattle.mos.specs.declared.Mos.{Mos}
 use Rattle.mos.specs.Patterns.{genesis}
 use Rattle.mos.specs.Walks.{children}
-use Rattle.mos_moves.specs.Moves.{Row, Table, octaves, generators, primaryRow, secondaryRow}
-
--- No number of a row is further from 0 than 65,536.
-pub record SmallRow (r : Row) : Type 0 where
-  pub few-octaves : natAbs (octaves r) ≤ 65536
-  pub few-generators : natAbs (generators r) ≤ 65536
-
-pub record SmallTable (t : Table) : Type 0 where
-  pub primary-small : SmallRow (primaryRow t)
-  pub secondary-small : SmallRow (secondaryRow t)
 
 -- m is a pattern of the walk from the genesis of P and G, at some place.
 abbrev pub OnWalk : ℕ → ℕ → Mos → Type 0

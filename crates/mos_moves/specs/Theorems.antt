@@ -7,17 +7,16 @@ use lib.ListN.{length, getElem?}
 use Rattle.mos.specs.declared.Mos.{Mos}
 use Rattle.mos.specs.Patterns.{primary, secondary, genesis, keyAt}
 use Rattle.mos.specs.Walks.{children, firstWith, listed}
-use Rattle.mos_moves.specs.Moves.{Table, octaves, generators, primaryRow, secondaryRow, genesisMoves, walkMoves, movesWith, patternMoves, reached, determinant, listedMoves}
-use Rattle.mos_moves.specs.Parts.{SmallTable}
+use Rattle.mos_moves.specs.Moves.{Table, octaves, generators, primaryRow, secondaryRow, genesisMoves, walkMoves, movesWith, patternMoves, reached, determinant, SmallTable, listedMoves}
 
 -- The k-th pattern of the walk from the genesis is m, and its moves are t.
-pub record MovesAt (P G k : ℕ) (m : Mos) (t : Table) : Type 0 where
+pub record MovesAt (P G k : ℕ) (m : Mos) (t : Table ℤ) : Type 0 where
   pub pattern : getElem? (children (genesis P G)) k ≡ some m
   pub moves : getElem? (walkMoves P G) k ≡ some t
 
 -- Theorem: every pattern of the walk has its moves, and as many are listed as patterns are.
 pub record EveryPatternHasMoves (P G : ℕ) : Type 0 where
-  pub some-moves : (k : ℕ) (m : Mos) → getElem? (children (genesis P G)) k ≡ some m → (t : Table) × MovesAt P G k m t
+  pub some-moves : (k : ℕ) (m : Mos) → getElem? (children (genesis P G)) k ≡ some m → (t : Table ℤ) × MovesAt P G k m t
   pub as-many : length (walkMoves P G) ≡ length (children (genesis P G))
   pub as-long : length (listedMoves (walkMoves P G)) ≡ length (listed (children (genesis P G)))
 
@@ -26,7 +25,7 @@ MovesBesidePatterns = (P G : ℕ) → EveryPatternHasMoves P G
 
 -- Theorem: "A row's octaves times the octave, plus its generators times the generator, is its step"; "The determinant stays −1 all along";
 -- and no number is further from 0 than 65,536, so 32 signed bits hold it.
-pub record BoardMoves (P G : ℕ) (m : Mos) (t : Table) : Type 0 where
+pub record BoardMoves (P G : ℕ) (m : Mos) (t : Table ℤ) : Type 0 where
   pub primary-reached : reached P G (primaryRow t) ≡ pos (primary m)
   pub secondary-reached : reached P G (secondaryRow t) ≡ pos (secondary m)
   pub determinant-kept : determinant t ≡ negsuc 0
@@ -34,15 +33,15 @@ pub record BoardMoves (P G : ℕ) (m : Mos) (t : Table) : Type 0 where
 
 abbrev pub MovesReachTheirSteps : Type 0
 MovesReachTheirSteps =
-    (P G k : ℕ) (m : Mos) (t : Table) → 1 ≤ P → P ≤ 65535 → G ≤ 65535 → MovesAt P G k m t → BoardMoves P G m t
+    (P G k : ℕ) (m : Mos) (t : Table ℤ) → 1 ≤ P → P ≤ 65535 → G ≤ 65535 → MovesAt P G k m t → BoardMoves P G m t
 
 -- Theorem: so the two moves reach whatever octaves and generators reach, each in one way. For all numbers x of octaves and y of generators
 -- there are c primary and d secondary moves that make them, no others do, and they lead to the same key.
-pub record MadeOf (t : Table) (x y c d : ℤ) : Type 0 where
+pub record MadeOf (t : Table ℤ) (x y c d : ℤ) : Type 0 where
   pub octaves-are : c *ℤ octaves (primaryRow t) +ℤ d *ℤ octaves (secondaryRow t) ≡ x
   pub generators-are : c *ℤ generators (primaryRow t) +ℤ d *ℤ generators (secondaryRow t) ≡ y
 
-pub record ReachedInOneWay (P G : ℕ) (m : Mos) (t : Table) (x y : ℤ) : Type 0 where
+pub record ReachedInOneWay (P G : ℕ) (m : Mos) (t : Table ℤ) (x y : ℤ) : Type 0 where
   pub primary-moves : ℤ
   pub secondary-moves : ℤ
   pub made : MadeOf t x y primary-moves secondary-moves
@@ -51,15 +50,15 @@ pub record ReachedInOneWay (P G : ℕ) (m : Mos) (t : Table) (x y : ℤ) : Type 
 
 abbrev pub MovesReachAll : Type 0
 MovesReachAll =
-    (P G k : ℕ) (m : Mos) (t : Table) → 1 ≤ P → MovesAt P G k m t → (x y : ℤ) → ReachedInOneWay P G m t x y
+    (P G k : ℕ) (m : Mos) (t : Table ℤ) → 1 ≤ P → MovesAt P G k m t → (x y : ℤ) → ReachedInOneWay P G m t x y
 
 -- Theorem: a pattern's moves follow from its own numbers: a row's generators are the other step's count, up for the primary row and down for
 -- the secondary, and its octaves are what is then left to the step.
 abbrev pub PatternsTellTheirMoves : Type 0
-PatternsTellTheirMoves = (P G k : ℕ) (m : Mos) (t : Table) → 1 ≤ P → MovesAt P G k m t → t ≡ patternMoves P G m
+PatternsTellTheirMoves = (P G k : ℕ) (m : Mos) (t : Table ℤ) → 1 ≤ P → MovesAt P G k m t → t ≡ patternMoves P G m
 
 -- Theorem: beside the first pattern with n steps stand the moves that `movesWith` finds.
 abbrev pub MovesStandBesideThePattern : Type 0
 MovesStandBesideThePattern =
     (P G n : ℕ) (m : Mos) → firstWith n (children (genesis P G)) ≡ some m
-    → (k : ℕ) × (t : Table) × MovesAt P G k m t × (movesWith n (children (genesis P G)) (genesisMoves P G) ≡ some t)
+    → (k : ℕ) × (t : Table ℤ) × MovesAt P G k m t × (movesWith n (children (genesis P G)) (genesisMoves P G) ≡ some t)

@@ -13,10 +13,12 @@ ghost use Rattle.mos_moves.specs.Moves.{
   childMoves,
   patternMoves,
   walkMoves,
+  SmallRow,
+  SmallTable,
   numbersOf,
   listedMoves,
 };
-ghost use Rattle.mos_moves.specs.Parts.{SmallRow, SmallTable, OnWalk, StoredFrom};
+ghost use Rattle.mos_moves.specs.Parts.{OnWalk, StoredFrom};
 
 // The pattern that the walk starts from.
 pub(crate) fn genesis_of(period: u16, generator: u16) -> Mos

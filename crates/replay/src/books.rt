@@ -50,7 +50,7 @@ fn put_found(bytes: &[u8], answer: CountAnswer, key: i32) {
 fn put_lookup(book: &[u8], key: i32) {
     put_place(book::find(book, key));
     print::space();
-    put_name(book, key);
+    put_name_of(book, key);
 }
 
 fn put_place(answer: FindAnswer) {
@@ -63,10 +63,14 @@ fn put_place(answer: FindAnswer) {
     }
 }
 
-// A name that is found sets the refusal to 0; a refusal hands back the empty part.
-fn put_name(book: &[u8], key: i32) {
-    let mut refusal: u8 = 99;
-    let name = book::name(book, key, &mut refusal);
+// The two fields are handed on at once. Covered code cannot hold a struct with a reference, so this is proved by hand.
+fn put_name_of(book: &[u8], key: i32) {
+    let found = book::name(book, key);
+    put_name(found.name, found.refusal)
+}
+
+// A name that is found has 0 beside it; a refusal has the empty part.
+fn put_name(name: &[u8], refusal: u8) {
     if refusal != 0 {
         print::text(b"refused ");
         print::code(refusal);

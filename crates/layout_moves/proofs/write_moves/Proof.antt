@@ -1,8 +1,8 @@
 -- Questions 1 to 4 and 18, then 10, and four stores.
 use mathlib.Core.Path.{sym, ap, _∙_, subst}
+use lib.IntN.{ℤ}
 use borrow.Author.Needs.{needs}
-use Rattle.mos_moves.specs.Moves.{Table}
-use Rattle.mos_moves.specs.Parts.{SmallTable}
+use Rattle.mos_moves.specs.Moves.{Table, SmallTable}
 use Rattle.mos_moves.proofs.Theorems.{own-small}
 use Rattle.layout.specs.Parts.{foundOutcome}
 use Rattle.layout.proofs.Calls.{parts-of}
@@ -32,7 +32,7 @@ put-moves-requires c κs =
     let found = c .before .before .before .before .before .found .given .0 .0 in
     let parts = parts-of _ _ (sym (ap foundOutcome (c .before .before .before .before .before .found .given .1)) ∙ c .before .before .before .before .before .before .before .ask .ensures) in (
       c .before .before .before .if1 .left,
-      subst (λ (t : Table). SmallTable t) (sym (c .before .pattern-moves .ensures))
+      subst (λ (t : Table ℤ). SmallTable t) (sym (c .before .pattern-moves .ensures))
           (own-small (found .octave) (found .generator) (parts .positive) (search needs) (search needs) (found .pattern) (on-walk _ parts)),
     )
 

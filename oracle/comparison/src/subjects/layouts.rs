@@ -334,8 +334,8 @@ fn original_beginning(
     original.then(|layout| Original::Answered(layouts::beginning(layout, start)))
 }
 
-/// What a layer number means of T. A number from T on, of which document 01 says
-/// nothing, counts as flat 0, as the header says.
+/// What a layer number means of T. A number above 0 from T on, of which document 01
+/// says nothing, counts as flat 0, as the header says.
 pub fn compare_kind(tally: &mut Tally, total: u16, number: u16) {
     let (kind, level) = match layers::kind(number.into(), total.into()) {
         Kind::Natural => (vetchnoon::NATURAL, 0),
