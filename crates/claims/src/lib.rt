@@ -146,7 +146,7 @@ pub fn name_books()
 // The programs' lines: one that asks for three numbers is read back as these, and "bytes after it" change nothing; an output that goes by
 // nothing past a line feed is that of the first line.
 ghost use Rattle.line.specs.Theorems.{LinesReadBack, LaterBytesIgnored};
-ghost use Rattle.line_input.specs.Reading.{FirstLineIsEnough};
+ghost use Rattle.streams.specs.Reading.{FirstLineIsEnough};
 
 pub fn lines()
     ensures { λ _. ⌜ LinesReadBack × LaterBytesIgnored × FirstLineIsEnough ⌝ }

@@ -1,21 +1,22 @@
 -- The output for what is kept of a line is the output for the line.
-use Prim.Native.Nat.{ℕ, _≤_, min}
+use Prim.Native.Nat.{ℕ, _≤_}
 use native.Mathlib.Nat.{zero-add}
 use native.Mathlib.Omega.{arith}
-use mathlib.Core.Path.{_≡_, ap, _∙_}
-use mathlib.Core.List.{List}
+use mathlib.Core.Path.{_≡_, _∙_, subst}
+use mathlib.Core.List.{List, []}
 use lib.ListN.{length, take}
 use Rattle.text.specs.Writing.{Wrote}
 use Rattle.text.proofs.Writing.{put-there}
-use Rattle.line_input.specs.Reading.{longest, LineRead}
-use Rattle.line_input.specs.declared.Input.{Input}
-use Rattle.line_input.proofs.Enough.{first-line-is-enough, kept-output}
+use Rattle.streams.specs.declared.input.Input.{Input}
+use Rattle.streams.specs.declared.output.Output.{Output}
+use Rattle.streams.specs.Streams.{Handed, Written}
+use Rattle.streams.specs.Reading.{LineRead, LineIsEnough}
+use Rattle.streams.specs.Printing.{Printed}
+use Rattle.streams.proofs.Enough.{first-line-is-enough, kept-output}
 use Rattle.edo_lines.specs.Lines.{output}
 use Rattle.edo_lines.proofs.Outputs.{later-bytes-change-nothing}
-use Rattle.edo.specs.Printing.{IsOutput, Printed, LineIsEnough}
-use Rattle.edo.specs.declared.Output.{Output}
 
-pub line-is-enough : LineIsEnough
+pub line-is-enough : LineIsEnough output
 line-is-enough =
     record {
       one-line = first-line-is-enough output (later-bytes-change-nothing .line-feed);
@@ -33,13 +34,13 @@ module _ (line : List ℕ) {xs ys : List ℕ} {next : ℕ} (long : length xs ≡
   pub front : (next ≤ length ys) × (take next ys ≡ output line)
   front = put-there fits w
 
-module _ (buffer : List ℕ) (input : Input) (kept : ℕ) (read : LineRead buffer input) (few : kept ≡ min longest (input .taken)) where
-  printed : output (take kept buffer) ≡ output (read .line)
-  printed = kept-output buffer input kept read few output (line-is-enough .eighteen)
-
-  module _ (text : List ℕ) (is : text ≡ output (take kept buffer)) where
-    pub is-output : IsOutput text buffer input
-    is-output = record { read = read; is-output = is ∙ printed }
-
-    pub all-printed : (done : Output) → done .handed ≡ length text → Printed buffer input done
-    all-printed done e = record { read = read; whole = e ∙ ap length (is ∙ printed) }
+pub printed : (buffer : List ℕ) (input : Input) (kept : ℕ) (read : LineRead buffer input) → kept ≡ input .kept
+    → (text : List ℕ) → text ≡ output (take kept buffer)
+    → (start done : Output) → Handed [] start → Written start text done → Printed output buffer input done
+printed buffer input kept read few text is start done none w =
+    record {
+      read = read;
+      whole =
+          λ taken.
+          subst (λ (l : List ℕ). Handed l done) (is ∙ kept-output buffer input kept read few output (line-is-enough .eighteen)) (w .next [] none);
+    }

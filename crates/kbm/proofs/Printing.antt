@@ -1,16 +1,19 @@
 -- The output for what is kept of a line is the output for the line: a refusal, or a mapping.
-use Prim.Native.Nat.{ℕ, _≤_, min}
+use Prim.Native.Nat.{ℕ, _≤_}
 use native.Mathlib.Omega.{arith}
-use mathlib.Core.Path.{_≡_, refl, sym, ap, _∙_}
-use mathlib.Core.List.{List}
+use mathlib.Core.Path.{_≡_, refl, sym, ap, _∙_, subst}
+use mathlib.Core.List.{List, []}
 use lib.ListN.{length, take, replicate, length-replicate}
 use Rattle.answer.specs.Outcome.{Outcome, given, refused, andThen}
 use Rattle.line.specs.declared.Line.{Line}
 use Rattle.line.specs.Lines.{lineOutcome}
 use Rattle.line.proofs.Enough.{later-bytes-ignored}
-use Rattle.line_input.specs.declared.Input.{Input}
-use Rattle.line_input.specs.Reading.{longest, LineRead}
-use Rattle.line_input.proofs.Enough.{first-line-is-enough, kept-output}
+use Rattle.streams.specs.declared.input.Input.{Input}
+use Rattle.streams.specs.declared.output.Output.{Output}
+use Rattle.streams.specs.Streams.{Handed, Written}
+use Rattle.streams.specs.Reading.{LineRead, LineIsEnough}
+use Rattle.streams.specs.Printing.{Printed}
+use Rattle.streams.proofs.Enough.{first-line-is-enough, kept-output}
 use Rattle.layout.specs.Layouts.{Layout, layoutOutcome}
 use Rattle.layout_table.specs.Tables.{layoutOn, lineLayout, refusalLine, outputOf}
 use Rattle.layout_table.proofs.Calls.{line-laid}
@@ -18,8 +21,7 @@ use Rattle.kbm_text.proofs.LineByLine.{mappings-fit}
 use Rattle.layout_kbm.specs.declared.parts.Mapping.{Mapping}
 use Rattle.layout_kbm.specs.Mappings.{mappingIn, getKbm}
 use Rattle.layout_kbm.specs.Parts.{isMapped, fileOf, MappingOf}
-use Rattle.kbm.specs.Printing.{kbmOutput, LineIsEnough, IsOutput, Printed, Refusing, Ready}
-use Rattle.kbm.specs.declared.Output.{Output}
+use Rattle.kbm.specs.Printing.{kbmOutput, Refusing, Ready}
 
 -- ---- the output, by what the line asks for
 
@@ -27,7 +29,7 @@ output-by : (x y : List ℕ) → lineOutcome x ≡ lineOutcome y → kbmOutput x
 unfolding kbmOutput
 output-by x y e = ap (λ (o : Outcome Line). outputOf (andThen o (λ (a : Line). getKbm (layoutOn a)))) e
 
-pub line-is-enough : LineIsEnough
+pub line-is-enough : LineIsEnough kbmOutput
 line-is-enough =
     record {
       eighteen = λ (line : List ℕ). output-by _ _ (later-bytes-ignored .eighteen line);
@@ -55,7 +57,7 @@ module _ (line : List ℕ) where
 
 -- ---- what is kept of a line
 
-module _ (buffer : List ℕ) (input : Input) (kept : ℕ) (read : LineRead buffer input) (few : kept ≡ min longest (input .taken)) where
+module _ (buffer : List ℕ) (input : Input) (kept : ℕ) (read : LineRead buffer input) (few : kept ≡ input .kept) where
   same-output : kbmOutput (take kept buffer) ≡ kbmOutput (read .line)
   same-output = kept-output buffer input kept read few kbmOutput (line-is-enough .eighteen)
 
@@ -77,14 +79,14 @@ pub buffer-room : (m : Mapping) → m .keys ≤ 4096 → length (fileOf m) ≤ l
 unfolding fileOf
 buffer-room m h = omega (arith, mappings-fit (m .keys) (isMapped m) (omega arith), length-replicate {A = ℕ} 24611 0)
 
--- ---- a text that is the output, handed over
+-- ---- a text that is the output, handed over at once
 
-module _ (buffer : List ℕ) (input : Input) (text : List ℕ) where
-  pub refusal-is : (number : ℕ) → Refusing buffer input number → text ≡ refusalLine number → IsOutput text buffer input
-  refusal-is number r e = record { read = r .read; is-output = e ∙ r .is-output }
+module _ (buffer : List ℕ) (input : Input) (text : List ℕ) (start done : Output) (none : Handed [] start) (w : Written start text done) where
+  whole : (line : List ℕ) → text ≡ kbmOutput line → Handed (kbmOutput line) done
+  whole line e = subst (λ (l : List ℕ). Handed l done) e (w .next [] none)
 
-  pub mapping-is : (m : Mapping) → Ready buffer input m → text ≡ fileOf m → IsOutput text buffer input
-  mapping-is m r e = record { read = r .read; is-output = e ∙ r .is-output }
+  pub refusal-printed : (number : ℕ) → Refusing buffer input number → text ≡ refusalLine number → Printed kbmOutput buffer input done
+  refusal-printed number r e = record { read = r .read; whole = λ taken. whole (r .read .line) (e ∙ r .is-output) }
 
-  pub printed : IsOutput text buffer input → (done : Output) → done .handed ≡ length text → Printed buffer input done
-  printed o done e = record { read = o .read; whole = e ∙ ap length (o .is-output) }
+  pub mapping-printed : (m : Mapping) → Ready buffer input m → text ≡ fileOf m → Printed kbmOutput buffer input done
+  mapping-printed m r e = record { read = r .read; whole = λ taken. whole (r .read .line) (e ∙ r .is-output) }

@@ -6,15 +6,15 @@ use Rattle.answer.specs.Outcome.{Outcome, andThen}
 use Rattle.line.specs.declared.Line.{Line}
 use Rattle.line.specs.Lines.{lineOutcome}
 use Rattle.line.proofs.Enough.{later-bytes-ignored}
-use Rattle.line_input.proofs.Enough.{first-line-is-enough}
+use Rattle.streams.proofs.Enough.{first-line-is-enough}
 use Rattle.layout_table.specs.Tables.{layoutOn, getTable, outputOf, output}
-use Rattle.key_table.specs.Printing.{LineIsEnough}
+use Rattle.streams.specs.Reading.{LineIsEnough}
 
 output-by : (x y : List ℕ) → lineOutcome x ≡ lineOutcome y → output x ≡ output y
 unfolding output
 output-by x y e = ap (λ (o : Outcome Line). outputOf (andThen o (λ (a : Line). getTable (layoutOn a)))) e
 
-pub line-is-enough : LineIsEnough
+pub line-is-enough : LineIsEnough output
 line-is-enough =
     record {
       eighteen = λ (line : List ℕ). output-by _ _ (later-bytes-ignored .eighteen line);

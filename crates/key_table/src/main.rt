@@ -1,54 +1,37 @@
 // The key table program: reads a line, and prints the table of the layout that it asks for, or the number of a refusal.
 //
-// What is printed is `output` of the whole line that was read, made by `layout_table::parts`; this program reads and writes, and no more. It
-// reads one line, of which `line_input` keeps 18 bytes: a longer line is refused whatever follows (`LineIsEnough`). It prints a table in
-// parts, 78 lines at a time (`TablesFit` of `layout_table` bounds a line), so it runs with a small stack. specs/: Printing states what is
-// printed. Which bytes a read hands over, and where written bytes go, rests on the kit's library.
+// What is printed is `output` of the whole line that was read, made by `layout_table::parts`; `streams` reads the line and writes. Of a line
+// 18 bytes are kept: a longer line is refused whatever follows (`LineIsEnough`). A table is printed in parts, 78 lines at a time (`TablesFit`
+// of `layout_table` bounds a line), so a small stack is enough. specs/: Printing states what the functions between ask for. Which bytes a
+// read hands over, and where written bytes go, rests on the kit's library.
 use layout::parts::FoundAnswer;
 use layout_table::parts::Table;
-use libc::STDERR_FILENO;
-use libc::STDOUT_FILENO;
-use line_input::Input;
-use line_input::kept;
-use line_input::read_line;
-ghost use mathlib.Core.Path.{_≡_};
+use streams::input;
+use streams::input::Input;
+use streams::lines;
+use streams::output;
+use streams::output::Output;
+use streams::words;
 ghost use Prim.Native.Nat.{_≤_, _<_};
 ghost use lib.ListN.{length};
 ghost use Rattle.text.specs.Writing.{joined};
+ghost use Rattle.layout_table.specs.Tables.{output};
 ghost use Rattle.layout_table.specs.Parts.{lineFrom};
-ghost use Rattle.line_input.specs.Reading.{LineRead};
-ghost use Rattle.key_table.specs.Printing.{onward, NextPart, Refusing, Ready, LinesNext, Printed};
+ghost use Rattle.streams.specs.Streams.{Written};
+ghost use Rattle.streams.specs.Reading.{LineRead, LineIsEnough};
+ghost use Rattle.streams.specs.Printing.{Printed};
+ghost use Rattle.key_table.specs.Printing.{Refusing, Ready, Lines};
 
-// Where writing stands: how many bytes were handed over, and whether the last of them were taken.
-struct Output {
-    handed: usize,
-    taken: bool,
-}
-
-// Writes the next part of the output for the line that was read, and by its `requires` nothing else.
-fn write_part(text: &[u8], line: &[u8], input: Input, past: Output) -> Output
-    requires { ⌜ NextPart (now text) (now line) input past ⌝ }
-    ensures { λ r. ⌜ r ≡ onward past (length (now (text .entry))) (r .taken) ⌝ }
-{
-    let taken = io::write_all(STDOUT_FILENO, text);
-    Output {
-        handed: past.handed + text.len(),
-        taken,
-    }
-}
-
-// Writes the line of a refusal.
+// Writes the line of a refusal, and says that it is one.
 fn print_refusal(line: &[u8], input: Input, number: u16) -> Output
     requires { ⌜ Refusing (now line) input number ⌝ }
-    ensures { λ r. ⌜ Printed (now (line .entry)) input r ⌝ }
+    ensures { λ r. ⌜ Printed output (now (line .entry)) input r ⌝ }
 {
     let mut out = [0u8; 16];
     let bytes = layout_table::parts::put_refusal(&mut out, number);
-    let past = Output {
-        handed: 0,
-        taken: true,
-    };
-    write_part(&out[..bytes], line, input, past)
+    let done = output::write_front(output::begin(), &out, bytes);
+    words::say_refused();
+    done
 }
 
 // How many lines are put into the buffer at once: 78 of 840 bytes fit.
@@ -59,36 +42,25 @@ fn at_once(left: u16) -> u16
 }
 
 // Writes the lines of so many keys from a key on, by way of the buffer.
-fn print_lines(
-    line: &[u8],
-    input: Input,
-    table: Table,
-    from: u16,
-    count: u16,
-    past: Output,
-    out: &mut [u8],
-) -> Output
-    requires { ⌜ Ready (now line) input table × LinesNext table from count past × (65536 ≤ length (now out)) ⌝ }
-    ensures { λ r. ⌜ r ≡ onward past (length (joined (lineFrom table from) count)) (r .taken) ⌝ }
+fn print_lines(table: Table, from: u16, count: u16, past: Output, out: &mut [u8]) -> Output
+    requires { ⌜ Lines table from count × (65536 ≤ length (now out)) ⌝ }
+    ensures { λ r. ⌜ Written past (joined (lineFrom table from) count) r ⌝ }
 {
     let bytes = layout_table::parts::put_lines(out, table, from, count);
-    write_part(&out[..bytes], line, input, past)
+    output::write(past, &out[..bytes])
 }
 
 // Writes a table, so many lines at a time; it stops where a part is not taken.
 fn print_table(line: &[u8], input: Input, table: Table, out: &mut [u8]) -> Output
     requires { ⌜ Ready (now line) input table × (65536 ≤ length (now out)) ⌝ }
-    ensures { λ r. ⌜ Printed (now (line .entry)) input r ⌝ }
+    ensures { λ r. ⌜ Printed output (now (line .entry)) input r ⌝ }
 {
-    let mut done = Output {
-        handed: 0,
-        taken: true,
-    };
+    let mut done = output::begin();
     let mut from: u16 = 0;
     while from < table.keys {
         let count = at_once(table.keys - from);
-        done = print_lines(line, input, table, from, count, done, out);
-        if !done.taken {
+        done = print_lines(table, from, count, done, out);
+        if !output::taken(done) {
             return done;
         }
         from += count;
@@ -100,9 +72,9 @@ fn print_table(line: &[u8], input: Input, table: Table, out: &mut [u8]) -> Outpu
 // is enough.
 fn print(line: &[u8], input: Input) -> Output
     requires { ⌜ LineRead (now line) input ⌝ }
-    ensures { λ r. ⌜ Printed (now (line .entry)) input r ⌝ }
+    ensures { λ r. ⌜ Printed output (now (line .entry)) input r ⌝ }
 {
-    match layout_table::parts::ask_line(&line[..kept(input)]) {
+    match layout_table::parts::ask_line(&line[..input::kept(input)]) {
         FoundAnswer::Refused(q) => print_refusal(line, input, q.number() as u16),
         FoundAnswer::Given(found) => {
             let mut out = [0u8; 65536];
@@ -111,29 +83,17 @@ fn print(line: &[u8], input: Input) -> Output
     }
 }
 
-// A program here has no status to end with.
-fn say_not_written() {
-    io::write_all(
-        STDERR_FILENO,
-        b"key_table: the table could not be written\n",
-    );
-}
-
 // A claim, as those of the crate `claims`, which cannot use a program: 18 bytes of a line, and the first line of any bytes, say what is
 // printed.
-ghost use Rattle.key_table.specs.Printing.{LineIsEnough};
-
 pub fn line_is_enough()
-    ensures { λ _. ⌜ LineIsEnough ⌝ }
+    ensures { λ _. ⌜ LineIsEnough output ⌝ }
 {
     ()
 }
 
 fn main() {
     let mut line = [0u8; 18];
-    let input = read_line(&mut line);
+    let input = lines::read_line(&mut line);
     let done = print(&line, input);
-    if !done.taken {
-        say_not_written();
-    }
+    words::say_if_not_written(b"key_table", done);
 }

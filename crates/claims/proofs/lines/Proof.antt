@@ -1,6 +1,6 @@
 use Rattle.line.proofs.ReadBack.{lines-read-back}
 use Rattle.line.proofs.Enough.{later-bytes-ignored}
-use Rattle.line_input.proofs.Enough.{first-line-is-enough}
+use Rattle.streams.proofs.Enough.{first-line-is-enough}
 use Rattle.claims.proofs.lines.Statement.{statement}
 use Rattle.claims.proofs.lines.Tie as tie
 

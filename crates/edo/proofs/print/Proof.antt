@@ -1,8 +1,7 @@
 -- The output for what is kept is the output for the line.
-use mathlib.Core.Path.{refl, sym}
-use lib.Seq.{length-take-le}
-use Rattle.line_input.proofs.Enough.{kept-there}
-use Rattle.edo.proofs.Printing.{front, is-output, all-printed}
+use mathlib.Core.Path.{refl}
+use Rattle.streams.proofs.Enough.{kept-there}
+use Rattle.edo.proofs.Printing.{front, printed}
 use borrow.Author.Needs.{needs}
 use Rattle.edo.proofs.print.Statement.{statement}
 use Rattle.edo.proofs.print.Tie as tie
@@ -19,27 +18,27 @@ slice-aggregate-put-output-2 c = search needs
 put-output-requires : tie.Need-put-output-requires
 put-output-requires c κs = search needs
 
-array-share-prefix-out : tie.Need-array-share-prefix-out
-array-share-prefix-out c = search needs
+begin-requires : tie.Need-begin-requires
+begin-requires c κs = search needs
 
-slice-aggregate-write-output : tie.Need-slice-aggregate-write-output
-slice-aggregate-write-output c =
-    let p = c .before .before .put-output .ensures in
-    sym (length-take-le _ _ (front _ refl (p .0) (p .1) .0))
+slice-aggregate-write-front : tie.Need-slice-aggregate-write-front
+slice-aggregate-write-front c = search needs
 
-write-output-requires : tie.Need-write-output-requires
-write-output-requires c κs =
-    let s = c .before .before .before .before .before .before .before in
-    let p = c .before .before .put-output .ensures in
-    let k = c .before .before .before .before .before .kept in
-    is-output _ _ _ (s .pre) (k .ensures) _ (front _ refl (p .0) (p .1) .1)
+write-front-requires : tie.Need-write-front-requires
+write-front-requires c κs = search needs
+
+array-read-say-if-refusal : tie.Need-array-read-say-if-refusal
+array-read-say-if-refusal c = search needs
+
+say-if-refusal-requires : tie.Need-say-if-refusal-requires
+say-if-refusal-requires c κs = search needs
 
 returns : tie.Need-returns
 returns c =
-    let s = c .before .before .before .before .before .before .before .before in
-    let p = c .before .before .before .put-output .ensures in
-    let k = c .before .before .before .before .before .before .kept in
-    all-printed _ _ _ (s .pre) (k .ensures) _ (front _ refl (p .0) (p .1) .1) _ (c .write-output .ensures)
+    let put = c .before .before .before .before .before in
+    let kept = put .before .before .before in
+    printed _ _ _ (kept .before .before .pre) (kept .kept .ensures) _ (front _ refl (put .put-output .ensures .0) (put .put-output .ensures .1) .1) _ _
+    (c .before .before .before .begin .ensures) (c .before .write-front .ensures)
 
 pub print-spec : {M : Type 1} → statement M
 print-spec =
@@ -49,7 +48,9 @@ print-spec =
     slice-aggregate-put-output
     slice-aggregate-put-output-2
     put-output-requires
-    array-share-prefix-out
-    slice-aggregate-write-output
-    write-output-requires
+    begin-requires
+    slice-aggregate-write-front
+    write-front-requires
+    array-read-say-if-refusal
+    say-if-refusal-requires
     returns)

@@ -1,6 +1,9 @@
 -- The report is at the front of what was put.
-use mathlib.Core.Path.{refl, sym}
-use lib.Seq.{length-take-le}
+use Prim.Native.Nat.{ℕ}
+use mathlib.Core.List.{List, []}
+use mathlib.Core.Path.{refl, subst}
+use native.Mathlib.Omega.{arith}
+use Rattle.streams.specs.Streams.{Handed}
 use Rattle.edo_counts.proofs.Lines.{report-there}
 use borrow.Author.Needs.{needs}
 use Rattle.edo_report.proofs.print.Statement.{statement}
@@ -12,17 +15,19 @@ slice-aggregate-put-report c = search needs
 put-report-requires : tie.Need-put-report-requires
 put-report-requires c κs = search needs
 
-array-share-prefix-out : tie.Need-array-share-prefix-out
-array-share-prefix-out c = report-there refl (c .before .put-report .ensures) .0
+begin-requires : tie.Need-begin-requires
+begin-requires c κs = search needs
 
-slice-aggregate-write-report : tie.Need-slice-aggregate-write-report
-slice-aggregate-write-report c = sym (length-take-le _ _ (report-there refl (c .before .before .put-report .ensures) .0))
+slice-aggregate-write-front : tie.Need-slice-aggregate-write-front
+slice-aggregate-write-front c = search needs
 
-write-report-requires : tie.Need-write-report-requires
-write-report-requires c κs = report-there refl (c .before .before .put-report .ensures) .1
+write-front-requires : tie.Need-write-front-requires
+write-front-requires c κs = omega (arith, report-there refl (c .before .before .before .put-report .ensures) .0)
 
 returns : tie.Need-returns
-returns c = search needs
+returns c =
+    subst (λ (text : List ℕ). Handed text (c .write-front .result)) (report-there refl (c .before .before .before .before .put-report .ensures) .1)
+    (c .write-front .ensures .next [] (c .before .before .begin .ensures))
 
 pub print-spec : {M : Type 1} → statement M
 print-spec =
@@ -30,7 +35,7 @@ print-spec =
     (tie.spec
     slice-aggregate-put-report
     put-report-requires
-    array-share-prefix-out
-    slice-aggregate-write-report
-    write-report-requires
+    begin-requires
+    slice-aggregate-write-front
+    write-front-requires
     returns)

@@ -2,7 +2,7 @@
 use mathlib.Core.Path.{sym, ap, _∙_}
 use Rattle.layout.specs.Parts.{foundOutcome}
 use Rattle.layout_table.proofs.Calls.{line-laid}
-use Rattle.line_input.proofs.Enough.{kept-there}
+use Rattle.streams.proofs.Enough.{kept-there}
 use Rattle.kbm.proofs.Printing.{refusing, ready}
 use borrow.Author.Needs.{needs}
 use Rattle.kbm.proofs.print.Statement.{statement}

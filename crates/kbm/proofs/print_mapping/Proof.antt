@@ -1,9 +1,7 @@
 -- The mapping's file is the whole output, and the buffer holds it.
-use mathlib.Core.Path.{sym}
 use native.Mathlib.Omega.{arith}
-use lib.Seq.{length-take-le}
 use Rattle.text.proofs.Writing.{put-there}
-use Rattle.kbm.proofs.Printing.{buffer-room, mapping-is, printed}
+use Rattle.kbm.proofs.Printing.{buffer-room, mapping-printed}
 use borrow.Author.Needs.{needs}
 use Rattle.kbm.proofs.print_mapping.Statement.{statement}
 use Rattle.kbm.proofs.print_mapping.Tie as tie
@@ -16,27 +14,23 @@ put-file-requires c κs =
     let start = c .before .before in
     (start .pre .sound, omega (arith, buffer-room (start .args .mapping) (start .pre .few)))
 
-array-share-prefix-out : tie.Need-array-share-prefix-out
-array-share-prefix-out c =
-    let start = c .before .before .before .before in
-    put-there (buffer-room (start .args .mapping) (start .pre .few)) (c .before .put-file .ensures) .0
+begin-requires : tie.Need-begin-requires
+begin-requires c κs = search needs
 
-slice-aggregate-write-output : tie.Need-slice-aggregate-write-output
-slice-aggregate-write-output c =
-    let start = c .before .before .before .before .before in
-    sym (length-take-le _ _ (put-there (buffer-room (start .args .mapping) (start .pre .few)) (c .before .before .put-file .ensures) .0))
+slice-aggregate-write-front : tie.Need-slice-aggregate-write-front
+slice-aggregate-write-front c = search needs
 
-write-output-requires : tie.Need-write-output-requires
-write-output-requires c κs =
-    let start = c .before .before .before .before .before in
-    mapping-is _ _ _ _ (start .pre) (put-there (buffer-room (start .args .mapping) (start .pre .few)) (c .before .before .put-file .ensures) .1)
+write-front-requires : tie.Need-write-front-requires
+write-front-requires c κs =
+    let put = c .before .before .before in
+    omega (arith, put-there (buffer-room _ (put .before .before .before .pre .few)) (put .put-file .ensures) .0)
 
 returns : tie.Need-returns
 returns c =
-    let start = c .before .before .before .before .before .before in
-    printed _ _ _
-    (mapping-is _ _ _ _ (start .pre) (put-there (buffer-room (start .args .mapping) (start .pre .few)) (c .before .before .before .put-file .ensures) .1)) _
-    (c .write-output .ensures)
+    let put = c .before .before .before .before in
+    let start = put .before .before .before in
+    mapping-printed _ _ _ _ _ (c .before .before .begin .ensures) (c .write-front .ensures) _ (start .pre)
+    (put-there (buffer-room _ (start .pre .few)) (put .put-file .ensures) .1)
 
 pub print-mapping-spec : {M : Type 1} → statement M
 print-mapping-spec =
@@ -44,7 +38,7 @@ print-mapping-spec =
     (tie.spec
     slice-aggregate-put-file
     put-file-requires
-    array-share-prefix-out
-    slice-aggregate-write-output
-    write-output-requires
+    begin-requires
+    slice-aggregate-write-front
+    write-front-requires
     returns)

@@ -3,7 +3,7 @@ use mathlib.Core.Path.{sym, ap, _∙_}
 use native.Mathlib.Omega.{arith}
 use Rattle.layout.specs.Parts.{foundOutcome}
 use Rattle.layout_table.proofs.Calls.{line-laid}
-use Rattle.line_input.proofs.Enough.{kept-there}
+use Rattle.streams.proofs.Enough.{kept-there}
 use Rattle.key_table.proofs.Printing.{refusing, ready, zeros-hold}
 use borrow.Author.Needs.{needs}
 use Rattle.key_table.proofs.print.Statement.{statement}

@@ -1,68 +1,63 @@
--- The lines are the next part.
+-- The lines are what was put at the front of the buffer.
+use mathlib.Core.List.{List}
+use mathlib.Core.Path.{sym, subst}
 use Prim.Native.Nat.{ℕ, _≤_}
-use mathlib.Core.Path.{sym, ap, _∙_}
 use native.Mathlib.Omega.{arith}
 use lib.ListN.{length}
 use lib.Seq.{length-take-le}
 use Rattle.text.specs.Writing.{joined}
+use Rattle.layout_table.specs.declared.parts.Table.{Table}
 use Rattle.layout_table.specs.Parts.{lineFrom}
-use Rattle.key_table.specs.Printing.{onward}
 use Rattle.text.proofs.Writing.{put-there}
-use Rattle.key_table.proofs.Printing.{part-room, part-next}
+use Rattle.streams.specs.Streams.{Written}
+use Rattle.key_table.specs.Printing.{Lines}
+use Rattle.key_table.proofs.Printing.{part-room}
 use borrow.Author.Needs.{needs}
 use Rattle.key_table.proofs.print_lines.Statement.{statement}
 use Rattle.key_table.proofs.print_lines.Tie as tie
 
+room : (t : Table) (from count : ℕ) (out : List ℕ) → Lines t from count → 65536 ≤ length out → length (joined (lineFrom t from) count) ≤ length out
+room t from count out l long = omega (arith, part-room t from count l)
+
 put-lines-requires : tie.Need-put-lines-requires
 put-lines-requires c κs =
-    let start = c .before .before .before in
-    let t = start .args .table in
-    let from = start .args .from in
-    let count = start .args .count in
-    (start .pre .0 .sound, start .pre .1 .inside, omega (arith, part-room _ _ t (start .pre .0) from count (start .pre .1 .inside) (start .pre .1 .few), start .pre .2))
+    let start = c .before .before in
+    let l = start .pre .0 in
+    (l .sound, l .inside, omega (arith, part-room (start .args .table) (start .args .from) (start .args .count) l, start .pre .1))
 
-slice-reshare-prefix-write-part : tie.Need-slice-reshare-prefix-write-part
-slice-reshare-prefix-write-part c =
-    let start = c .before .before .before .before .before .before in
-    let t = start .args .table in
-    let from = start .args .from in
-    let count = start .args .count in
-    put-there (let room : length (joined (lineFrom t from) count) ≤ length (start .args .out .now) = omega (arith, part-room _ _ t (start .pre .0) from count (start .pre .1 .inside) (start .pre .1 .few), start .pre .2) in room) (c .before .before .put-lines .ensures) .0
+slice-reshare-prefix-write : tie.Need-slice-reshare-prefix-write
+slice-reshare-prefix-write c =
+    let put = c .before .before in
+    let start = put .before .before .before in
+    put-there (room _ _ _ (start .args .out .now) (start .pre .0) (start .pre .1)) (put .put-lines .ensures) .0
 
-slice-aggregate-write-part : tie.Need-slice-aggregate-write-part
-slice-aggregate-write-part c =
-    let start = c .before .before .before .before .before .before .before in
-    let t = start .args .table in
-    let from = start .args .from in
-    let count = start .args .count in
-    sym (length-take-le _ _ (put-there (let room : length (joined (lineFrom t from) count) ≤ length (start .args .out .now) = omega (arith, part-room _ _ t (start .pre .0) from count (start .pre .1 .inside) (start .pre .1 .few), start .pre .2) in room) (c .before .before .before .put-lines .ensures) .0))
+slice-aggregate-write : tie.Need-slice-aggregate-write
+slice-aggregate-write c =
+    let put = c .before .before .before in
+    let start = put .before .before .before in
+    sym (length-take-le _ _ (put-there (room _ _ _ (start .args .out .now) (start .pre .0) (start .pre .1)) (put .put-lines .ensures) .0))
 
-write-part-requires : tie.Need-write-part-requires
-write-part-requires c κs =
-    let start = c .before .before .before .before .before .before .before in
-    let t = start .args .table in
-    let from = start .args .from in
-    let count = start .args .count in
-    part-next _ _ t (start .pre .0) from count (start .pre .1 .inside) _ (put-there (let room : length (joined (lineFrom t from) count) ≤ length (start .args .out .now) = omega (arith, part-room _ _ t (start .pre .0) from count (start .pre .1 .inside) (start .pre .1 .few), start .pre .2) in room) (c .before .before .before .put-lines .ensures) .1) (start .args .past) (start .pre .1 .handed)
+write-requires : tie.Need-write-requires
+write-requires c κs = search needs
 
 same-length : tie.Need-same-length
 same-length c = search needs
 
 returns : tie.Need-returns
 returns c =
-    let start = c .before .before .before .before .before .before .before .before in
-    let t = start .args .table in
-    let from = start .args .from in
-    let count = start .args .count in
-    c .write-part .ensures ∙ ap (λ (k : ℕ). onward (start .args .past) k (c .write-part .result .taken)) (ap length (put-there (let room : length (joined (lineFrom t from) count) ≤ length (start .args .out .now) = omega (arith, part-room _ _ t (start .pre .0) from count (start .pre .1 .inside) (start .pre .1 .few), start .pre .2) in room) (c .before .before .before .before .put-lines .ensures) .1))
+    let put = c .before .before .before .before in
+    let start = put .before .before .before in
+    subst (λ (text : List ℕ). Written (start .args .past) text (c .write .result))
+    (put-there (room _ _ _ (start .args .out .now) (start .pre .0) (start .pre .1)) (put .put-lines .ensures) .1)
+    (c .write .ensures)
 
 pub print-lines-spec : {M : Type 1} → statement M
 print-lines-spec =
     tie.close
     (tie.spec
     put-lines-requires
-    slice-reshare-prefix-write-part
-    slice-aggregate-write-part
-    write-part-requires
+    slice-reshare-prefix-write
+    slice-aggregate-write
+    write-requires
     same-length
     returns)

@@ -1,26 +1,30 @@
 -- After each turn the lines of the keys before `from` were handed over.
 use Prim.Native.Nat.{ℕ, _-_, _≤_}
-use mathlib.Core.Path.{_≡_, refl, ap, _∙_}
+use mathlib.Core.Path.{_≡_, refl, sym, ap, _∙_, subst}
 use native.Mathlib.Nat.{le-antisymm}
 use native.Mathlib.Omega.{arith}
 use lib.ListN.{length}
 use borrow.Author.Tests.{not-true}
 use Rattle.text.specs.Writing.{joined}
 use Rattle.layout_table.specs.Parts.{lineOf}
-use Rattle.key_table.proofs.Printing.{none-before, lines-onward, table-printed, not-taken}
+use Rattle.streams.specs.Streams.{Handed}
+use Rattle.key_table.proofs.Printing.{lines-start, lines-onward, table-printed, not-taken}
 use borrow.Author.Needs.{needs}
 use Rattle.key_table.proofs.print_table.Statement.{statement}
 use Rattle.key_table.proofs.print_table.Tie as tie
 
 abbrev Inv-loop : tie.InvT-loop
-Inv-loop line input table out₀ done₀ from₀ out done from =
-    (done .handed ≡ length (joined (lineOf table) from)) × (from ≤ table .keys) × (length out ≡ length out₀)
+Inv-loop line table out₀ done₀ from₀ out done from =
+    Handed (joined (lineOf table) from) done × (from ≤ table .keys) × (length out ≡ length out₀)
 
 abbrev μ-loop : tie.MeasureT-loop
-μ-loop line input table out₀ done₀ from₀ out done from = table .keys - from
+μ-loop line table out₀ done₀ from₀ out done from = table .keys - from
+
+begin-requires : tie.Need-begin-requires Inv-loop μ-loop
+begin-requires c κs = search needs
 
 loop-holds : tie.Need-loop-holds Inv-loop μ-loop
-loop-holds c = let start = c .before .before in (none-before _ _ (start .args .table) (start .pre .0), omega arith, refl)
+loop-holds c = (lines-start _ _ (c .begin .ensures), omega arith, refl)
 
 sub-at-once : tie.Need-sub-at-once Inv-loop μ-loop
 sub-at-once c = search needs
@@ -31,41 +35,36 @@ at-once-requires c κs = search needs
 print-lines-requires : tie.Need-print-lines-requires Inv-loop μ-loop
 print-lines-requires c κs =
     let loop = c .before .before .before .before .before .loop in
-    let start = c .before .before .before .before .before .before .before .before in
-    let t = start .args .table in
+    let start = c .before .before .before .before .before .before .before .before .before in
     let once = c .before .at-once .ensures in (
-      start .pre .0,
-      record { inside = omega (arith, once .0); few = once .1; handed = loop .inv .0 },
+      record { sound = start .pre .0 .sound; short = start .pre .0 .short; inside = omega (arith, once .0); few = once .1 },
       omega (arith, start .pre .1, loop .inv .2),
     )
+
+taken-requires : tie.Need-taken-requires Inv-loop μ-loop
+taken-requires c κs = search needs
 
 same-length : tie.Need-same-length Inv-loop μ-loop
 same-length c = search needs
 
 returns : tie.Need-returns Inv-loop μ-loop
 returns c =
-    let loop = c .before .before .before .before .before .before .before .before .before .before .loop in
-    let start = c .before .before .before .before .before .before .before .before .before .before .before .before .before in
-    let t = start .args .table in
-    not-taken _ _ (start .pre .0 .read) _ (not-true _ (c .if2 .taken))
+    let start = c .before .before .before .before .before .before .before .before .before .before .before .before .before .before in
+    not-taken _ _ (start .pre .0 .read) _ (sym (c .before .taken .ensures) ∙ not-true _ (c .if2 .taken))
 
 add-from : tie.Need-add-from Inv-loop μ-loop
 add-from c = search needs
 
 loop-less : tie.Need-loop-less Inv-loop μ-loop
 loop-less c =
-    let loop = c .before .before .before .before .before .before .before .before .before .before .loop in
-    let start = c .before .before .before .before .before .before .before .before .before .before .before .before .before in
-    let t = start .args .table in
-    let once = c .before .before .before .before .before .before .at-once .ensures in omega (arith, once .0, once .2 (omega arith))
+    let once = c .before .before .before .before .before .before .at-once .ensures in
+    omega (arith, once .0, once .2 (omega arith))
 
 loop-again : tie.Need-loop-again Inv-loop μ-loop
 loop-again c =
     let loop = c .before .before .before .before .before .before .before .before .before .before .loop in
-    let start = c .before .before .before .before .before .before .before .before .before .before .before .before .before in
-    let t = start .args .table in
     let once = c .before .before .before .before .before .before .at-once .ensures in (
-      lines-onward t (loop .from) _ (loop .done) (loop .inv .0) _ (c .before .before .before .before .print-lines .ensures),
+      lines-onward _ _ _ _ _ (loop .inv .0) (c .before .before .before .before .print-lines .ensures),
       omega (arith, once .0),
       search needs,
     )
@@ -76,9 +75,10 @@ same-length-2 c = search needs
 returns-2 : tie.Need-returns-2 Inv-loop μ-loop
 returns-2 c =
     let loop = c .before .before .loop in
-    let start = c .before .before .before .before .before in
+    let start = c .before .before .before .before .before .before in
     let t = start .args .table in
-    table-printed _ _ t (start .pre .0) _ (loop .inv .0 ∙ ap (λ (k : ℕ). length (joined (lineOf t) k)) (le-antisymm (loop .inv .1) (c .if1 .left)))
+    table-printed _ _ t (start .pre .0) _
+    (subst (λ (k : ℕ). Handed (joined (lineOf t) k) (loop .done)) (le-antisymm (loop .inv .1) (c .if1 .left)) (loop .inv .0))
 
 pub print-table-spec : {M : Type 1} → statement M
 print-table-spec =
@@ -86,10 +86,12 @@ print-table-spec =
     (tie.spec
     Inv-loop
     μ-loop
+    begin-requires
     loop-holds
     sub-at-once
     at-once-requires
     print-lines-requires
+    taken-requires
     same-length
     returns
     add-from

@@ -1,4 +1,0 @@
-pub mod OneLine
-pub mod Keeping
-pub mod Enough
-pub mod Going

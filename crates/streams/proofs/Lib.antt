@@ -1,0 +1,5 @@
+pub mod OneLine
+pub mod Keeping
+pub mod Enough
+pub mod Going
+pub mod Onward
