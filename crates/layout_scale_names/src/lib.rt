@@ -12,8 +12,8 @@ use layout::parts::FoundAnswer;
 ghost use mathlib.Core.Path.{_≡_};
 ghost use lib.ListN.{length};
 ghost use Rattle.answer.specs.Refusals.{countOutcome};
-ghost use Rattle.answer.specs.Lent.{counted, Filled};
-ghost use Rattle.layout.specs.Answers.{getScaleName, inRoom};
+ghost use Rattle.answer.specs.Lent.{inRoom, counted, Filled};
+ghost use Rattle.layout.specs.Answers.{getScaleName};
 
 // How many bytes the scale's name has (1, 2, 3, 4, 18).
 pub fn scale_name_len(layout: IsomorphicLayout) -> CountAnswer

@@ -19,8 +19,9 @@ use mos_fractional::FractionalAnswer;
 use mos_fractional::FractionalMos;
 use mos_fractional::FractionalWalkAnswer;
 ghost use lib.ListN.{length};
+ghost use Rattle.answer.specs.Lent.{Filled};
 ghost use Rattle.answer.specs.Refusals.{countOutcome};
-ghost use Rattle.mos_fractional.specs.Answers.{listingOutcome, Listed};
+ghost use Rattle.mos_fractional.specs.Answers.{listingOutcome};
 
 const CHILD: usize = 0;
 
@@ -196,7 +197,7 @@ fn lent() -> FractionalMos {
 
 // The array is lent for the call alone. Covered code cannot lend a list of structs, so this is proved by hand.
 fn list_page(generator: f64, patterns: [FractionalMos; 8]) -> Page
-    ensures { λ r. ⌜ Listed (listingOutcome generator (length patterns)) (countOutcome (r .answer)) patterns (r .patterns) ⌝ }
+    ensures { λ r. ⌜ Filled (listingOutcome generator (length patterns)) (countOutcome (r .answer)) patterns (r .patterns) ⌝ }
 {
     let mut list = patterns;
     let answer = mos_fractional::children(generator, &mut list);

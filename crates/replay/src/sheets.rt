@@ -11,8 +11,9 @@ use crate::words::Long;
 use answer::CountAnswer;
 use layout::IsomorphicLayout;
 use layout_sheet::Record;
+ghost use Rattle.answer.specs.Lent.{Filled};
 ghost use Rattle.answer.specs.Refusals.{countOutcome};
-ghost use Rattle.layout_sheet.specs.Answers.{getSheet, SheetFilled};
+ghost use Rattle.layout_sheet.specs.Answers.{getSheet};
 
 const SHEET: usize = 0;
 
@@ -83,7 +84,7 @@ fn asked(key: i32) -> Record {
 
 // The array is lent for the call alone. Covered code cannot lend a list of records, so this is proved by hand.
 fn fill_page(layout: IsomorphicLayout, records: [Record; 4]) -> Page
-    ensures { λ r. ⌜ SheetFilled (getSheet layout records) (countOutcome (r .answer)) records (r .records) ⌝ }
+    ensures { λ r. ⌜ Filled (getSheet layout records) (countOutcome (r .answer)) records (r .records) ⌝ }
 {
     let mut sheet = records;
     let answer = layout_sheet::fill_sheet(layout, &mut sheet);
