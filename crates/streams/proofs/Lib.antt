@@ -2,3 +2,4 @@ pub mod OneLine
 pub mod Keeping
 pub mod Enough
 pub mod Going
+pub mod Onward

@@ -1,0 +1,10 @@
+-- By computing both sides.
+use mathlib.Core.Path.{refl}
+use Rattle.layout_table.specs.Tables.{refusalLine}
+use Rattle.line.specs.Lines.{lineText}
+use Rattle.passed_patterns.specs.Printing.{patternLines, output}
+use Rattle.passed_patterns.specs.Examples.{ExamplesHold}
+
+pub examples-hold : ExamplesHold
+unfolding output patternLines lineText refusalLine
+examples-hold = refl

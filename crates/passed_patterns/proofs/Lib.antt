@@ -1,0 +1,3 @@
+pub mod Examples
+pub mod Showing
+pub mod Outputs
