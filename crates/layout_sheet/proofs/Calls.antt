@@ -32,16 +32,7 @@ pub sheet-given : (r : IsomorphicLayout) (l : Layout) → given l ≡ layoutOutc
 unfolding getSheet
 sheet-given r l e records = of-given r _ l e
 
--- a sheet is as long as the list: it has room there, and nothing lies past it
-pub sheet-has-room : (r : IsomorphicLayout) (records : List Record) → inRoom (length records) (getSheet r records) ≡ getSheet r records
-unfolding getSheet
-sheet-has-room r records = by (layoutOutcome r)
-  where
-    by : (o : Outcome Layout)
-        → inRoom (length records) (andThen o (λ (l : Layout). given (sheetIn l records))) ≡ andThen o (λ (l : Layout). given (sheetIn l records))
-    by (given l) = held (length records) (sheetIn l records) (omega (arith, length-map records (recordIn l)))
-    by (refused n) = refl
-
+-- nothing lies past a sheet, which is as long as its list
 none-past : (f : Record → Record) (records : List Record) → map f records ≡ map f records ++ drop (length (map f records)) records
 none-past f [] = refl
 none-past f (x ∷ records) = ap (λ (l : List Record). f x ∷ l) (none-past f records)
@@ -79,3 +70,13 @@ all-filled r n found e c k =
             ∙ ap (λ (o : Outcome (List Record)). written o records) (sheet-given r l ok records);
       };
     }
+
+-- a sheet has room in its list
+pub sheet-has-room : (r : IsomorphicLayout) (records : List Record) → inRoom (length records) (getSheet r records) ≡ getSheet r records
+unfolding getSheet
+sheet-has-room r records = by (layoutOutcome r)
+  where
+    by : (o : Outcome Layout)
+        → inRoom (length records) (andThen o (λ (l : Layout). given (sheetIn l records))) ≡ andThen o (λ (l : Layout). given (sheetIn l records))
+    by (given l) = held (length records) (sheetIn l records) (omega (arith, length-map records (recordIn l)))
+    by (refused n) = refl
