@@ -7,6 +7,7 @@ use crate::retunings;
 use crate::words::Values;
 use answer::CountAnswer;
 use layout::IsomorphicLayout;
+use mos::Mos;
 
 pub(crate) fn answer(kind: usize, n: Values) {
     let mut out = print::list_room();
@@ -21,13 +22,19 @@ fn put(kind: usize, n: Values, out: &mut [u16]) {
 
 fn write(kind: usize, n: Values, out: &mut [u16]) -> CountAnswer {
     match kind {
-        names::CHILDREN => mos_listings::children(patterns::pattern_of(n), out),
-        names::PARENTS => mos_listings::parents(patterns::pattern_of(n), out),
-        names::LAYER_SIZES => mos_layers::layer_sizes(patterns::pattern_of(n), out),
-        names::LAYERS => mos_layers::get_layers(patterns::pattern_of(n), out),
         names::FIND_BY_EDO => edo_layouts::find_by_edo(n.first, out),
         names::MOVE_TABLE => layout_retuning::move_table(retunings::retuning_of(n), out),
-        _ => layout_reach::keys_in_reach(layouts::with_start(n), n.key, n.last, out),
+        names::REACH => layout_reach::keys_in_reach(layouts::with_start(n), n.key, n.last, out),
+        _ => write_of_pattern(kind, patterns::pattern_of(n), out),
+    }
+}
+
+fn write_of_pattern(kind: usize, m: Mos, out: &mut [u16]) -> CountAnswer {
+    match kind {
+        names::CHILDREN => mos_listings::children(m, out),
+        names::PARENTS => mos_listings::parents(m, out),
+        names::LAYER_SIZES => mos_layers::layer_sizes(m, out),
+        _ => mos_layers::get_layers(m, out),
     }
 }
 

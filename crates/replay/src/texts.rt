@@ -3,6 +3,7 @@ use crate::layouts;
 use crate::names;
 use crate::print;
 use crate::words::Values;
+use layout::IsomorphicLayout;
 
 pub(crate) fn answer(kind: usize, n: Values) {
     let mut out = io::large_buffer();
@@ -11,16 +12,24 @@ pub(crate) fn answer(kind: usize, n: Values) {
 }
 
 fn put(kind: usize, n: Values, out: &mut [u8]) {
-    if kind == names::CHAIN {
-        let answer = genchain_names::name(n.first, out);
-        print::written_line(out, answer);
-        return;
+    match kind {
+        names::CHAIN => put_chain(n.first, out),
+        names::EDO_REPORT => put_report(out),
+        _ => put_mapping(layouts::with_start(n), out),
     }
-    if kind == names::EDO_REPORT {
-        let answer = edo_counts::report(out);
-        print::lines(out, answer);
-        return;
-    }
-    let answer = layout_kbm::write_kbm(layouts::with_start(n), out);
+}
+
+fn put_chain(code: u16, out: &mut [u8]) {
+    let answer = genchain_names::name(code, out);
+    print::written_line(out, answer);
+}
+
+fn put_report(out: &mut [u8]) {
+    let answer = edo_counts::report(out);
+    print::lines(out, answer);
+}
+
+fn put_mapping(layout: IsomorphicLayout, out: &mut [u8]) {
+    let answer = layout_kbm::write_kbm(layout, out);
     print::bytes(out, answer);
 }
