@@ -2,8 +2,8 @@
 use mathlib.Core.Path.{sym}
 use lib.Seq.{length-take-le}
 use borrow.Author.Needs.{needs}
-use Rattle.replay.proofs.answer_in_room.Statement.{statement}
-use Rattle.replay.proofs.answer_in_room.Tie as tie
+use Rattle.replay.proofs.texts.answer.Statement.{statement}
+use Rattle.replay.proofs.texts.answer.Tie as tie
 
 large-buffer-requires : tie.Need-large-buffer-requires
 large-buffer-requires c κs = search needs
@@ -14,22 +14,22 @@ cast-end c = search needs
 array-borrow-prefix-out : tie.Need-array-borrow-prefix-out
 array-borrow-prefix-out c = search needs
 
-slice-aggregate-answer-text : tie.Need-slice-aggregate-answer-text
-slice-aggregate-answer-text c = sym (length-take-le _ _ (search needs))
+slice-aggregate-put : tie.Need-slice-aggregate-put
+slice-aggregate-put c = sym (length-take-le _ _ (search needs))
 
-answer-text-requires : tie.Need-answer-text-requires
-answer-text-requires c κs = search needs
+put-requires : tie.Need-put-requires
+put-requires c κs = search needs
 
 returns : tie.Need-returns
 returns c = search needs
 
-pub answer-in-room-spec : {M : Type 1} → statement M
-answer-in-room-spec =
+pub answer-spec : {M : Type 1} → statement M
+answer-spec =
     tie.close
     (tie.spec
     large-buffer-requires
     cast-end
     array-borrow-prefix-out
-    slice-aggregate-answer-text
-    answer-text-requires
+    slice-aggregate-put
+    put-requires
     returns)
