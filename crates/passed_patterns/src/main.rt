@@ -87,7 +87,7 @@ fn show_from(line: Line, generator: u16) {
 }
 
 fn show_layout(line: Line) {
-    match genchain_generators::generator(line.genchain, line.octave, line.tritave) {
+    match genchain::generator(line.genchain, line.octave, line.tritave) {
         NumberAnswer::Given(generator) => show_from(line, generator),
         NumberAnswer::Refused(question) => put_refusal(question),
     }

@@ -89,7 +89,7 @@ fn answer_layout(kind: usize, layout: IsomorphicLayout, out: &mut [u8]) {
 }
 
 pub(crate) fn put_chain(code: u16, out: &mut [u8]) {
-    let answer = genchain_names::name(code, out);
+    let answer = genchain::name(code, out);
     print::written(out, answer);
     print::end_line();
 }

@@ -35,7 +35,7 @@ pub(crate) fn answer(kind: usize, n: Values) {
         num_symbols: n.third,
         genchain_origin: n.fourth,
     };
-    put_spelled(pergen_spelling::get_accidentals(pergen, format, n.key));
+    put_spelled(pergen.get_accidentals(format, n.key));
 }
 
 // Period, generator, cycles, reduced period and inverse, or a refusal, within a line.
