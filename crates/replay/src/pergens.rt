@@ -21,8 +21,7 @@ pub(crate) fn answer(kind: usize, n: Values) {
     match kind {
         names::PERGEN => put_pergen_line(PerGen::new(n.first, n.second)),
         names::GENERATION => put_generated(pergen_of(n).get_generation(n.key)),
-        _ => put_spelled(pergen_spelling::get_accidentals(
-            pergen_of(n),
+        _ => put_spelled(pergen_of(n).get_accidentals(
             AccidentalsFormat {
                 num_symbols: n.third,
                 genchain_origin: n.fourth,

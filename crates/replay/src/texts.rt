@@ -20,7 +20,7 @@ fn put(kind: usize, n: Values, out: &mut [u8]) {
 }
 
 fn put_chain(code: u16, out: &mut [u8]) {
-    let answer = genchain_names::name(code, out);
+    let answer = genchain::name(code, out);
     print::written_line(out, answer);
 }
 
