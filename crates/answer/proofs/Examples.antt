@@ -13,6 +13,7 @@ examples-hold =
       stops = refl;
       enough = refl;
       one-short = refl;
+      own-first = refl;
       count = refl;
       no-count = refl;
       front = refl;

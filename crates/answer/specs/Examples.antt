@@ -29,7 +29,7 @@ use Rattle.answer.specs.declared.Refusal.the-variants.{
 }
 use Rattle.answer.specs.Outcome.{Outcome, given, refused, ask, andThen}
 use Rattle.answer.specs.Refusals.{numberOf}
-use Rattle.answer.specs.Lent.{heldIn, counted, written}
+use Rattle.answer.specs.Lent.{heldIn, inRoom, counted, written}
 
 -- The questions in document 01's order, but for 9.
 abbrev pub inOrder : List Refusal
@@ -46,6 +46,10 @@ stopped = ask 1 true (ask 2 false (ask 3 false (given 7)))
 -- One question more, of the value.
 abbrev pub further : ℕ → Outcome ℕ
 further n = ask 4 true (given (n + 1))
+
+-- An output of two elements.
+abbrev pub output : List ℕ
+output = 5 ∷ 6 ∷ []
 
 -- Theorem.
 pub record ExamplesHold : Type 0 where
@@ -64,10 +68,12 @@ pub record ExamplesHold : Type 0 where
   pub goes-on : andThen accepted further ≡ given 8
   pub stops : andThen stopped further ≡ refused 2
   -- question 10, at exactly enough room and one short
-  pub enough : heldIn 2 (5 ∷ 6 ∷ []) ≡ given (5 ∷ 6 ∷ [])
-  pub one-short : heldIn 1 (5 ∷ 6 ∷ []) ≡ refused 10
-  pub count : counted (given (5 ∷ 6 ∷ [])) ≡ given 2
-  pub no-count : counted (refused 10) ≡ refused 10
+  pub enough : heldIn 2 output ≡ given output
+  pub one-short : heldIn 1 output ≡ refused 10
+  -- and after the questions of the call
+  pub own-first : inRoom {A = ℕ} 0 (refused 18) ≡ refused 18
+  pub count : counted (given output) ≡ given 2
+  pub no-count : counted {A = ℕ} (refused 10) ≡ refused 10
   -- a longer slice keeps what lies past the output, and a refusal changes nothing
-  pub front : written (given (5 ∷ 6 ∷ [])) (1 ∷ 2 ∷ 3 ∷ 4 ∷ []) ≡ 5 ∷ 6 ∷ 3 ∷ 4 ∷ []
-  pub untouched : written (refused 10) (1 ∷ 2 ∷ 3 ∷ []) ≡ 1 ∷ 2 ∷ 3 ∷ []
+  pub front : written (given output) (1 ∷ 2 ∷ 3 ∷ 4 ∷ []) ≡ 5 ∷ 6 ∷ 3 ∷ 4 ∷ []
+  pub untouched : written {A = ℕ} (refused 10) (1 ∷ 2 ∷ 3 ∷ []) ≡ 1 ∷ 2 ∷ 3 ∷ []

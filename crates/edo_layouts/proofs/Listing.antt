@@ -8,12 +8,11 @@ use mathlib.Core.List.{List, [], _∷_, _++_, append-assoc, append-nil}
 use lib.ListN.{length, set, take, drop, length-append}
 use lib.Seq.{take-append-seam}
 use Rattle.answer.specs.Outcome.{Outcome, given, refused, ask, andThen}
-use Rattle.answer.specs.Lent.{heldIn}
+use Rattle.answer.specs.Lent.{heldIn, inRoom}
 use Rattle.answer.proofs.Asked.{asked-yes}
 use Rattle.text.specs.Writing.{Wrote, joined}
 use Rattle.text.proofs.Writing.{wrote-one, then, wrote-as, wrote-length, wrote-front}
 use Rattle.text.proofs.Joined.{joined-same}
-use Rattle.layout.specs.Answers.{inRoom}
 use Rattle.edo_tritaves.specs.declared.Choices.{Choices}
 use Rattle.edo_tritaves.specs.Tritaves.{isDivision, choicesOf, tritavesOf}
 use Rattle.edo_layouts.specs.declared.EdoLayout.{EdoLayout}

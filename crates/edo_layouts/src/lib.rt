@@ -13,9 +13,8 @@ use layout::IsomorphicLayout;
 use mos::Mos;
 ghost use mathlib.Core.Path.{_≡_};
 ghost use lib.ListN.{length};
-ghost use Rattle.answer.specs.Lent.{Filled};
+ghost use Rattle.answer.specs.Lent.{inRoom, Filled};
 ghost use Rattle.answer.specs.Refusals.{countOutcome};
-ghost use Rattle.layout.specs.Answers.{inRoom};
 ghost use Rattle.edo_layouts.specs.Layouts.{chainOutcome, findByEdo, edoOutcome};
 
 // A chain's layout, whether its tritave is the second choice, and the step pattern of its letters.

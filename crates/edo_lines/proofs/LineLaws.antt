@@ -6,8 +6,8 @@ use mathlib.Core.List.{List, [], _∷_, _++_}
 use lib.ListN.{length, length-append}
 use Rattle.answer.specs.Outcome.{Outcome, given, refused}
 use Rattle.genchain.specs.Chains.{chainOf}
-use Rattle.genchain_names.specs.Texts.{textAt, PlaceOf}
-use Rattle.genchain_names.proofs.TextTable.{texts-at, text-small}
+use Rattle.genchain.specs.Texts.{textAt, PlaceOf}
+use Rattle.genchain.proofs.TextTable.{texts-at, text-small}
 use Rattle.layout.specs.ScaleNames.{scaleName}
 use Rattle.text.specs.Decimal.{digits}
 use Rattle.text.proofs.Digits.{digits-length}

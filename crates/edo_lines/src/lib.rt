@@ -9,12 +9,12 @@ use answer::NumberAnswer;
 use edo_layouts::EdoAnswer;
 use edo_tritaves::Choices;
 use edo_tritaves::TritavesAnswer;
-use genchain_names::texts;
+use genchain::names;
 use text::decimal;
 use text::writer::put_byte;
 ghost use Prim.Native.Nat.{_+_, _*_, _≤_, _<_};
 ghost use lib.ListN.{length};
-ghost use Rattle.genchain_names.specs.Texts.{textAt};
+ghost use Rattle.genchain.specs.Texts.{textAt};
 ghost use Rattle.layout_table.specs.Tables.{outputOf};
 ghost use Rattle.text.specs.Writing.{Wrote, joined};
 ghost use Rattle.edo_lines.specs.Lines.{numbersPart, namesPart, lineWith, divisionLines, output};
@@ -35,9 +35,9 @@ fn put_names(out: &mut [u8], at: usize, chain: u16, scale: u16) -> usize
     requires { ⌜ (chain < 19) × (scale < 19) × (at + 26 ≤ length (now out)) ⌝ }
     ensures { λ r. ⌜ Wrote (now (out .entry)) at (namesPart (textAt chain) (textAt scale)) (now (out .exit)) r × (r ≤ at + 26) ⌝ }
 {
-    let named = texts::put(out, at, chain);
+    let named = names::put(out, at, chain);
     let between = put_byte(out, named, b' ');
-    let scaled = texts::put(out, between, scale);
+    let scaled = names::put(out, between, scale);
     put_byte(out, scaled, b'\n')
 }
 

@@ -1,5 +1,6 @@
 pub mod Tables
 pub mod GoodChains
 pub mod TableRows
+pub mod TextTable
 pub mod Calls
 pub mod Examples

@@ -1,4 +1,5 @@
 pub mod Chains
 pub mod Answers
+pub mod Texts
 pub mod Theorems
 pub mod Examples

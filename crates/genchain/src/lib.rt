@@ -1,10 +1,13 @@
 // The six chains of letters, after `Genchain` in src/layout.rs of the original.
 //
-// Holds for each chain code from 0 to 5 the letters and the place of key 0's letter (document 01, "The six chains"). The letters
-// stand in one constant table, in `rows`. `genchain_generators` has the chains' generators, `genchain_names` their names.
-// specs/: Chains has the six chains as data, Answers says what each call answers, here and in these two crates, Theorems what is
-// proved of the letters.
+// Holds for each chain code from 0 to 5 the letters, the place of key 0's letter, the generator in a tuning, and the name (document 01,
+// "The six chains"). The letters stand in one constant table, in `rows`, the names of chains and scales in another, in `names`;
+// `generators` has the chains' rules.
+// specs/: Chains has the six chains as data, Answers says what each call answers, Theorems what is proved of the letters, Texts which
+// text stands at which place of the table of names.
 // Every entry point answers every input; the modules of parts ask for more, as their heads say. Nothing is assumed.
+mod generators;
+pub mod names;
 pub mod rows;
 
 use answer::CountAnswer;
@@ -18,6 +21,9 @@ ghost use Rattle.genchain.specs.Answers.{
   numLettersOutcome,
   startOutcome,
   lettersOutcome,
+  generatorOutcome,
+  nameLengthOutcome,
+  nameOutcome,
 };
 
 // How many letters the chain has (1).
@@ -56,4 +62,42 @@ pub fn letters(code: u16, out: &mut [u16]) -> CountAnswer
         return CountAnswer::Given(count);
     }
     CountAnswer::Refused(Refusal::Chain)
+}
+
+// The chain's generator in steps of a tuning with so many steps to the octave and to the tritave (1, 2, 3).
+pub fn generator(code: u16, octave: u16, tritave: u16) -> NumberAnswer
+    ensures { λ r. ⌜ numberOutcome r ≡ generatorOutcome code octave tritave ⌝ }
+{
+    if !rows::is_chain(code) {
+        return NumberAnswer::Refused(Refusal::Chain);
+    }
+    if octave == 0 {
+        return NumberAnswer::Refused(Refusal::Period);
+    }
+    match code {
+        3 => generators::third_of_fourth(octave, tritave),
+        4 => generators::quarter_of_fifth(octave, tritave),
+        5 => generators::octave_less_sixth(octave, tritave),
+        _ => generators::fifth(octave, tritave),
+    }
+}
+
+// How many bytes the chain's name has (1).
+pub fn name_len(code: u16) -> CountAnswer
+    ensures { λ r. ⌜ countOutcome r ≡ nameLengthOutcome code ⌝ }
+{
+    if !rows::is_chain(code) {
+        return CountAnswer::Refused(Refusal::Chain);
+    }
+    CountAnswer::Given(names::text_len(1 + 3 * code))
+}
+
+// The chain's name, as "Meantone[7]", in UTF-8 (1, 10).
+pub fn name(code: u16, out: &mut [u8]) -> CountAnswer
+    ensures { λ r. ⌜ Filled (nameOutcome code (length (now (out .entry)))) (countOutcome r) (now (out .entry)) (now (out .exit)) ⌝ }
+{
+    if !rows::is_chain(code) {
+        return CountAnswer::Refused(Refusal::Chain);
+    }
+    names::fill(1 + 3 * code, out)
 }

@@ -5,7 +5,7 @@ use mathlib.Core.List.{List}
 use lib.IntN.{ℤ, pos}
 use lib.ListN.{length}
 use Rattle.answer.specs.Outcome.{Outcome, given, refused, andThen}
-use Rattle.answer.specs.Lent.{heldIn, counted, Filled}
+use Rattle.answer.specs.Lent.{heldIn, inRoom, counted, Filled}
 use Rattle.genchain.specs.declared.rows.ChainRow.{ChainRow}
 use Rattle.genchain.specs.Chains.{chainOf, rowOf, TableRow, lettersIn}
 use Rattle.genchain.proofs.TableRows.{table-row, row-letters}
@@ -18,7 +18,7 @@ use Rattle.pergen.proofs.Keys.{key-round}
 use Rattle.layout.specs.Layouts.{Layout, layoutOutcome, accidentalsIn, sharpFirst}
 use Rattle.layout.specs.ScaleNames.{scaleName}
 use Rattle.layout.specs.Names.{nameIn}
-use Rattle.layout.specs.Answers.{ofLayout, createOutcome, getGenchain, getPergen, getMos, getAccidentals, getScaleName, getNoteName, inRoom}
+use Rattle.layout.specs.Answers.{ofLayout, createOutcome, getGenchain, getPergen, getMos, getAccidentals, getScaleName, getNoteName}
 use Rattle.layout.specs.Parts.{Laid}
 use Rattle.layout.specs.declared.IsomorphicLayout.{IsomorphicLayout}
 use Rattle.layout.proofs.Finding.{Parts, accepted, laid, chain-is}

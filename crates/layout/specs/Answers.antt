@@ -5,7 +5,6 @@ use lib.Dec.{ltb}
 use lib.IntN.{ℤ}
 use Rattle.answer.specs.Outcome.{Outcome, given, refused, ask, andThen}
 use Rattle.answer.specs.Refusals.{numberOf}
-use Rattle.answer.specs.Lent.{heldIn}
 use Rattle.mos.specs.declared.Mos.{Mos}
 use Rattle.pergen.specs.declared.PerGen.{PerGen}
 use Rattle.pergen.specs.declared.Accidentals.{Accidentals}
@@ -62,10 +61,6 @@ soundedIn l x = ask 16 (ltb (x .index) (l .letters)) (ask 21 (ltb (x .stars) (cy
 unfoldable pub getSoundedKey : IsomorphicLayout → Spelling → Outcome ℕ
 unfolding layoutOutcome soundedIn
 getSoundedKey r x = ofLayout r (λ (l : Layout). soundedIn l x)
-
--- Then question 10, of an output slice with `room` elements.
-abbrev pub inRoom : ℕ → Outcome (List ℕ) → Outcome (List ℕ)
-inRoom room text = andThen text (heldIn room)
 
 -- What each answer means.
 abbrev pub answerOutcome : LayoutAnswer → Outcome IsomorphicLayout

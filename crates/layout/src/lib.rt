@@ -21,7 +21,7 @@ use pergen::euclid;
 ghost use mathlib.Core.Path.{_≡_};
 ghost use lib.ListN.{length};
 ghost use Rattle.answer.specs.Refusals.{numberOutcome, countOutcome};
-ghost use Rattle.answer.specs.Lent.{counted, Filled};
+ghost use Rattle.answer.specs.Lent.{inRoom, counted, Filled};
 ghost use Rattle.mos.specs.Answers.{mosOutcome};
 ghost use Rattle.pergen.specs.Answers.{pergenOutcome, accidentalsOutcome};
 ghost use Rattle.layout.specs.Layouts.{defaultLayout};
@@ -33,7 +33,6 @@ ghost use Rattle.layout.specs.Answers.{
   getAccidentals,
   getNoteName,
   getSoundedKey,
-  inRoom,
   answerOutcome,
 };
 

@@ -104,7 +104,7 @@ fn ask_with_letters(
     requires { ⌜ «num_letters» ≡ lettersOf genchain ⌝ }
     ensures { λ r. ⌜ foundOutcome r ≡ layoutOutcome (record { genchain = genchain; octave = octave; tritave = tritave; start = start }) ⌝ }
 {
-    match genchain_generators::generator(genchain, octave, tritave) {
+    match genchain::generator(genchain, octave, tritave) {
         NumberAnswer::Refused(q) => FoundAnswer::Refused(q),
         NumberAnswer::Given(generator) => {
             let layout = IsomorphicLayout {
@@ -197,7 +197,7 @@ pub(crate) fn spelled(solved: Solved, num_letters: u16, start: u16, key: u16) ->
         num_symbols: num_letters,
         genchain_origin: start,
     };
-    pergen_spelling::parts::accidentals(solved.reduced_period, format, generation)
+    pergen::spellings::accidentals(solved.reduced_period, format, generation)
 }
 
 // The two spellings of a key for its name, by a layout's numbers one by one: its whole record would be copied.
@@ -283,6 +283,6 @@ pub(crate) fn sounded(found: Found, spelling: Spelling) -> NumberAnswer
         period: found.octave,
         generator: found.generator,
     };
-    let sides = pergen_sounding::parts::sides_of(format, spelling);
-    NumberAnswer::Given(pergen_sounding::parts::sounded(pergen, sides, stars))
+    let sides = pergen::sounding::sides_of(format, spelling);
+    NumberAnswer::Given(pergen::sounding::sounded(pergen, sides, stars))
 }

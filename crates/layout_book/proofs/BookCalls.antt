@@ -4,7 +4,7 @@ use mathlib.Core.Path.{_≡_, sym, ap, ap₂, _∙_}
 use mathlib.Core.List.{List, _++_}
 use lib.ListN.{length}
 use Rattle.answer.specs.Outcome.{Outcome, given, refused, andThen}
-use Rattle.answer.specs.Lent.{heldIn, counted}
+use Rattle.answer.specs.Lent.{heldIn, inRoom, counted}
 use Rattle.text.proofs.Joined.{joined-same}
 use Rattle.book.specs.Books.{pairText, bookText}
 use Rattle.text.specs.LittleEndian.{le32}
@@ -12,7 +12,6 @@ use Rattle.book.proofs.Written.{pair-is, book-is}
 use Rattle.layout.specs.declared.IsomorphicLayout.{IsomorphicLayout}
 use Rattle.layout.specs.Layouts.{Layout, layoutOutcome}
 use Rattle.layout.specs.Names.{listedName}
-use Rattle.layout.specs.Answers.{inRoom}
 use Rattle.layout.proofs.Calls.{of-refused, of-given}
 use Rattle.layout_book.specs.LayoutBooks.{bookIn, getBook}
 use Rattle.layout_speller.specs.Parts.{nameOf, SpellerOf}

@@ -14,9 +14,8 @@ use layout::parts::FoundAnswer;
 use layout_speller::speller;
 ghost use mathlib.Core.Path.{_≡_};
 ghost use lib.ListN.{length};
-ghost use Rattle.answer.specs.Lent.{counted, Filled};
+ghost use Rattle.answer.specs.Lent.{inRoom, counted, Filled};
 ghost use Rattle.answer.specs.Refusals.{countOutcome};
-ghost use Rattle.layout.specs.Answers.{inRoom};
 ghost use Rattle.layout_book.specs.LayoutBooks.{getBook};
 
 // How many bytes the book of a layout's key names has (1, 2, 3, 4, 18).

@@ -8,7 +8,7 @@ use lib.ListN.{length, length-append}
 use lib.Dec.{eqb, leb}
 use borrow.Author.Tests.{le-leb}
 use Rattle.answer.specs.Outcome.{Outcome, given, refused, andThen}
-use Rattle.answer.specs.Lent.{heldIn, counted}
+use Rattle.answer.specs.Lent.{heldIn, inRoom, counted}
 use Rattle.text.specs.Writing.{joined}
 use Rattle.text.proofs.Joined.{joined-none, joined-same, length-joined-more}
 use Rattle.pergen.specs.Parts.{solvedOf, At}
@@ -17,7 +17,6 @@ use Rattle.pergen.specs.declared.stepping.Step.{Step}
 use Rattle.pergen.proofs.CarriedWalk.{walkable}
 use Rattle.layout.specs.declared.IsomorphicLayout.{IsomorphicLayout}
 use Rattle.layout.specs.Layouts.{Layout, layoutOutcome}
-use Rattle.layout.specs.Answers.{inRoom}
 use Rattle.layout.specs.Parts.{Laid}
 use Rattle.layout.proofs.Calls.{of-refused, of-given}
 use Rattle.layout.proofs.Finding.{laid}

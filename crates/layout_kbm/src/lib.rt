@@ -11,9 +11,8 @@ use layout::IsomorphicLayout;
 use layout::parts::FoundAnswer;
 ghost use mathlib.Core.Path.{_≡_};
 ghost use lib.ListN.{length};
-ghost use Rattle.answer.specs.Lent.{counted, Filled};
+ghost use Rattle.answer.specs.Lent.{inRoom, counted, Filled};
 ghost use Rattle.answer.specs.Refusals.{countOutcome};
-ghost use Rattle.layout.specs.Answers.{inRoom};
 ghost use Rattle.layout_kbm.specs.Mappings.{getKbm, getMappedKeys};
 
 // How many bytes `write_kbm` writes (1, 2, 3, 4, 18).

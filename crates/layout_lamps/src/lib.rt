@@ -13,9 +13,8 @@ use layout::IsomorphicLayout;
 use layout::parts::FoundAnswer;
 ghost use mathlib.Core.Path.{_≡_};
 ghost use lib.ListN.{length};
-ghost use Rattle.answer.specs.Lent.{counted, Filled};
+ghost use Rattle.answer.specs.Lent.{inRoom, counted, Filled};
 ghost use Rattle.answer.specs.Refusals.{numberOutcome, countOutcome};
-ghost use Rattle.layout.specs.Answers.{inRoom};
 ghost use Rattle.layout_lamps.specs.Answers.{getStrip, getLamp};
 
 // The lamp code of each key of an octave, of two octaves where the scale is equalized (1, 2, 3, 4, 18, 10).

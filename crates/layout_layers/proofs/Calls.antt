@@ -8,7 +8,7 @@ use lib.IntN.{ℤ}
 use lib.ListN.{length}
 use Rattle.answer.specs.Choice.{pick}
 use Rattle.answer.specs.Outcome.{Outcome, given, refused, andThen}
-use Rattle.answer.specs.Lent.{heldIn, counted, written, Filled}
+use Rattle.answer.specs.Lent.{heldIn, inRoom, counted, written, Filled}
 use Rattle.answer.proofs.Lent.{held, not-held, filled-refused}
 use Rattle.math.specs.Division.{remainder}
 use Rattle.pergen.specs.Pergen.{cycles}
@@ -16,7 +16,6 @@ use Rattle.pergen.specs.declared.euclid.Solved.{Solved}
 use Rattle.pergen.specs.Parts.{solvedOf}
 use Rattle.layout.specs.declared.IsomorphicLayout.{IsomorphicLayout}
 use Rattle.layout.specs.Layouts.{Layout, layoutOutcome}
-use Rattle.layout.specs.Answers.{inRoom}
 use Rattle.layout.proofs.Calls.{of-refused, of-given, parts-of, filled-as, refused-in-room}
 use Rattle.layout_layers.specs.declared.parts.Plan.{Plan}
 use Rattle.layout_layers.specs.KeyLayers.{numberIn}

@@ -15,9 +15,8 @@ use layout::IsomorphicLayout;
 use layout::parts::FoundAnswer;
 ghost use mathlib.Core.Path.{_≡_};
 ghost use lib.ListN.{length};
-ghost use Rattle.answer.specs.Lent.{counted, Filled};
+ghost use Rattle.answer.specs.Lent.{inRoom, counted, Filled};
 ghost use Rattle.answer.specs.Refusals.{numberOutcome, countOutcome};
-ghost use Rattle.layout.specs.Answers.{inRoom};
 ghost use Rattle.layout_layers.specs.KeyLayers.{kindOf};
 ghost use Rattle.layout_layers.specs.Answers.{getLayers, getLayerCount, getLayer};
 

@@ -1,22 +1,26 @@
 -- An accepted layout's pattern is one of the walk from its genesis, so all that holds of the walk's moves holds of the layout's.
 use Prim.Native.Nat.{ℕ, _≤_, _<_}
-use mathlib.Core.Path.{_≡_, sym, ap, _∙_, subst}
+use mathlib.Core.Path.{_≡_, refl, sym, ap, _∙_, subst}
 use mathlib.Core.List.{List}
 use mathlib.Core.Option.{Option, some}
 use native.Mathlib.Omega.{arith}
 use lib.IntN.{ℤ, pos, _+ℤ_, _*ℤ_, *ℤ-comm}
 use lib.ListN.{length}
 use Rattle.answer.specs.Outcome.{given, refused}
+use Rattle.answer.specs.Lent.{inRoom, Filled}
+use Rattle.answer.proofs.Lent.{filled-refused, filled-short}
+use Rattle.text.specs.Writing.{Wrote}
+use Rattle.text.proofs.Writing.{filled-whole}
 use Rattle.math.specs.Division.{Apart}
 use Rattle.math.proofs.Division.{remainder→apart}
 use Rattle.math.proofs.Integers.{rep-self, rep-pos, rep-add, rep-mul, rep-agree}
 use Rattle.mos_moves.specs.Moves.{Table, patternMoves, numbersOf}
-use Rattle.mos_moves.specs.Answers.{Tabled, inSignedRoom, FilledSigned}
-use Rattle.mos_moves.specs.Parts.{OnWalk, StoredFrom}
+use Rattle.mos_moves.specs.Answers.{Tabled}
+use Rattle.mos_moves.specs.Parts.{OnWalk}
 use Rattle.mos_moves.proofs.Walking.{moves-stand-beside-the-pattern}
 use Rattle.mos_moves.proofs.Combining.{moves-reach-all}
 use Rattle.mos_moves.proofs.Theorems.{moves-reach-their-steps, patterns-tell-their-moves}
-use Rattle.mos_moves.proofs.Answering.{tabled-refused, tabled-moves, signed-refused, signed-short, signed-given}
+use Rattle.mos_moves.proofs.Answering.{tabled-refused, tabled-moves}
 use Rattle.pergen.specs.Pergen.{reduced, keyDegree, keyCycle}
 use Rattle.pergen.specs.Spelling.{sounds}
 use Rattle.pergen.proofs.Keys.{degree-sounds-key}
@@ -110,10 +114,10 @@ module _ (r : IsomorphicLayout) (before : Table ℤ) where
 -- ---- the numbers in a slice
 
 module _ (r : IsomorphicLayout) (xs : List ℤ) where
-  pub numbers-refused : (n : ℕ) → refused n ≡ layoutOutcome r → FilledSigned (inSignedRoom (length xs) (getMoveNumbers r)) (refused n) xs xs
+  pub numbers-refused : (n : ℕ) → refused n ≡ layoutOutcome r → Filled (inRoom (length xs) (getMoveNumbers r)) (refused n) xs xs
   unfolding getMoveNumbers
   numbers-refused n e =
-      signed-refused n xs (ap (inSignedRoom (length xs)) (sym (of-refused r (λ (l : Layout). given (moveNumbers (movesIn l))) n e)))
+      filled-refused n xs (ap (inRoom (length xs)) (sym (of-refused r (λ (l : Layout). given (moveNumbers (movesIn l))) n e))) refl
 
   module _ (l : Layout) (e : given l ≡ layoutOutcome r) where
     abbrev own : Table ℤ
@@ -126,11 +130,10 @@ module _ (r : IsomorphicLayout) (xs : List ℤ) where
         sym (of-given r (λ (k : Layout). given (moveNumbers (movesIn k))) l e)
         ∙ ap (λ (o : Option (Table ℤ)). given (moveNumbers o)) (mine .1 .are ∙ ap some (mine .1 .by-pattern))
 
-    pub numbers-short : length xs < 4 → FilledSigned (inSignedRoom (length xs) (getMoveNumbers r)) (refused 10) xs xs
-    numbers-short h = signed-short xs (numbersOf own) asked h
+    pub numbers-short : length xs < 4 → Filled (inRoom (length xs) (getMoveNumbers r)) (refused 10) xs xs
+    numbers-short h = filled-short xs (numbersOf own) asked h
 
-    pub numbers-given : 4 ≤ length xs → (t : Table ℤ) → t ≡ own → {ys : List ℤ} {next : ℕ} → StoredFrom xs 0 (numbersOf t) ys next
-        → FilledSigned (inSignedRoom (length xs) (getMoveNumbers r)) (given next) xs ys
+    pub numbers-given : 4 ≤ length xs → (t : Table ℤ) → t ≡ own → {ys : List ℤ} {next : ℕ} → Wrote xs 0 (numbersOf t) ys next
+        → Filled (inRoom (length xs) (getMoveNumbers r)) (given next) xs ys
     numbers-given room t is {ys} {next} w =
-        signed-given xs (numbersOf own) asked room
-        (subst (λ (u : Table ℤ). StoredFrom xs 0 (numbersOf u) ys next) is w)
+        filled-whole asked room (subst (λ (u : Table ℤ). Wrote xs 0 (numbersOf u) ys next) is w)

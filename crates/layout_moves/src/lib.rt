@@ -11,9 +11,10 @@ use layout::parts::FoundAnswer;
 use mos::MosAnswer;
 use mos_moves::Moves;
 ghost use lib.ListN.{length};
+ghost use Rattle.answer.specs.Lent.{inRoom, Filled};
 ghost use Rattle.answer.specs.Refusals.{countOutcome};
 ghost use Rattle.mos.specs.Answers.{mosOutcome};
-ghost use Rattle.mos_moves.specs.Answers.{Tabled, FilledSigned, inSignedRoom};
+ghost use Rattle.mos_moves.specs.Answers.{Tabled};
 ghost use Rattle.layout.specs.Answers.{getMos};
 ghost use Rattle.layout_moves.specs.Answers.{getMoves, getMoveNumbers};
 
@@ -33,7 +34,7 @@ pub fn get_moves(layout: IsomorphicLayout, moves: &mut Moves) -> MosAnswer
 
 // The same four numbers at the front of a slice: the primary row's octaves and generators, then the secondary row's (1, 2, 3, 4, 18, 10).
 pub fn write_moves(layout: IsomorphicLayout, out: &mut [i32]) -> CountAnswer
-    ensures { λ r. ⌜ FilledSigned (inSignedRoom (length (now (out .entry))) (getMoveNumbers layout)) (countOutcome r) (now (out .entry)) (now (out .exit)) ⌝ }
+    ensures { λ r. ⌜ Filled (inRoom (length (now (out .entry))) (getMoveNumbers layout)) (countOutcome r) (now (out .entry)) (now (out .exit)) ⌝ }
 {
     match layout::parts::ask(layout) {
         FoundAnswer::Refused(q) => CountAnswer::Refused(q),

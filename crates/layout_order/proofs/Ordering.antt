@@ -8,12 +8,12 @@ use lib.Dec.{leb}
 use lib.ListN.{length, take, drop}
 use borrow.Author.Tests.{le-leb, lt-leb, leb-true, leb-false}
 use Rattle.answer.specs.Outcome.{Outcome, given, refused, ask, andThen}
-use Rattle.answer.specs.Lent.{counted, written, Filled}
+use Rattle.answer.specs.Lent.{inRoom, counted, written, Filled}
 use Rattle.answer.proofs.Asked.{given-same, asked-yes, asked-rest, and-left, and-right}
 use Rattle.answer.proofs.Lent.{held, not-held, filled-refused}
 use Rattle.layout.specs.declared.IsomorphicLayout.{IsomorphicLayout}
 use Rattle.layout.specs.Layouts.{Layout, layoutOutcome}
-use Rattle.layout.specs.Answers.{ofLayout, inRoom}
+use Rattle.layout.specs.Answers.{ofLayout}
 use Rattle.layout.proofs.Calls.{of-refused, of-given, filled-as, refused-in-room}
 use Rattle.layout.proofs.Finding.{accepted, octave-is}
 use Rattle.layout_order.specs.Order.{chainPlace, placed, inChainOrder, inKeyOrder}

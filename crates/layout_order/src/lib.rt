@@ -10,9 +10,8 @@ use answer::CountAnswer;
 use layout::IsomorphicLayout;
 use layout::parts::FoundAnswer;
 ghost use lib.ListN.{length};
-ghost use Rattle.answer.specs.Lent.{Filled};
+ghost use Rattle.answer.specs.Lent.{inRoom, Filled};
 ghost use Rattle.answer.specs.Refusals.{countOutcome};
-ghost use Rattle.layout.specs.Answers.{inRoom};
 ghost use Rattle.layout_order.specs.Answers.{getChainOrder, getKeyOrder};
 
 // The entry of each key at its place in the chain: one cycle after the other, and in each the keys as the chain meets them

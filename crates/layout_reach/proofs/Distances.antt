@@ -12,7 +12,7 @@ use Rattle.math.specs.Division.{remainder}
 use Rattle.math.proofs.Congruence.{add-cong}
 use Rattle.math.proofs.Integers.{up, down, rep-self, rep-minus}
 use Rattle.math.proofs.Division.{remainder-below, remainders-agree, remainder→apart, apart→remainder}
-use Rattle.pergen_sounding.proofs.Differences.{remainder-above, remainder-below-zero}
+use Rattle.pergen.proofs.Differences.{remainder-above, remainder-below-zero}
 use Rattle.layout_reach.specs.Reach.{distance}
 use Rattle.layout_reach.specs.Theorems.{RoundTheOctave, DistancesRoundTheOctave}
 

@@ -32,7 +32,7 @@ use Rattle.pergen.proofs.Inverse.{numbers, cycles-positive}
 use Rattle.pergen.proofs.Keys.{spellings-of-one-key, degree-sounds-key, key-cycle-below, key-degree-below}
 use Rattle.pergen.proofs.Indices.{flat-rep, flat-inside, accidentals-high}
 use Rattle.pergen.proofs.DegreePlaces.{place-sharps}
-use Rattle.pergen_sounding.proofs.Differences.{sounded-is}
+use Rattle.pergen.proofs.Differences.{sounded-is}
 use Rattle.layout.specs.declared.IsomorphicLayout.{IsomorphicLayout}
 use Rattle.layout.specs.Layouts.{Layout, Accepted, accidentalsIn, sharpFirst, cyclesIn}
 use Rattle.layout.specs.Names.{placeIn, keyOf, printedIn, nameIn}

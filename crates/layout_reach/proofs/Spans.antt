@@ -11,7 +11,7 @@ use borrow.Author.Tests.{le-leb, lt-leb, leb-true, ltb-true, ltb-false, leb-fals
 use native.Mathlib.Nat.{add-sub-of-le}
 use native.Mathlib.Omega.{arith}
 use Rattle.answer.specs.Outcome.{Outcome, given, refused, andThen}
-use Rattle.answer.specs.Lent.{heldIn, counted, Filled}
+use Rattle.answer.specs.Lent.{heldIn, inRoom, counted, Filled}
 use Rattle.answer.proofs.Lent.{held, not-held, filled-refused}
 use Rattle.math.specs.Division.{remainder}
 use Rattle.math.proofs.Division.{remainder-below}
@@ -19,7 +19,6 @@ use Rattle.text.specs.Writing.{Room, Wrote}
 use Rattle.text.proofs.Writing.{wrote-none, wrote-one, then, wrote-as, room-first, filled-given}
 use Rattle.layout.specs.declared.IsomorphicLayout.{IsomorphicLayout}
 use Rattle.layout.specs.Layouts.{Layout, layoutOutcome}
-use Rattle.layout.specs.Answers.{inRoom}
 use Rattle.layout.proofs.Calls.{of-refused, of-given, parts-of, filled-as, refused-in-room}
 use Rattle.layout_reach.specs.Reach.{distance, run, passing, inReach}
 use Rattle.layout_reach.specs.Answers.{getReach, CountsReach}

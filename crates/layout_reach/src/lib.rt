@@ -12,9 +12,8 @@ use layout::IsomorphicLayout;
 use layout::parts::FoundAnswer;
 ghost use mathlib.Core.Path.{_≡_};
 ghost use lib.ListN.{length};
-ghost use Rattle.answer.specs.Lent.{Filled};
+ghost use Rattle.answer.specs.Lent.{inRoom, Filled};
 ghost use Rattle.answer.specs.Refusals.{numberOutcome, countOutcome};
-ghost use Rattle.layout.specs.Answers.{inRoom};
 ghost use Rattle.layout_reach.specs.Answers.{getNearest, getReach, CountsReach};
 
 // The key of the octave nearest to a key, among those whose name is the letter at this place in the chain, with any stars; of two equally

@@ -5,7 +5,7 @@ use answer::NumberAnswer;
 use answer::Refusal;
 use layout::parts::Found;
 use pergen::PerGen;
-use pergen_sounding::parts::Sides;
+use pergen::sounding::Sides;
 ghost use mathlib.Core.Path.{_≡_};
 ghost use Prim.Native.Nat.{_+_, _*_, _<_, _≤_, _-_, min};
 ghost use lib.IntN.{pos};
@@ -79,7 +79,7 @@ fn nearest_from(octave: u16, generator: u16, start: u16, key: i32, letter: u16) 
         above: letter as u64,
         below: start as u64,
     };
-    let base = pergen_sounding::parts::sounded(pergen, place, 0);
+    let base = pergen::sounding::sounded(pergen, place, 0);
     nearest_in(
         octave,
         base,

@@ -16,8 +16,8 @@ use Rattle.pergen.specs.Spelling.{signsOf, sounds, soundedKey}
 use Rattle.pergen.specs.declared.Signs.{Signs}
 use Rattle.pergen.specs.declared.Spelling.{Spelling}
 use Rattle.pergen.proofs.Calls.{cycles-found}
-use Rattle.pergen_sounding.specs.Parts.{SidesOf}
-use Rattle.pergen_sounding.specs.declared.parts.Sides.{Sides}
+use Rattle.pergen.specs.Parts.{SidesOf}
+use Rattle.pergen.specs.declared.sounding.Sides.{Sides}
 use Rattle.layout.specs.Layouts.{Layout, Accepted, cyclesIn}
 use Rattle.layout.specs.Names.{keyOf}
 use Rattle.layout.specs.Answers.{getSoundedKey}

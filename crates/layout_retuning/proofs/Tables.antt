@@ -9,7 +9,7 @@ use lib.Seq.{getD-append-seam}
 use native.Mathlib.Nat.{one-mul, eq-or-lt-of-le}
 use native.Mathlib.Omega.{arith}
 use Rattle.answer.specs.Outcome.{Outcome, given, refused, andThen}
-use Rattle.answer.specs.Lent.{heldIn, counted, Filled}
+use Rattle.answer.specs.Lent.{heldIn, inRoom, counted, Filled}
 use Rattle.answer.proofs.Asked.{given-same}
 use Rattle.answer.proofs.Lent.{held, not-held, filled-refused}
 use Rattle.text.specs.Writing.{Wrote, joined}
@@ -17,7 +17,6 @@ use Rattle.text.proofs.Writing.{wrote-one, wrote-as, filled-given}
 use Rattle.text.proofs.Joined.{joined-start, joined-step, joined-same, joined-blocks, length-joined-each}
 use Rattle.pergen.proofs.Inverse.{cycles-positive}
 use Rattle.layout.specs.Layouts.{Layout, Accepted}
-use Rattle.layout.specs.Answers.{inRoom}
 use Rattle.layout_retuning.specs.Retunings.{firstOf, secondOf, moved, tableSpelling, letterMoves, moveTable}
 use Rattle.layout_retuning.specs.Answers.{movedIn, getMoved, getMoveTable}
 use Rattle.layout_retuning.specs.Parts.{tuningsOf, getTunings, stepsBy, countOf, tableBy}

@@ -14,9 +14,8 @@ use pergen::Signs;
 use pergen::Spelling;
 ghost use mathlib.Core.Path.{_≡_};
 ghost use lib.ListN.{length};
-ghost use Rattle.answer.specs.Lent.{counted, Filled};
+ghost use Rattle.answer.specs.Lent.{inRoom, counted, Filled};
 ghost use Rattle.answer.specs.Refusals.{numberOutcome, countOutcome};
-ghost use Rattle.layout.specs.Answers.{inRoom};
 ghost use Rattle.layout_retuning.specs.Retunings.{spelt};
 ghost use Rattle.layout_retuning.specs.Answers.{getMoved, getMoveTable, getLargestMove};
 

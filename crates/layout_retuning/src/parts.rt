@@ -10,7 +10,7 @@ use layout_reach::parts::distance;
 use pergen::AccidentalsFormat;
 use pergen::PerGen;
 use pergen::Spelling;
-use pergen_sounding::parts::Sides;
+use pergen::sounding::Sides;
 ghost use mathlib.Core.Path.{_≡_};
 ghost use Prim.Native.Nat.{_+_, _*_, _%_, _<_, _≤_, max};
 ghost use lib.IntN.{pos, _-ℤ_};
@@ -101,8 +101,8 @@ fn keys_at(tunings: Tunings, place: Sides, stars: u16) -> Keys
         generator: tunings.second,
     };
     Keys {
-        first: pergen_sounding::parts::sounded(one, place, stars),
-        second: pergen_sounding::parts::sounded(other, place, stars),
+        first: pergen::sounding::sounded(one, place, stars),
+        second: pergen::sounding::sounded(other, place, stars),
     }
 }
 
@@ -115,7 +115,7 @@ fn steps(tunings: Tunings, spelling: Spelling) -> u16
         num_symbols: tunings.num_letters,
         genchain_origin: tunings.start,
     };
-    let place = pergen_sounding::parts::sides_of(format, spelling);
+    let place = pergen::sounding::sides_of(format, spelling);
     let keys = keys_at(tunings, place, spelling.stars);
     distance(tunings.octave, keys.first, keys.second)
 }

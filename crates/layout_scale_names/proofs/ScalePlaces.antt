@@ -6,14 +6,14 @@ use native.Mathlib.Omega.{arith}
 use lib.ListN.{length}
 use borrow.Author.Tests.{lt-ltb, le-ltb}
 use Rattle.answer.specs.Outcome.{Outcome, given, andThen}
-use Rattle.answer.specs.Lent.{heldIn, counted}
+use Rattle.answer.specs.Lent.{heldIn, inRoom, counted}
 use Rattle.mos.specs.declared.Mos.{Mos}
 use Rattle.mos.specs.Patterns.{primary, secondary}
-use Rattle.genchain_names.specs.Texts.{textAt, PlaceOf}
-use Rattle.genchain_names.proofs.TextTable.{equalized-at, texts-at}
+use Rattle.genchain.specs.Texts.{textAt, PlaceOf}
+use Rattle.genchain.proofs.TextTable.{equalized-at, texts-at}
 use Rattle.layout.specs.Layouts.{Layout, layoutOutcome}
 use Rattle.layout.specs.ScaleNames.{scaleName}
-use Rattle.layout.specs.Answers.{getScaleName, inRoom}
+use Rattle.layout.specs.Answers.{getScaleName}
 use Rattle.layout.specs.declared.IsomorphicLayout.{IsomorphicLayout}
 use Rattle.layout.proofs.Calls.{scale-given}
 

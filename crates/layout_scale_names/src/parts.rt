@@ -1,7 +1,7 @@
 // Where a scale's name stands in the table: parts, and no entry points. Callers have asked question 1.
 use mos::Mos;
 ghost use Prim.Native.Nat.{_<_};
-ghost use Rattle.genchain_names.specs.Texts.{PlaceOf};
+ghost use Rattle.genchain.specs.Texts.{PlaceOf};
 ghost use Rattle.layout.specs.ScaleNames.{scaleName};
 
 // The place of a pattern's scale name in the table.

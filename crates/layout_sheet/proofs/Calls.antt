@@ -1,11 +1,13 @@
 -- What a sheet comes to: one law for a layout that is refused, one for a layout that is found.
 use Prim.Native.Nat.{ℕ, zero-le}
-use mathlib.Core.Path.{_≡_, sym, ap, _∙_}
-use mathlib.Core.List.{List}
+use mathlib.Core.Path.{_≡_, refl, sym, ap, _∙_}
+use mathlib.Core.List.{List, [], _∷_, _++_, map}
 use native.Mathlib.Nat.{le-refl}
 use native.Mathlib.Omega.{arith}
-use lib.ListN.{length-map}
-use Rattle.answer.specs.Outcome.{Outcome, given, refused}
+use lib.ListN.{length, drop, length-map}
+use Rattle.answer.specs.Outcome.{Outcome, given, refused, andThen}
+use Rattle.answer.specs.Lent.{inRoom, counted, written}
+use Rattle.answer.proofs.Lent.{held}
 use Rattle.answer.specs.Refusals.{numberOf}
 use Rattle.answer.specs.declared.Refusal.{Refusal}
 use Rattle.answer.specs.declared.CountAnswer.the-variants as Count
@@ -17,7 +19,7 @@ use Rattle.layout.proofs.Calls.{of-refused, of-given}
 use Rattle.layout_sheet.specs.declared.Record.{Record}
 use Rattle.layout_sheet.specs.declared.parts.Common.{Common}
 use Rattle.layout_sheet.specs.Sheets.{recordIn, sheetIn}
-use Rattle.layout_sheet.specs.Answers.{getSheet, filledCount, sheetAfter}
+use Rattle.layout_sheet.specs.Answers.{getSheet}
 use Rattle.layout_sheet.specs.Parts.{CommonOf, filledTo, PreparedFor}
 use Rattle.layout_sheet.proofs.Changed.{changed-none, changed-all}
 
@@ -30,6 +32,11 @@ pub sheet-given : (r : IsomorphicLayout) (l : Layout) → given l ≡ layoutOutc
 unfolding getSheet
 sheet-given r l e records = of-given r _ l e
 
+-- nothing lies past a sheet, which is as long as its list
+none-past : (f : Record → Record) (records : List Record) → map f records ≡ map f records ++ drop (length (map f records)) records
+none-past f [] = refl
+none-past f (x ∷ records) = ap (λ (l : List Record). f x ∷ l) (none-past f records)
+
 -- a refused layout: no record is filled
 pub nothing-filled : (r : IsomorphicLayout) (n : ℕ) (q : Refusal) → refused (numberOf q) ≡ layoutOutcome r → (c : Common)
     → PreparedFor r n (record { answer = Count.Refused q; common = c; count = 0 })
@@ -38,10 +45,10 @@ nothing-filled r n q e c =
       held = zero-le;
       ready = λ some. absurd (let z : ⊥ = omega (arith, some) in z);
       fills = λ records long. record {
-        answered = ap filledCount (sheet-refused r (numberOf q) e records);
+        answered = ap counted (sheet-refused r (numberOf q) e records);
         content =
             changed-none (recordIn (layoutOf (c .found))) records
-            ∙ ap (λ (o : Outcome (List Record)). sheetAfter o records) (sheet-refused r (numberOf q) e records);
+            ∙ ap (λ (o : Outcome (List Record)). written o records) (sheet-refused r (numberOf q) e records);
       };
     }
 
@@ -55,10 +62,21 @@ all-filled r n found e c k =
       held = le-refl n;
       ready = λ some. k .ready;
       fills = λ records long. record {
-        answered = ap given (sym long ∙ sym (length-map records (recordIn l))) ∙ ap filledCount (sheet-given r l ok records);
+        answered = ap given (sym long ∙ sym (length-map records (recordIn l))) ∙ ap counted (sheet-given r l ok records);
         content =
             ap (λ (m : ℕ). filledTo c m records) (sym long)
             ∙ changed-all (recordIn l) records
-            ∙ ap (λ (o : Outcome (List Record)). sheetAfter o records) (sheet-given r l ok records);
+            ∙ none-past (recordIn l) records
+            ∙ ap (λ (o : Outcome (List Record)). written o records) (sheet-given r l ok records);
       };
     }
+
+-- a sheet has room in its list
+pub sheet-has-room : (r : IsomorphicLayout) (records : List Record) → inRoom (length records) (getSheet r records) ≡ getSheet r records
+unfolding getSheet
+sheet-has-room r records = by (layoutOutcome r)
+  where
+    by : (o : Outcome Layout)
+        → inRoom (length records) (andThen o (λ (l : Layout). given (sheetIn l records))) ≡ andThen o (λ (l : Layout). given (sheetIn l records))
+    by (given l) = held (length records) (sheetIn l records) (omega (arith, length-map records (recordIn l)))
+    by (refused n) = refl

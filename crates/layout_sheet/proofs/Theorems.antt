@@ -55,14 +55,14 @@ module _ (From : Record → Record → Type 0) (f : Record → Record) (one : (x
 
 -- a sheet that is given is an accepted layout's
 module _ (r : IsomorphicLayout) (before after : List Record) where
-  abbrev Filled : Type 0
-  Filled = (l : Layout) × Accepted r l × (sheetIn l before ≡ after)
+  abbrev OfAccepted : Type 0
+  OfAccepted = (l : Layout) × Accepted r l × (sheetIn l before ≡ after)
 
-  sheet-is : getSheet r before ≡ given after → Filled
+  sheet-is : getSheet r before ≡ given after → OfAccepted
   unfolding getSheet
   sheet-is e = by (layoutOutcome r) refl e
     where
-      by : (o : Outcome Layout) → layoutOutcome r ≡ o → andThen o (λ (l : Layout). given (sheetIn l before)) ≡ given after → Filled
+      by : (o : Outcome Layout) → layoutOutcome r ≡ o → andThen o (λ (l : Layout). given (sheetIn l before)) ≡ given after → OfAccepted
       by (given l) a q = (l, a, given-same q)
       by (refused n) a q = absurd (let z : _≡_ {A = ℕ} 0 1 = cc in omega arith)
 

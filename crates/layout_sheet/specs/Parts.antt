@@ -3,6 +3,7 @@ use Prim.Native.Nat.{ℕ, zero, suc, _≤_, _<_}
 use mathlib.Core.Path.{_≡_}
 use mathlib.Core.List.{List, [], _∷_}
 use lib.ListN.{length}
+use Rattle.answer.specs.Lent.{Filled}
 use Rattle.answer.specs.Refusals.{countOutcome}
 use Rattle.pergen.specs.Parts.{solvedOf}
 use Rattle.layout.specs.declared.IsomorphicLayout.{IsomorphicLayout}
@@ -14,7 +15,7 @@ use Rattle.layout_sheet.specs.declared.Record.{Record}
 use Rattle.layout_sheet.specs.declared.parts.Common.{Common}
 use Rattle.layout_sheet.specs.declared.parts.Prepared.{Prepared}
 use Rattle.layout_sheet.specs.Sheets.{recordIn}
-use Rattle.layout_sheet.specs.Answers.{getSheet, SheetFilled}
+use Rattle.layout_sheet.specs.Answers.{getSheet}
 
 -- What records are filled from: an accepted layout, and what follows from it.
 pub record Ready (c : Common) : Type 0 where
@@ -44,4 +45,4 @@ pub record PreparedFor (r : IsomorphicLayout) (n : ℕ) (p : Prepared) : Type 0 
   pub held : p .count ≤ n
   pub ready : 0 < p .count → Ready (p .common)
   pub fills : (records : List Record) → length records ≡ n
-      → SheetFilled (getSheet r records) (countOutcome (p .answer)) records (filledTo (p .common) (p .count) records)
+      → Filled (getSheet r records) (countOutcome (p .answer)) records (filledTo (p .common) (p .count) records)

@@ -161,7 +161,7 @@ pub(crate) fn filled(common: Common, asked: Record) -> Record
         num_symbols: found.num_letters,
         genchain_origin: found.start,
     };
-    let spelled = pergen_spelling::parts::accidentals(solved.reduced_period, format, generation);
+    let spelled = pergen::spellings::accidentals(solved.reduced_period, format, generation);
     let step = Step {
         degree: generation.degree,
         cycle: stars,

@@ -62,6 +62,6 @@ pub fn plan_at(speller: Speller, step: Step) -> NamePlan
         num_symbols: row.num_letters,
         genchain_origin: speller.start,
     };
-    let spelled = pergen_spelling::parts::accidentals(solved.reduced_period, format, generation);
+    let spelled = pergen::spellings::accidentals(solved.reduced_period, format, generation);
     plans::plan_name(row, spelled, speller.sharp_first)
 }

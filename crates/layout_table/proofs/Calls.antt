@@ -9,7 +9,7 @@ use lib.ListN.{length}
 use lib.Dec.{leb}
 use borrow.Author.Tests.{leb-true, le-leb}
 use Rattle.answer.specs.Outcome.{Outcome, given, refused, andThen}
-use Rattle.answer.specs.Lent.{heldIn, counted}
+use Rattle.answer.specs.Lent.{heldIn, inRoom, counted}
 use Rattle.answer.proofs.Asked.{given-same, asked-yes, asked-rest, and-right}
 use Rattle.text.specs.Writing.{joined}
 use Rattle.text.proofs.Joined.{joined-same}
@@ -18,7 +18,6 @@ use Rattle.pergen.specs.declared.euclid.Solved.{Solved}
 use Rattle.pergen.specs.declared.stepping.Step.{Step}
 use Rattle.layout.specs.declared.IsomorphicLayout.{IsomorphicLayout}
 use Rattle.layout.specs.Layouts.{Layout, layoutOutcome}
-use Rattle.layout.specs.Answers.{inRoom}
 use Rattle.layout.specs.Names.{listedName}
 use Rattle.layout.specs.Parts.{Laid}
 use Rattle.layout.proofs.Calls.{of-refused, of-given}

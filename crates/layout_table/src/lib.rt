@@ -11,9 +11,8 @@ use layout::IsomorphicLayout;
 use layout::parts::FoundAnswer;
 ghost use mathlib.Core.Path.{_≡_};
 ghost use lib.ListN.{length};
-ghost use Rattle.answer.specs.Lent.{heldIn, counted, Filled};
+ghost use Rattle.answer.specs.Lent.{heldIn, inRoom, counted, Filled};
 ghost use Rattle.answer.specs.Refusals.{countOutcome};
-ghost use Rattle.layout.specs.Answers.{inRoom};
 ghost use Rattle.layout_table.specs.Tables.{getTable, output};
 
 // How many bytes a layout's table has (1, 2, 3, 4, 18).

@@ -7,16 +7,17 @@ use native.Mathlib.Nat.{le-refl}
 use native.Mathlib.Omega.{arith}
 use lib.Ieee.{Float}
 use lib.ListN.{length, drop, set}
-use borrow.Author.Tests.{le-leb, lt-leb}
 use Rattle.answer.specs.Outcome.{Outcome, given, refused}
+use Rattle.answer.specs.Lent.{heldIn, counted, written}
 use Rattle.answer.specs.Refusals.{numberOf}
 use Rattle.answer.specs.declared.Refusal.{Refusal}
 use Rattle.answer.specs.declared.Refusal.the-variants.{Room}
 use Rattle.answer.specs.declared.CountAnswer.the-variants as Count
+use Rattle.answer.proofs.Lent.{held, not-held}
 use Rattle.mos_fractional.specs.declared.FractionalMos.{FractionalMos}
 use Rattle.mos_fractional.specs.Fractional.{genesis, childOf}
 use Rattle.mos_fractional.specs.Walk.{children, childrenFrom}
-use Rattle.mos_fractional.specs.Answers.{genesisOutcome, heldIn, listingOutcome, counted, written}
+use Rattle.mos_fractional.specs.Answers.{genesisOutcome, listingOutcome}
 use Rattle.mos_fractional.specs.Parts.{Growing, orSelf, nextOf, stored, Planned}
 use Rattle.mos_fractional.proofs.Descent.{told-genesis, told-finite, same-refusal}
 use Rattle.mos_fractional.proofs.Walking.{left, growing-child, fewer-left, growing-genesis, children-next, children-end}
@@ -130,7 +131,7 @@ module _ (g : Float) (room : ℕ) where
         → Planned g room (record { answer = Count.Refused Room; first = first; count = 0 })
     planned-short count f l =
         let short : heldIn room (childrenFrom g) ≡ refused 10 =
-        simp (lt-leb (length (childrenFrom g)) room (omega (arith, f ∙ ap (λ (m : FractionalMos). length (children m)) is-first, l))) in
+        not-held room (childrenFrom g) (omega (arith, f ∙ ap (λ (m : FractionalMos). length (children m)) is-first, l)) in
         let o : listingOutcome g room ≡ refused 10 = simp (told-finite g e) short in
         record {
           answer = sym (ap counted o);
@@ -143,8 +144,8 @@ module _ (g : Float) (room : ℕ) where
         → Planned g room (record { answer = Count.Given count; first = first; count = count })
     planned-whole count f l =
         let many : length (childrenFrom g) ≡ count = sym (f ∙ ap (λ (m : FractionalMos). length (children m)) is-first) in
-        let held : heldIn room (childrenFrom g) ≡ given (childrenFrom g) = simp (le-leb (length (childrenFrom g)) room (omega (arith, many, l))) in
-        let o : listingOutcome g room ≡ given (childrenFrom g) = simp (told-finite g e) held in
+        let whole : heldIn room (childrenFrom g) ≡ given (childrenFrom g) = held room (childrenFrom g) (omega (arith, many, l)) in
+        let o : listingOutcome g room ≡ given (childrenFrom g) = simp (told-finite g e) whole in
         record {
           answer = sym (ap counted o ∙ ap given many);
           fits = l;

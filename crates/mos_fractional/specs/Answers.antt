@@ -1,12 +1,11 @@
 -- What each call answers: the questions with their numbers, in their order, and what an answer means.
 use Prim.Native.Nat.{ℕ}
-use mathlib.Core.Path.{_≡_}
 use mathlib.Core.Option.{Option, none, some}
-use mathlib.Core.List.{List, _++_}
-use lib.Dec.{leb}
-use lib.ListN.{length, drop, getElem?}
+use mathlib.Core.List.{List}
+use lib.ListN.{length, getElem?}
 use lib.Ieee.{Float}
 use Rattle.answer.specs.Outcome.{Outcome, given, refused, ask}
+use Rattle.answer.specs.Lent.{heldIn}
 use Rattle.answer.specs.Refusals.{numberOf}
 use Rattle.mos_fractional.specs.declared.FractionalMos.{FractionalMos}
 use Rattle.mos_fractional.specs.declared.FractionalAnswer.{FractionalAnswer}
@@ -32,28 +31,9 @@ nthOutcome generator k = ofGenerator generator (getElem? (childrenFrom generator
 abbrev pub lengthOutcome : Float → Outcome ℕ
 lengthOutcome generator = ofGenerator generator (length (childrenFrom generator))
 
--- Question 10: does the output slice, of `room` patterns, hold them all?
-abbrev pub heldIn : ℕ → List FractionalMos → Outcome (List FractionalMos)
-heldIn room patterns = ask 10 (leb (length patterns) room) (given patterns)
-
 -- Question 22, then question 10, for a listing of the walk.
 abbrev pub listingOutcome : Float → ℕ → Outcome (List FractionalMos)
 listingOutcome generator room = ask 22 (isFinite generator) (heldIn room (childrenFrom generator))
-
--- How many patterns were written.
-abbrev pub counted : Outcome (List FractionalMos) → Outcome ℕ
-counted (given patterns) = given (length patterns)
-counted (refused n) = refused n
-
--- "A refusal writes to no buffer"; an output stands at the front, and "elements past the output keep their contents".
-abbrev pub written : Outcome (List FractionalMos) → List FractionalMos → List FractionalMos
-written (given patterns) before = patterns ++ drop (length patterns) before
-written (refused n) before = before
-
--- The promise of a call that fills a lent slice of patterns: what it answers, and what the slice then holds.
-pub record Listed (outcome : Outcome (List FractionalMos)) (answer : Outcome ℕ) (before after : List FractionalMos) : Type 0 where
-  pub answered : answer ≡ counted outcome
-  pub content : after ≡ written outcome before
 
 -- What each answer means.
 abbrev pub fractionalOutcome : FractionalAnswer → Outcome FractionalMos

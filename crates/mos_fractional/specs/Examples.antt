@@ -9,10 +9,11 @@ use lib.IntN.{pos, negsuc}
 use lib.ListN.{getElem?}
 use lib.Ieee.{Float, nan, inf, fin, binary64, ofBits}
 use Rattle.answer.specs.Outcome.{Outcome, given, refused}
+use Rattle.answer.specs.Lent.{counted, written}
 use Rattle.mos_fractional.specs.declared.FractionalMos.{FractionalMos}
 use Rattle.mos_fractional.specs.Fractional.{fractional, primaries, secondaries, nought, one, genesis, childOf}
 use Rattle.mos_fractional.specs.Walk.{childrenFrom}
-use Rattle.mos_fractional.specs.Answers.{genesisOutcome, listingOutcome, counted, written}
+use Rattle.mos_fractional.specs.Answers.{genesisOutcome, listingOutcome}
 
 -- 5/8, 3/8, 1/4 and 1/8, as doubles have them.
 abbrev pub fiveEighths : Float

@@ -5,11 +5,12 @@ use mathlib.Core.Option.{Option, none, some}
 use mathlib.Core.List.{List, [], _∷_}
 use lib.ListN.{length}
 use lib.Ieee.{Float}
+use Rattle.answer.specs.Lent.{counted, written}
 use Rattle.answer.specs.Refusals.{countOutcome}
 use Rattle.mos_fractional.specs.declared.FractionalMos.{FractionalMos}
 use Rattle.mos_fractional.specs.declared.walks.Listing.{Listing}
 use Rattle.mos_fractional.specs.Fractional.{primaries, secondaries, childOf}
-use Rattle.mos_fractional.specs.Answers.{listingOutcome, counted, written}
+use Rattle.mos_fractional.specs.Answers.{listingOutcome}
 
 -- Both counts are above 0, as of all patterns of a walk: so the counts' sum grows with each child.
 abbrev pub Growing : FractionalMos → Type 0

@@ -12,9 +12,10 @@ use answer::CountAnswer;
 use answer::Refusal;
 ghost use mathlib.Core.Path.{_≡_};
 ghost use lib.ListN.{length};
+ghost use Rattle.answer.specs.Lent.{Filled};
 ghost use Rattle.answer.specs.Refusals.{countOutcome};
 ghost use Rattle.mos_fractional.specs.Fractional.{childOf};
-ghost use Rattle.mos_fractional.specs.Answers.{genesisOutcome, nthOutcome, lengthOutcome, listingOutcome, Listed, fractionalOutcome, childIn, walkOutcome};
+ghost use Rattle.mos_fractional.specs.Answers.{genesisOutcome, nthOutcome, lengthOutcome, listingOutcome, fractionalOutcome, childIn, walkOutcome};
 
 // A pattern: how many primary and secondary steps it has, and how large they are, as parts of the octave.
 #[repr(C)]
@@ -141,7 +142,7 @@ pub fn children_len(generator: f64) -> CountAnswer
 
 // All patterns of a generator's walk, the genesis first (22, 10).
 pub fn children(generator: f64, out: &mut [FractionalMos]) -> CountAnswer
-    ensures { λ r. ⌜ Listed (listingOutcome generator (length (now (out .entry)))) (countOutcome r) (now (out .entry)) (now (out .exit)) ⌝ }
+    ensures { λ r. ⌜ Filled (listingOutcome generator (length (now (out .entry)))) (countOutcome r) (now (out .entry)) (now (out .exit)) ⌝ }
 {
     let plan = walks::plan(generator, out.len());
     let count = plan.count;

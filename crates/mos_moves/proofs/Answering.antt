@@ -1,17 +1,21 @@
 -- The answers of the calls, one law for each way in which they end: question 2, the table's moves, the walk to the k-th pattern, question 10.
-use Prim.Native.Nat.{ℕ, _-_, _≤_, _<_}
+use Prim.Native.Nat.{ℕ, _-_, _≤_}
 use mathlib.Core.Path.{_≡_, refl, sym, ap, _∙_, subst}
 use mathlib.Core.Bool.{Bool, true, false}
 use mathlib.Core.Option.{Option, none, some}
 use mathlib.Core.List.{List}
-use native.Mathlib.Nat.{pos-of-ne-zero, zero-add}
+use native.Mathlib.Nat.{pos-of-ne-zero}
 use native.Mathlib.Omega.{arith}
 use lib.Dec.{leb}
 use lib.IntN.{ℤ}
 use lib.ListN.{length, getElem?}
-use borrow.Author.Tests.{le-leb, lt-leb, leb-true, leb-false}
+use borrow.Author.Tests.{leb-true, leb-false}
 use Rattle.answer.specs.Outcome.{Outcome, given, refused}
+use Rattle.answer.specs.Lent.{inRoom, Filled}
+use Rattle.answer.proofs.Lent.{filled-refused, filled-short}
 use Rattle.answer.proofs.Questions.{ask-none, ask-some}
+use Rattle.text.specs.Writing.{Wrote}
+use Rattle.text.proofs.Writing.{filled-whole}
 use Rattle.mos.specs.declared.Mos.{Mos}
 use Rattle.mos.specs.Answers.{genesisOutcome}
 use Rattle.mos.specs.Patterns.{isPattern, genesis, childOf}
@@ -20,11 +24,9 @@ use Rattle.mos.specs.Parts.{isSome}
 use Rattle.mos.proofs.Sequences.{child-here, child-later, child-never}
 use Rattle.mos.proofs.Theorems.{made-patterns}
 use Rattle.mos_moves.specs.Moves.{Table, childMoves, genesisMoves, movesAlong, walkMoves, listedMoves}
-use Rattle.mos_moves.specs.Answers.{tableAfter, Tabled, genesisTable, nthOutcome, nthTable, inSignedRoom, signedHeldIn, signedCounted, signedWritten, FilledSigned, getWalkMoves}
-use Rattle.mos_moves.specs.Parts.{StoredFrom}
+use Rattle.mos_moves.specs.Answers.{tableAfter, Tabled, genesisTable, nthOutcome, nthTable, getWalkMoves}
 use Rattle.mos_moves.proofs.Going.{Going, going-genesis, going-child}
 use Rattle.mos_moves.proofs.Walking.{moves-here, moves-later, moves-never, walk-starts, as-long}
-use Rattle.mos_moves.proofs.Listing.{stored-front}
 
 -- ---- lent tables
 
@@ -110,31 +112,9 @@ module _ {P G k : ℕ} {m : Mos} {t : Table ℤ} {left : ℕ} (d : Descending P 
 pub genesis-pattern : (P G : ℕ) → (P ≡ 0 → ⊥) → P ≤ 65535 → {m : Mos} → m ≡ genesis P G → isPattern m ≡ true
 genesis-pattern P G h l e = subst (λ (x : Mos). isPattern x ≡ true) (sym e) (made-patterns .of-genesis P G (pos-of-ne-zero h) l)
 
--- a lent slice of signed numbers: a refusal of the call, question 10, and an output that has room
-pub signed-refused : {o : Outcome (List ℤ)} (n : ℕ) (xs : List ℤ) → o ≡ refused n → FilledSigned o (refused n) xs xs
-signed-refused n xs e =
-    record { answered = sym (ap signedCounted e); content = sym (ap (λ (p : Outcome (List ℤ)). signedWritten p xs) e) }
-
-module _ {o : Outcome (List ℤ)} (xs output : List ℤ) (e : o ≡ given output) where
-  pub signed-short : length xs < length output → FilledSigned (inSignedRoom (length xs) o) (refused 10) xs xs
-  signed-short h =
-      signed-refused 10 xs
-      (ap (inSignedRoom (length xs)) e ∙ (let q : signedHeldIn (length xs) output ≡ refused 10 = simp (lt-leb (length output) (length xs) h) in q))
-
-  pub signed-given : length output ≤ length xs → {ys : List ℤ} {next : ℕ} → StoredFrom xs 0 output ys next
-      → FilledSigned (inSignedRoom (length xs) o) (given next) xs ys
-  signed-given room w =
-      let whole : inSignedRoom (length xs) o ≡ given output
-      = ap (inSignedRoom (length xs)) e
-      ∙ (let q : signedHeldIn (length xs) output ≡ given output = simp (le-leb (length output) (length xs) room) in q) in
-      record {
-        answered = ap given (w .end ∙ zero-add _) ∙ sym (ap signedCounted whole);
-        content = stored-front room w ∙ sym (ap (λ (p : Outcome (List ℤ)). signedWritten p xs) whole);
-      }
-
-pub walk-refused : (P G : ℕ) → P ≡ 0 → (xs : List ℤ) → FilledSigned (inSignedRoom (length xs) (getWalkMoves P G)) (refused 2) xs xs
+pub walk-refused : (P G : ℕ) → P ≡ 0 → (xs : List ℤ) → Filled (inRoom (length xs) (getWalkMoves P G)) (refused 2) xs xs
 unfolding getWalkMoves
-walk-refused P G e xs = signed-refused 2 xs (ap (inSignedRoom (length xs)) (ask-none 2 P _ e))
+walk-refused P G e xs = filled-refused 2 xs (ap (inRoom (length xs)) (ask-none 2 P _ e)) refl
 
 module _ (P G : ℕ) (h : P ≡ 0 → ⊥) (xs : List ℤ) {m : Mos} (is : m ≡ genesis P G) {fit : Bool} (f : fit ≡ leb (length (listed (children m))) (length xs)) where
   asked : getWalkMoves P G ≡ given (listedMoves (walkMoves P G))
@@ -151,9 +131,9 @@ module _ (P G : ℕ) (h : P ≡ 0 → ⊥) (xs : List ℤ) {m : Mos} (is : m ≡
   pub walk-room : fit ≡ true → length (listedMoves (walkMoves P G)) ≤ length xs
   walk-room e = leb-true (length (listedMoves (walkMoves P G))) (length xs) (sym fits ∙ e)
 
-  pub walk-short : fit ≡ false → FilledSigned (inSignedRoom (length xs) (getWalkMoves P G)) (refused 10) xs xs
-  walk-short e = signed-short xs (listedMoves (walkMoves P G)) asked (leb-false (length (listedMoves (walkMoves P G))) (length xs) (sym fits ∙ e))
+  pub walk-short : fit ≡ false → Filled (inRoom (length xs) (getWalkMoves P G)) (refused 10) xs xs
+  walk-short e = filled-short xs (listedMoves (walkMoves P G)) asked (leb-false (length (listedMoves (walkMoves P G))) (length xs) (sym fits ∙ e))
 
-  pub walk-listed : fit ≡ true → {ys : List ℤ} {next : ℕ} → StoredFrom xs 0 (listedMoves (walkMoves P G)) ys next
-      → FilledSigned (inSignedRoom (length xs) (getWalkMoves P G)) (given next) xs ys
-  walk-listed e w = signed-given xs (listedMoves (walkMoves P G)) asked (walk-room e) w
+  pub walk-listed : fit ≡ true → {ys : List ℤ} {next : ℕ} → Wrote xs 0 (listedMoves (walkMoves P G)) ys next
+      → Filled (inRoom (length xs) (getWalkMoves P G)) (given next) xs ys
+  walk-listed e w = filled-whole asked (walk-room e) w

@@ -21,8 +21,4 @@ examples-hold = record {
   no-period = refl;
   no-walk = refl;
   table-kept = refl;
-  front = refl;
-  short = refl;
-  enough = refl;
-  one-short = refl;
 }

@@ -1,12 +1,12 @@
--- What each call answers: question 2, then the pattern and its moves; and what a lent table, or a lent slice of signed numbers, then holds.
+-- What each call answers: question 2, then the pattern and its moves; and what a lent table then holds.
 use Prim.Native.Nat.{ℕ}
 use mathlib.Core.Path.{_≡_}
 use mathlib.Core.Option.{Option, none, some}
-use mathlib.Core.List.{List, _++_}
+use mathlib.Core.List.{List}
 use lib.Dec.{leb}
 use lib.IntN.{ℤ}
-use lib.ListN.{length, drop, getElem?}
-use Rattle.answer.specs.Outcome.{Outcome, given, refused, ask, andThen}
+use lib.ListN.{getElem?}
+use Rattle.answer.specs.Outcome.{Outcome, given, refused, ask}
 use Rattle.mos.specs.declared.Mos.{Mos}
 use Rattle.mos.specs.Patterns.{genesis}
 use Rattle.mos.specs.Walks.{children}
@@ -39,29 +39,7 @@ unfoldable pub nthTable : ℕ → ℕ → ℕ → Outcome (Option (Table ℤ))
 unfolding walkMoves
 nthTable P G k = ask 2 (leb 1 P) (given (getElem? (walkMoves P G) k))
 
--- ---- a lent slice of signed numbers: as `Lent` of answer has it for natural ones
-
--- Question 10: does the output slice, of `room` elements, hold the whole output?
-abbrev pub signedHeldIn : ℕ → List ℤ → Outcome (List ℤ)
-signedHeldIn room output = ask 10 (leb (length output) room) (given output)
-
--- Question 10 after the questions of the call.
-abbrev pub inSignedRoom : ℕ → Outcome (List ℤ) → Outcome (List ℤ)
-inSignedRoom room output = andThen output (signedHeldIn room)
-
--- How many elements were written.
-abbrev pub signedCounted : Outcome (List ℤ) → Outcome ℕ
-signedCounted (given output) = given (length output)
-signedCounted (refused n) = refused n
-
--- "A refusal writes to no buffer"; "elements past the output keep their contents".
-abbrev pub signedWritten : Outcome (List ℤ) → List ℤ → List ℤ
-signedWritten (given output) before = output ++ drop (length output) before
-signedWritten (refused n) before = before
-
-pub record FilledSigned (outcome : Outcome (List ℤ)) (answer : Outcome ℕ) (before after : List ℤ) : Type 0 where
-  pub answered : answer ≡ signedCounted outcome
-  pub content : after ≡ signedWritten outcome before
+-- ---- a lent slice
 
 -- Question 2, then the moves of the whole walk, in its order.
 unfoldable pub getWalkMoves : ℕ → ℕ → Outcome (List ℤ)

@@ -7,7 +7,7 @@ use Rattle.answer.specs.Outcome.{given, refused}
 use Rattle.mos.specs.Patterns.{mos, genesis}
 use Rattle.mos.specs.Walks.{children}
 use Rattle.mos_moves.specs.Moves.{row, genesisMoves, movesWith, patternMoves}
-use Rattle.mos_moves.specs.Answers.{tableAfter, genesisTable, nthOutcome, nthTable, getWalkMoves, signedHeldIn, signedCounted, signedWritten}
+use Rattle.mos_moves.specs.Answers.{tableAfter, genesisTable, nthOutcome, nthTable, getWalkMoves}
 
 -- Theorem.
 pub record ExamplesHold : Type 0 where
@@ -35,9 +35,5 @@ pub record ExamplesHold : Type 0 where
   pub no-pattern : nthOutcome 12 7 5 ≡ given none
   pub no-period : genesisTable 0 7 ≡ refused 2
   pub no-walk : getWalkMoves 0 7 ≡ refused 2
-  -- what lent elements hold then
+  -- what a lent table holds then
   pub table-kept : tableAfter (given none) (row (pos 8) (pos 9) ∷ []) ≡ row (pos 8) (pos 9) ∷ []
-  pub front : signedWritten (signedHeldIn 3 (negsuc 0 ∷ pos 2 ∷ [])) (pos 7 ∷ pos 8 ∷ pos 9 ∷ []) ≡ negsuc 0 ∷ pos 2 ∷ pos 9 ∷ []
-  pub short : signedWritten (signedHeldIn 1 (negsuc 0 ∷ pos 2 ∷ [])) (pos 7 ∷ []) ≡ pos 7 ∷ []
-  pub enough : signedCounted (signedHeldIn 2 (negsuc 0 ∷ pos 2 ∷ [])) ≡ given 2
-  pub one-short : signedCounted (signedHeldIn 1 (negsuc 0 ∷ pos 2 ∷ [])) ≡ refused 10

@@ -3,7 +3,7 @@
 // Holds the moves of a period and a generator: at the genesis, of the k-th pattern of the walk of children, and of all of them in a
 // listing beside that of `mos_listings`. A table has the primary row first, and in each row octaves before generators. It goes by value
 // between the functions here; a caller lends one, beside an answer that holds the pattern, since an enum holds no array.
-// specs/: Moves defines, Answers says what each call answers and what a lent table or slice then holds, Theorems and Examples state what
+// specs/: Moves defines, Answers says what each call answers and what a lent table then holds, Theorems and Examples state what
 // holds. Every entry point answers every input; `parts` asks for more, as its head says. Nothing is assumed.
 pub mod parts;
 
@@ -13,6 +13,7 @@ use mos::Mos;
 use mos::MosAnswer;
 use mos::WalkAnswer;
 ghost use lib.ListN.{length};
+ghost use Rattle.answer.specs.Lent.{inRoom, Filled};
 ghost use Rattle.answer.specs.Refusals.{countOutcome};
 ghost use Rattle.mos.specs.Answers.{genesisOutcome, mosOutcome, walkOutcome};
 ghost use Rattle.mos_moves.specs.Answers.{
@@ -20,8 +21,6 @@ ghost use Rattle.mos_moves.specs.Answers.{
   genesisTable,
   nthOutcome,
   nthTable,
-  FilledSigned,
-  inSignedRoom,
   getWalkMoves,
 };
 
@@ -64,7 +63,7 @@ pub fn nth_moves(period: u16, generator: u16, k: u32, moves: &mut Moves) -> Walk
 
 // The moves of all patterns of that walk, four numbers each: the primary row's octaves and generators, then the secondary row's (2, 10).
 pub fn walk_moves(period: u16, generator: u16, out: &mut [i32]) -> CountAnswer
-    ensures { λ r. ⌜ FilledSigned (inSignedRoom (length (now (out .entry))) (getWalkMoves period generator)) (countOutcome r) (now (out .entry)) (now (out .exit)) ⌝ }
+    ensures { λ r. ⌜ Filled (inRoom (length (now (out .entry))) (getWalkMoves period generator)) (countOutcome r) (now (out .entry)) (now (out .exit)) ⌝ }
 {
     if period == 0 {
         return CountAnswer::Refused(Refusal::Period);

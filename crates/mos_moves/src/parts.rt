@@ -6,6 +6,7 @@ use mos::Mos;
 ghost use mathlib.Core.Path.{_≡_};
 ghost use Prim.Native.Nat.{_+_, _≤_};
 ghost use lib.ListN.{length};
+ghost use Rattle.text.specs.Writing.{Wrote};
 ghost use Rattle.mos.specs.Patterns.{genesis};
 ghost use Rattle.mos_moves.specs.Moves.{
   genesisMoves,
@@ -18,7 +19,7 @@ ghost use Rattle.mos_moves.specs.Moves.{
   numbersOf,
   listedMoves,
 };
-ghost use Rattle.mos_moves.specs.Parts.{OnWalk, StoredFrom};
+ghost use Rattle.mos_moves.specs.Parts.{OnWalk};
 
 // The pattern that the walk starts from.
 pub(crate) fn genesis_of(period: u16, generator: u16) -> Mos
@@ -83,7 +84,7 @@ pub fn pattern_moves(period: u16, generator: u16, pattern: Mos) -> Moves
 // The four numbers of a table at a place; the place after them.
 pub fn put_moves(out: &mut [i32], at: usize, moves: Moves) -> usize
     requires { ⌜ (at + 4 ≤ length (now out)) × SmallTable moves ⌝ }
-    ensures { λ r. ⌜ StoredFrom (now (out .entry)) at (numbersOf moves) (now (out .exit)) r ⌝ }
+    ensures { λ r. ⌜ Wrote (now (out .entry)) at (numbersOf moves) (now (out .exit)) r ⌝ }
 {
     let primary = moves[0];
     let secondary = moves[1];
@@ -97,7 +98,7 @@ pub fn put_moves(out: &mut [i32], at: usize, moves: Moves) -> usize
 // The moves of the whole walk from the slice's front on; how many numbers that are.
 pub(crate) fn list_moves(period: u16, generator: u16, out: &mut [i32]) -> usize
     requires { ⌜ (1 ≤ period) × (length (listedMoves (walkMoves period generator)) ≤ length (now out)) ⌝ }
-    ensures { λ r. ⌜ StoredFrom (now (out .entry)) 0 (listedMoves (walkMoves period generator)) (now (out .exit)) r ⌝ }
+    ensures { λ r. ⌜ Wrote (now (out .entry)) 0 (listedMoves (walkMoves period generator)) (now (out .exit)) r ⌝ }
 {
     let mut pattern = genesis_of(period, generator);
     let mut table = start(period, generator);

@@ -120,7 +120,7 @@ fn print_from(asked: Line, generator: u16) -> Output
 fn print_asked(asked: Line) -> Output
     ensures { λ r. ⌜ Handed (outputOf (shownFor asked)) r ⌝ }
 {
-    match genchain_generators::generator(asked.genchain, asked.octave, asked.tritave) {
+    match genchain::generator(asked.genchain, asked.octave, asked.tritave) {
         NumberAnswer::Refused(q) => print_refusal(q.number() as u16),
         NumberAnswer::Given(generator) => print_from(asked, generator),
     }

@@ -4,6 +4,7 @@ pub mod Keys
 pub mod Indices
 pub mod DegreePlaces
 pub mod FewestSigns
+pub mod Differences
 pub mod Calls
 pub mod CarriedWalk
 pub mod SignedNumbers

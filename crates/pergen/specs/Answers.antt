@@ -17,6 +17,8 @@ use Rattle.pergen.specs.declared.Accidentals.{Accidentals}
 use Rattle.pergen.specs.declared.AccidentalsAnswer.{AccidentalsAnswer}
 use Rattle.pergen.specs.declared.AccidentalsAnswer.the-variants as AccidentalsAnswer
 use Rattle.pergen.specs.declared.Spelling.{Spelling}
+use Rattle.pergen.specs.declared.PlaceAnswer.{PlaceAnswer}
+use Rattle.pergen.specs.declared.PlaceAnswer.the-variants as PlaceAnswer
 
 -- 2. Is the period at least 1?
 abbrev pub askPeriod : {A : Type 0} → PerGen → Outcome A → Outcome A
@@ -66,3 +68,7 @@ generationOutcome (GenerationAnswer.Refused q) = refused (numberOf q)
 abbrev pub accidentalsOutcome : AccidentalsAnswer → Outcome Accidentals
 accidentalsOutcome (AccidentalsAnswer.Given a) = given a
 accidentalsOutcome (AccidentalsAnswer.Refused q) = refused (numberOf q)
+
+abbrev pub placeOutcome : PlaceAnswer → Outcome ℤ
+placeOutcome (PlaceAnswer.Given z) = given z
+placeOutcome (PlaceAnswer.Refused q) = refused (numberOf q)

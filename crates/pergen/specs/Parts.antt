@@ -1,15 +1,19 @@
--- What the parts behind the calls promise: the definitions of Pergen, by the numbers that the code carries.
+-- What the parts behind the calls promise: the definitions of Pergen and Spelling, by the numbers that the code carries.
 use Prim.Native.Nat.{ℕ, _+_, _*_, _-_, _/_, _%_, _≤_, _<_}
 use mathlib.Core.Path.{_≡_}
 use mathlib.Core.Bool.{Bool, true, false, not}
 use lib.Dec.{ltb}
+use lib.IntN.{pos, _-ℤ_}
 use Rattle.answer.specs.Choice.{pick}
 use Rattle.math.specs.Gcd.{gcd}
 use Rattle.pergen.specs.Pergen.{cycles, reduced, inverse, shown}
+use Rattle.pergen.specs.Spelling.{place}
 use Rattle.pergen.specs.declared.Generation.{Generation}
+use Rattle.pergen.specs.declared.Spelling.{Spelling}
 use Rattle.pergen.specs.declared.euclid.Bezout.{Bezout}
 use Rattle.pergen.specs.declared.euclid.Remainders.{Remainders}
 use Rattle.pergen.specs.declared.euclid.Solved.{Solved}
+use Rattle.pergen.specs.declared.sounding.Sides.{Sides}
 use Rattle.pergen.specs.declared.stepping.Step.{Step}
 
 -- c generators forward leave r on division by P; backward where the flag is set.
@@ -73,3 +77,13 @@ nextStep s step =
     pick (ltb (step .cycle + 1) (s .«num_cycles»))
     (record { degree = step .degree; cycle = step .cycle + 1 })
     (record { degree = (step .degree + s .«generator_inverse») % s .«reduced_period»; cycle = 0 })
+
+-- Both sides are at most 65,535 × 2³².
+pub record SmallSides (s : Sides) : Type 0 where
+  pub above : s .above ≤ 281470681743360
+  pub below : s .below ≤ 281470681743360
+
+-- A spelling's place is the difference of the sides.
+pub record SidesOf (N origin : ℕ) (spelling : Spelling) (s : Sides) : Type 0 where
+  pub difference : place N origin spelling ≡ pos (s .above) -ℤ pos (s .below)
+  pub small : SmallSides s

@@ -1,11 +1,15 @@
 // Pergens and spellings, after the first part of src/pergen.rs of the original.
 //
-// Holds the pergen (a period and a generator), degree and cycle of a key, and what spellings are (document 01, "Pergen and
-// spelling"). The crate `pergen_spelling` goes from a key to its spellings in a free format, `pergen_sounding` from a spelling to its key.
+// Holds the pergen (a period and a generator), degree and cycle of a key, the spellings of a key in a free format, and the place and the
+// key of a spelling, printed or not (document 01, "Pergen and spelling").
 // specs/: Pergen and Spelling define them, Answers says what each call answers, Theorems what is proved of them.
 // A record holds only what a caller chose; each call asks its questions of it again, so a made-up record is refused.
-// Every entry point answers every input, exactly. `euclid` and `stepping` hold parts, of which some ask for more. Nothing is assumed.
+// Every entry point answers every input, exactly. The modules hold parts, of which some ask for more: `euclid` what follows from period
+// and generator, `stepping` the walk from key to key, `spellings` the two spellings of a degree, `sounding` what a spelling sounds.
+// Nothing is assumed.
 pub mod euclid;
+pub mod sounding;
+pub mod spellings;
 pub mod stepping;
 
 use answer::NumberAnswer;
@@ -19,8 +23,13 @@ ghost use Rattle.pergen.specs.Answers.{
   newOutcome,
   ofPergen,
   getGeneration,
+  getAccidentals,
+  getPlace,
+  getSoundedKey,
   pergenOutcome,
   generationOutcome,
+  accidentalsOutcome,
+  placeOutcome,
 };
 
 // A period and a generator, in steps of the tuning.
@@ -82,6 +91,11 @@ pub struct Spelling {
     pub index: u16,
     pub signs: Signs,
     pub stars: u16,
+}
+
+pub enum PlaceAnswer {
+    Given(i64),
+    Refused(Refusal),
 }
 
 impl PerGen {
@@ -156,6 +170,58 @@ impl PerGen {
         let index = math::parts::rem_u16(key, self.period);
         let solved = euclid::solve(self.period, self.generator);
         GenerationAnswer::Given(euclid::generation(solved, index))
+    }
+
+    // The sharp and the flat spelling of a key, below 0 too: the number is first brought round the period (2, 5, 6).
+    pub fn get_accidentals(self, format: AccidentalsFormat, key: i32) -> AccidentalsAnswer
+        ensures { λ r. ⌜ accidentalsOutcome r ≡ getAccidentals self format key ⌝ }
+    {
+        if self.period == 0 {
+            return AccidentalsAnswer::Refused(Refusal::Period);
+        }
+        if format.num_symbols == 0 {
+            return AccidentalsAnswer::Refused(Refusal::Symbols);
+        }
+        if format.num_symbols <= format.genchain_origin {
+            return AccidentalsAnswer::Refused(Refusal::Origin);
+        }
+        let in_period = math::parts::rem_u16(key, self.period);
+        let solved = euclid::solve(self.period, self.generator);
+        let generation = euclid::generation(solved, in_period);
+        AccidentalsAnswer::Given(spellings::accidentals(solved.reduced_period, format, generation))
+    }
+
+    // The key of the octave that a spelling sounds, whatever its index and stars (2, 5, 6).
+    pub fn get_sounded_key(self, format: AccidentalsFormat, spelling: Spelling) -> NumberAnswer
+        ensures { λ r. ⌜ numberOutcome r ≡ getSoundedKey self format spelling ⌝ }
+    {
+        if self.period == 0 {
+            return NumberAnswer::Refused(Refusal::Period);
+        }
+        if format.num_symbols == 0 {
+            return NumberAnswer::Refused(Refusal::Symbols);
+        }
+        if format.num_symbols <= format.genchain_origin {
+            return NumberAnswer::Refused(Refusal::Origin);
+        }
+        let sides = sounding::sides_of(format, spelling);
+        let stars = spelling.stars;
+        NumberAnswer::Given(sounding::sounded(self, sides, stars))
+    }
+}
+
+impl AccidentalsFormat {
+    // The place of a spelling on the chain, counted from key 0's, whatever its index (5, 6).
+    pub fn get_place(self, spelling: Spelling) -> PlaceAnswer
+        ensures { λ r. ⌜ placeOutcome r ≡ getPlace self spelling ⌝ }
+    {
+        if self.num_symbols == 0 {
+            return PlaceAnswer::Refused(Refusal::Symbols);
+        }
+        if self.num_symbols <= self.genchain_origin {
+            return PlaceAnswer::Refused(Refusal::Origin);
+        }
+        PlaceAnswer::Given(sounding::difference(sounding::sides_of(self, spelling)))
     }
 }
 

@@ -4,45 +4,23 @@
 //     book LAYOUT           its bytes, as numbers
 //     find LAYOUT KEY       a key looked up in it: offset and length of the name, and the name; or a refusal, told twice
 //     find_in KEY BYTE..    the same in any bytes, at most 256
-use crate::names;
 use crate::print;
 use crate::words;
-use crate::words::Long;
 use answer::CountAnswer;
 use book::FindAnswer;
-use layout::IsomorphicLayout;
-
-pub(crate) fn answer(kind: usize, layout: IsomorphicLayout, key: i32, out: &mut [u8]) {
-    if kind == names::BOOK_LEN {
-        put_length(layout_book::book_len(layout));
-        return;
-    }
-    let written = layout_book::write_book(layout, out);
-    if kind == names::BOOK {
-        print::bytes(out, written);
-        return;
-    }
-    put_found(out, written, key);
-}
-
-// How many bytes something has, alone on the line.
-pub(crate) fn put_length(answer: CountAnswer) {
-    match answer {
-        CountAnswer::Refused(q) => print::refusal(q),
-        CountAnswer::Given(count) => print::number(count as u64),
-    }
-    print::end_line();
-}
 
 // A lookup in what was written to the front of a slice.
-fn put_found(bytes: &[u8], answer: CountAnswer, key: i32) {
+pub(crate) fn put_found(bytes: &[u8], answer: CountAnswer, key: i32) {
     match answer {
         CountAnswer::Refused(q) => print::refused(q),
-        CountAnswer::Given(count) => {
-            if count <= bytes.len() {
-                put_lookup(&bytes[..count], key);
-            }
-        }
+        CountAnswer::Given(count) => put_front(bytes, count, key),
+    }
+}
+
+// A lookup in the first `count` bytes, which the slice holds.
+fn put_front(bytes: &[u8], count: usize, key: i32) {
+    if count <= bytes.len() {
+        put_lookup(&bytes[..count], key);
     }
 }
 
@@ -81,13 +59,11 @@ fn put_name(name: &[u8], refusal: u8) {
 
 // Whether the line asks for a lookup; if so, it is answered.
 pub(crate) fn find_in(line: &[u8], at: usize) -> bool {
-    let Long::Read(key, next) = words::long_after(line, at) else {
-        return false;
-    };
+    let key = words::long_after(line, at);
     let mut book = [0u8; 256];
-    let read = words::bytes_after(line, next, &mut book);
+    let read = words::bytes_after(line, key.end, &mut book);
     if words::is_at(line, read.end, b'\n') {
-        put_found(&book, CountAnswer::Given(read.count), key);
+        put_front(&book, read.count, key.value);
         return true;
     }
     false

@@ -1,4 +1,4 @@
-// Questions on patterns from a fractional generator. Their names stand here, and not among the others. A DOUBLE is two numbers of 32 bits,
+// Questions on patterns from a fractional generator. A DOUBLE is two numbers of 32 bits,
 // the upper and the lower half of its bits; where these are of no number, it is no number.
 //
 //     fractional_child COUNT COUNT DOUBLE DOUBLE     the child of a pattern, primary before secondary, or `none`
@@ -12,30 +12,20 @@
 use crate::names;
 use crate::print;
 use crate::words;
-use crate::words::Wide;
 use answer::CountAnswer;
 use mos_fractional::ChildAnswer;
 use mos_fractional::FractionalAnswer;
 use mos_fractional::FractionalMos;
 use mos_fractional::FractionalWalkAnswer;
 ghost use lib.ListN.{length};
+ghost use Rattle.answer.specs.Lent.{Filled};
 ghost use Rattle.answer.specs.Refusals.{countOutcome};
-ghost use Rattle.mos_fractional.specs.Answers.{listingOutcome, Listed};
+ghost use Rattle.mos_fractional.specs.Answers.{listingOutcome};
 
-const CHILD: usize = 0;
-
-const GENESIS: usize = 1;
-
-const NTH: usize = 2;
-
-const LEN: usize = 3;
-
-const CHILDREN: usize = 4;
-
-// A double and the place behind it, or no such number.
-pub(crate) enum Double {
-    Read(f64, usize),
-    Nothing,
+// A double, and the place behind it.
+pub(crate) struct Double {
+    pub(crate) value: f64,
+    pub(crate) end: usize,
 }
 
 // What the library answered, and the patterns.
@@ -44,68 +34,39 @@ pub(crate) struct Page {
     pub(crate) patterns: [FractionalMos; 8],
 }
 
-// Whether the line asks this; if so, it is answered.
-pub(crate) fn answer(line: &[u8], at: usize) -> bool {
-    let names =
-        b"fractional_child fractional_genesis fractional_nth fractional_len fractional_children ";
-    let kind = names::place_in(names, line, at);
-    if CHILDREN < kind {
-        return false;
-    }
-    if kind == CHILD {
-        return answer_child(line, at);
-    }
-    answer_generator(kind, line, at)
-}
-
-fn answer_child(line: &[u8], at: usize) -> bool {
-    let asked = words::numbers_after(line, at, 2);
-    if asked.all {
-        let values = asked.values;
-        return answer_steps(line, asked.end, values[0], values[1]);
-    }
-    false
-}
-
-fn answer_steps(line: &[u8], at: usize, num_primary_steps: u16, num_secondary_steps: u16) -> bool {
-    let Double::Read(primary_step, next) = double_after(line, at) else {
-        return false;
-    };
-    let Double::Read(secondary_step, end) = double_after(line, next) else {
-        return false;
-    };
-    if words::is_at(line, end, b'\n') {
+// Whether the line asks for a child; if so, it is answered.
+pub(crate) fn child(line: &[u8], at: usize) -> bool {
+    let counts = words::values_after(line, at, 2, 0);
+    let primary = double_after(line, counts.end);
+    let secondary = double_after(line, primary.end);
+    if words::is_at(line, secondary.end, b'\n') {
         put_child(FractionalMos {
-            num_primary_steps,
-            num_secondary_steps,
-            primary_step,
-            secondary_step,
+            num_primary_steps: counts.first,
+            num_secondary_steps: counts.second,
+            primary_step: primary.value,
+            secondary_step: secondary.value,
         });
         return true;
     }
     false
 }
 
-fn answer_generator(kind: usize, line: &[u8], at: usize) -> bool {
-    let Double::Read(generator, end) = double_after(line, at) else {
-        return false;
-    };
-    if kind == NTH {
-        return answer_nth(line, end, generator);
-    }
-    if words::is_at(line, end, b'\n') {
-        put(kind, generator);
+// Whether the line asks for the pattern at a place; if so, it is answered.
+pub(crate) fn nth(line: &[u8], at: usize) -> bool {
+    let generator = double_after(line, at);
+    let place = words::wide_after(line, generator.end);
+    if words::is_at(line, place.end, b'\n') {
+        put_walked(mos_fractional::nth_child(generator.value, place.value));
         return true;
     }
     false
 }
 
-fn answer_nth(line: &[u8], at: usize, generator: f64) -> bool {
-    let Wide::Read(place, end) = words::wide_after(line, at) else {
-        return false;
-    };
-    if words::is_at(line, end, b'\n') {
-        put_walked(mos_fractional::nth_child(generator, place));
+// Whether the line asks for something else; if so, it is answered.
+pub(crate) fn answer(kind: usize, line: &[u8], at: usize) -> bool {
+    let generator = double_after(line, at);
+    if words::is_at(line, generator.end, b'\n') {
+        put(kind, generator.value);
         return true;
     }
     false
@@ -113,13 +74,12 @@ fn answer_nth(line: &[u8], at: usize, generator: f64) -> bool {
 
 // The double behind a space at a place.
 fn double_after(line: &[u8], at: usize) -> Double {
-    let Wide::Read(upper, next) = words::wide_after(line, at) else {
-        return Double::Nothing;
-    };
-    let Wide::Read(lower, end) = words::wide_after(line, next) else {
-        return Double::Nothing;
-    };
-    Double::Read(of_bits(4294967296 * (upper as u64) + lower as u64), end)
+    let upper = words::wide_after(line, at);
+    let lower = words::wide_after(line, upper.end);
+    Double {
+        value: of_bits(4294967296 * (upper.value as u64) + lower.value as u64),
+        end: lower.end,
+    }
 }
 
 // The double of these bits, of which all above those of an infinity are of no number, the sign aside.
@@ -131,28 +91,16 @@ fn of_bits(bits: u64) -> f64 {
 }
 
 fn put(kind: usize, generator: f64) {
-    if kind == GENESIS {
-        put_made(FractionalMos::new_genesis(generator));
-        return;
+    match kind {
+        names::FRACTIONAL_GENESIS => put_made(FractionalMos::new_genesis(generator)),
+        names::FRACTIONAL_LEN => print::count_line(mos_fractional::children_len(generator)),
+        _ => put_children(generator),
     }
-    if kind == LEN {
-        put_count(mos_fractional::children_len(generator));
-        print::end_line();
-        return;
-    }
-    put_page(list_page(
-        generator,
-        [
-            lent(),
-            lent(),
-            lent(),
-            lent(),
-            lent(),
-            lent(),
-            lent(),
-            lent(),
-        ],
-    ));
+}
+
+fn put_children(generator: f64) {
+    let m = lent();
+    put_page(list_page(generator, [m, m, m, m, m, m, m, m]));
 }
 
 fn put_child(pattern: FractionalMos) {
@@ -177,13 +125,6 @@ fn put_walked(answer: FractionalWalkAnswer) {
     }
 }
 
-fn put_count(answer: CountAnswer) {
-    match answer {
-        CountAnswer::Given(count) => print::number(count as u64),
-        CountAnswer::Refused(q) => print::refusal(q),
-    }
-}
-
 // A pattern as it is lent.
 fn lent() -> FractionalMos {
     FractionalMos {
@@ -196,7 +137,7 @@ fn lent() -> FractionalMos {
 
 // The array is lent for the call alone. Covered code cannot lend a list of structs, so this is proved by hand.
 fn list_page(generator: f64, patterns: [FractionalMos; 8]) -> Page
-    ensures { λ r. ⌜ Listed (listingOutcome generator (length patterns)) (countOutcome (r .answer)) patterns (r .patterns) ⌝ }
+    ensures { λ r. ⌜ Filled (listingOutcome generator (length patterns)) (countOutcome (r .answer)) patterns (r .patterns) ⌝ }
 {
     let mut list = patterns;
     let answer = mos_fractional::children(generator, &mut list);
@@ -208,7 +149,7 @@ fn list_page(generator: f64, patterns: [FractionalMos; 8]) -> Page
 
 fn put_page(page: Page) {
     let answer = page.answer;
-    put_count(answer);
+    print::count(answer);
     let patterns = page.patterns;
     put_next(patterns[0]);
     put_next(patterns[1]);
@@ -233,7 +174,7 @@ fn put_line(m: FractionalMos) {
 
 fn put_pattern(m: FractionalMos) {
     print::short(m.num_primary_steps);
-    print::next_number(m.num_secondary_steps as u64);
+    print::next_short(m.num_secondary_steps);
     put_double(m.primary_step);
     put_double(m.secondary_step);
 }

@@ -10,6 +10,8 @@
 //     names LAYOUT             the names of an octave's keys
 //     key_layers LAYOUT        the keys' layers: n, s0, e0, f0 for natural, sharp 0, enharmonic 0, flat 0
 //     lamps LAYOUT             the lamp strip
+use crate::books;
+use crate::lists;
 use crate::names;
 use crate::patterns;
 use crate::pergens;
@@ -21,39 +23,19 @@ use layout::IsomorphicLayout;
 use layout::LayoutAnswer;
 use layout_layers::Layer;
 
-pub(crate) fn answer(kind: usize, layout: IsomorphicLayout, n: Values, out: &mut [u8]) {
-    if kind == names::SPELLING {
-        pergens::put_spelled(layout.get_accidentals(n.key));
-        return;
-    }
-    if kind == names::NAME {
-        put_name(layout, n.key, out);
-        print::end_line();
-        return;
-    }
-    if names::NAME < kind {
-        answer_key(kind, layout, n.key);
-        return;
-    }
-    if names::KEY_LAYERS <= kind {
-        answer_list(kind, layout, n.room);
-        return;
-    }
-    answer_layout(kind, layout, out);
-}
-
-// One key's layer, or its lamp.
-fn answer_key(kind: usize, layout: IsomorphicLayout, key: i32) {
-    if kind == names::LAYER {
-        put_layer(
+pub(crate) fn answer(kind: usize, layout: IsomorphicLayout, n: Values) {
+    match kind {
+        names::SPELLING => pergens::put_spelled(layout.get_accidentals(n.key)),
+        names::LAYER => put_layer(
             layout_layers::layer_count(layout),
-            layout_layers::get_layer(layout, key),
-        );
-        print::end_line();
-        return;
+            layout_layers::get_layer(layout, n.key),
+        ),
+        names::LAMP => print::answer_line(layout_lamps::lamp(layout, n.key)),
+        names::BOOK_LEN => print::count_line(layout_book::book_len(layout)),
+        names::KEY_LAYERS => answer_layers(layout, n.room),
+        names::LAMPS => lists::answer_lamps(layout, n.room),
+        _ => answer_text(kind, layout, n),
     }
-    print::answer(layout_lamps::lamp(layout, key));
-    print::end_line();
 }
 
 // The layout that a question is about.
@@ -61,6 +43,10 @@ pub(crate) fn layout_of(kind: usize, n: Values) -> IsomorphicLayout {
     if kind < names::LAYOUT_FROM {
         return layout::default_layout(n.first, n.second, n.third);
     }
+    with_start(n)
+}
+
+pub(crate) fn with_start(n: Values) -> IsomorphicLayout {
     IsomorphicLayout {
         genchain: n.first,
         octave: n.second,
@@ -69,7 +55,37 @@ pub(crate) fn layout_of(kind: usize, n: Values) -> IsomorphicLayout {
     }
 }
 
-fn answer_layout(kind: usize, layout: IsomorphicLayout, out: &mut [u8]) {
+fn answer_text(kind: usize, layout: IsomorphicLayout, n: Values) {
+    let mut out = io::large_buffer();
+    let end = n.room as usize;
+    put_text(kind, layout, n.key, &mut out[..end]);
+}
+
+fn put_text(kind: usize, layout: IsomorphicLayout, key: i32, out: &mut [u8]) {
+    match kind {
+        names::NAME => put_name_line(layout, key, out),
+        names::BOOK => put_book(layout, out),
+        names::FIND => put_in_book(layout, key, out),
+        _ => put_made(kind, layout, out),
+    }
+}
+
+fn put_name_line(layout: IsomorphicLayout, key: i32, out: &mut [u8]) {
+    put_name(layout, key, out);
+    print::end_line();
+}
+
+fn put_book(layout: IsomorphicLayout, out: &mut [u8]) {
+    let written = layout_book::write_book(layout, out);
+    print::bytes(out, written);
+}
+
+fn put_in_book(layout: IsomorphicLayout, key: i32, out: &mut [u8]) {
+    let written = layout_book::write_book(layout, out);
+    books::put_found(out, written, key);
+}
+
+fn put_made(kind: usize, layout: IsomorphicLayout, out: &mut [u8]) {
     let made = layout::create_layout_beginning(
         layout.genchain,
         layout.octave,
@@ -86,12 +102,6 @@ fn answer_layout(kind: usize, layout: IsomorphicLayout, out: &mut [u8]) {
             put_layout(accepted, out);
         }
     }
-}
-
-pub(crate) fn put_chain(code: u16, out: &mut [u8]) {
-    let answer = genchain_names::name(code, out);
-    print::written(out, answer);
-    print::end_line();
 }
 
 fn put_layout(layout: IsomorphicLayout, out: &mut [u8]) {
@@ -121,25 +131,10 @@ fn put_names(layout: IsomorphicLayout, out: &mut [u8]) {
     print::end_line();
 }
 
-// A number for each key of the octave, or of two: the keys' layers, or the lamp strip.
-fn answer_list(kind: usize, layout: IsomorphicLayout, room: u16) {
+fn answer_layers(layout: IsomorphicLayout, room: u16) {
     let mut out = print::list_room();
     let end = room as usize;
-    put_list(kind, layout, &mut out[..end]);
-}
-
-fn put_list(kind: usize, layout: IsomorphicLayout, out: &mut [u16]) {
-    if kind == names::LAMPS {
-        put_lamps(layout, out);
-        return;
-    }
-    put_layers(layout, out);
-}
-
-fn put_lamps(layout: IsomorphicLayout, out: &mut [u16]) {
-    let answer = layout_lamps::lamp_strip(layout, out);
-    print::list(out, answer);
-    print::end_line();
+    put_layers(layout, &mut out[..end]);
 }
 
 fn put_layers(layout: IsomorphicLayout, out: &mut [u16]) {
@@ -171,12 +166,13 @@ fn put_all_kinds(total: u16, numbers: &[u16], count: usize) {
     print::end_line();
 }
 
-// One key's layer, or a refusal, within a line.
+// One key's layer, or a refusal, alone on the line.
 fn put_layer(total: NumberAnswer, number: NumberAnswer) {
     match total {
         NumberAnswer::Refused(q) => print::refusal(q),
         NumberAnswer::Given(layers) => put_number(layers, number),
     }
+    print::end_line();
 }
 
 fn put_number(total: u16, number: NumberAnswer) {
@@ -197,5 +193,5 @@ fn put_kind(layer: Layer) {
 
 fn put_level(kind: &[u8], level: u16) {
     print::text(kind);
-    print::number(level as u64);
+    print::short(level);
 }

@@ -10,6 +10,7 @@ mod books;
 mod edo;
 mod fractional;
 mod layouts;
+mod lists;
 mod mappings;
 mod moves;
 mod names;
@@ -17,19 +18,17 @@ mod numbers;
 mod orders;
 mod patterns;
 mod pergens;
+mod plain;
 mod print;
-mod reach;
 mod retunings;
 mod sheets;
 mod strips;
 mod tables;
+mod texts;
 mod words;
 
 use libc::STDIN_FILENO;
-use words::Long;
-use words::Numbers;
 use words::Values;
-use words::Wide;
 ghost use Rattle.io.specs.Counts.{Counts};
 
 // Whether the line is a question; if so, it is answered.
@@ -39,32 +38,9 @@ fn answered(line: &[u8], room: u16) -> bool {
     if names::LAST_PLAIN < kind {
         return answered_other(kind, line, end, room);
     }
-    let asked = words::numbers_after(line, end, names::count_of(kind));
-    if asked.all {
-        return answered_numbers(kind, line, asked, room);
-    }
-    false
-}
-
-// Whether the line ends behind its numbers, or behind a key where one is wanted; if so, it is answered.
-fn answered_numbers(kind: usize, line: &[u8], asked: Numbers, room: u16) -> bool {
-    let values = asked.values;
-    if names::has_key(names::asked(kind)) {
-        return answered_key(kind, line, asked.end, values, room);
-    }
-    if words::is_at(line, asked.end, b'\n') {
-        answer(kind, words::values_of(values, 0, room));
-        return true;
-    }
-    false
-}
-
-fn answered_key(kind: usize, line: &[u8], at: usize, values: [u16; 4], room: u16) -> bool {
-    let Long::Read(key, end) = words::long_after(line, at) else {
-        return false;
-    };
-    if words::is_at(line, end, b'\n') {
-        answer(kind, words::values_of(values, key, room));
+    let n = words::values_after(line, end, names::shape_of(kind), room);
+    if words::is_at(line, n.end, b'\n') {
+        answer(kind, n);
         return true;
     }
     false
@@ -72,23 +48,29 @@ fn answered_key(kind: usize, line: &[u8], at: usize, values: [u16; 4], room: u16
 
 // Whether the line is a question, with or without a room before it; if so, it is answered.
 fn answered_with_room(line: &[u8]) -> bool {
-    let Wide::Read(room, next) = words::wide_at(line, 0) else {
+    let room = words::wide_at(line, 0);
+    if words::NOWHERE <= room.end {
         return answered(line, 65535);
-    };
-    if 65535 < room {
+    }
+    if 65535 < room.value {
         return false;
     }
-    if line.len() <= next {
-        return false;
-    }
-    if line[next] != b' ' {
-        return false;
-    }
-    let from = next + 1;
-    answered(&line[from..], room as u16)
+    answered_behind(line, room.end, room.value as u16)
 }
 
-// The names of each module stand together.
+// Whether a space stands at a place and a question behind it; if so, it is answered.
+fn answered_behind(line: &[u8], at: usize, room: u16) -> bool {
+    if line.len() <= at {
+        return false;
+    }
+    if line[at] != b' ' {
+        return false;
+    }
+    let from = at + 1;
+    answered(&line[from..], room)
+}
+
+// The names that a function answers stand together.
 fn answer(kind: usize, n: Values) {
     if kind < names::PERGEN {
         numbers::answer(kind, n);
@@ -98,74 +80,61 @@ fn answer(kind: usize, n: Values) {
         pergens::answer(kind, n);
         return;
     }
-    if kind < names::CHAIN {
+    if kind < names::TRITAVES {
         patterns::answer(kind, n);
         return;
     }
-    answer_in_room(kind, n);
-}
-
-fn answer_in_room(kind: usize, n: Values) {
-    let mut out = io::large_buffer();
-    let end = n.room as usize;
-    answer_text(kind, n, &mut out[..end]);
-}
-
-fn answer_text(kind: usize, n: Values, out: &mut [u8]) {
-    if kind == names::CHAIN {
-        layouts::put_chain(n.first, out);
+    if kind < names::CHILDREN {
+        plain::answer(kind, n);
         return;
     }
-    let asked = names::asked(kind);
-    let layout = layouts::layout_of(kind, n);
-    if asked < names::BOOK_LEN {
-        layouts::answer(asked, layout, n, out);
+    answer_long(kind, n);
+}
+
+fn answer_long(kind: usize, n: Values) {
+    if kind < names::WRITE_MOVES {
+        lists::answer(kind, n);
         return;
     }
-    books::answer(asked, layout, n.key, out);
+    if kind < names::CHAIN {
+        moves::write_into(kind, n);
+        return;
+    }
+    if kind < names::LAYOUT {
+        texts::answer(kind, n);
+        return;
+    }
+    layouts::answer(names::asked(kind), layouts::layout_of(kind, n), n);
 }
 
 fn answered_other(kind: usize, line: &[u8], end: usize, room: u16) -> bool {
-    if kind == names::GET_KEY {
-        return patterns::get_key(line, end);
+    match kind {
+        names::GET_KEY => patterns::get_key(line, end),
+        names::DIVIDE16 => numbers::divide16(line, end),
+        names::DIVIDE32 => numbers::divide32(line, end),
+        names::NTH_MOVES => moves::nth_moves(line, end),
+        names::MOVED => retunings::moved(line, end),
+        names::TABLE => tables::answer(line, end, room),
+        names::FIND_IN => books::find_in(line, end),
+        names::WIDEN => strips::widen(line, end, room),
+        names::NARROW => strips::narrow(line, end, room),
+        names::READ_KBM => mappings::read_kbm(line, end, room),
+        _ => answered_more(kind, line, end, room),
     }
-    if kind <= names::DIVIDE32 {
-        return numbers::divide(kind, line, end);
+}
+
+fn answered_more(kind: usize, line: &[u8], end: usize, room: u16) -> bool {
+    match kind {
+        names::TO_CHAIN_ORDER => orders::answer(kind, line, end, room),
+        names::TO_KEY_ORDER => orders::answer(kind, line, end, room),
+        names::SHEET => sheets::answer(line, end),
+        names::FRACTIONAL_CHILD => fractional::child(line, end),
+        names::FRACTIONAL_NTH => fractional::nth(line, end),
+        names::FRACTIONAL_GENESIS => fractional::answer(kind, line, end),
+        names::FRACTIONAL_LEN => fractional::answer(kind, line, end),
+        names::FRACTIONAL_CHILDREN => fractional::answer(kind, line, end),
+        _ => false,
     }
-    if kind == names::TABLE {
-        return tables::answer(line, end, room);
-    }
-    if kind == names::FIND_IN {
-        return books::find_in(line, end);
-    }
-    if kind == names::WIDEN {
-        return strips::widen(line, end, room);
-    }
-    if kind == names::NARROW {
-        return strips::narrow(line, end, room);
-    }
-    if kind <= names::REACH {
-        return reach::answer(kind, line, end, room);
-    }
-    if kind <= names::TO_KEY_ORDER {
-        return orders::answer(kind, line, end, room);
-    }
-    if kind <= names::WALK_MOVES {
-        return moves::answer(kind, line, end, room);
-    }
-    if edo::answer(line, end, room) {
-        return true;
-    }
-    if retunings::answer(line, end, room) {
-        return true;
-    }
-    if mappings::answer(line, end, room) {
-        return true;
-    }
-    if sheets::answer(line, end) {
-        return true;
-    }
-    fractional::answer(line, end)
 }
 
 fn answer_line(line: &[u8]) {

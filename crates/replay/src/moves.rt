@@ -11,7 +11,6 @@ use crate::patterns;
 use crate::print;
 use crate::words;
 use crate::words::Values;
-use crate::words::Wide;
 use answer::CountAnswer;
 use layout::IsomorphicLayout;
 use mos::Mos;
@@ -19,65 +18,24 @@ use mos::MosAnswer;
 use mos::WalkAnswer;
 use mos_moves::Moves;
 
-// Whether the line asks this; if so, it is answered.
-pub(crate) fn answer(kind: usize, line: &[u8], at: usize, room: u16) -> bool {
-    let asked = words::numbers_after(line, at, count_of(kind));
-    if asked.all {
-        let values = asked.values;
-        return answer_numbers(kind, line, asked.end, words::values_of(values, 0, room));
-    }
-    false
-}
-
-// How many 16-bit numbers come behind a name, a place aside.
-fn count_of(kind: usize) -> usize {
-    if kind <= names::WRITE_MOVES {
-        return 4;
-    }
-    2
-}
-
-fn answer_numbers(kind: usize, line: &[u8], at: usize, n: Values) -> bool {
-    if kind == names::NTH_MOVES {
-        return answer_nth(line, at, n);
-    }
-    if words::is_at(line, at, b'\n') {
-        put(kind, n);
+// Whether the line asks for the moves at a place; if so, it is answered.
+pub(crate) fn nth_moves(line: &[u8], at: usize) -> bool {
+    let n = words::values_after(line, at, 2, 0);
+    let place = words::wide_after(line, n.end);
+    if words::is_at(line, place.end, b'\n') {
+        put_nth(n.first, n.second, place.value);
         return true;
     }
     false
 }
 
-fn answer_nth(line: &[u8], at: usize, n: Values) -> bool {
-    let Wide::Read(place, end) = words::wide_after(line, at) else {
-        return false;
-    };
-    if words::is_at(line, end, b'\n') {
-        put_nth(n.first, n.second, place);
-        return true;
-    }
-    false
-}
-
-fn put(kind: usize, n: Values) {
-    if kind == names::MOVES {
-        put_of_layout(layouts::layout_of(kind, n));
-        return;
-    }
-    if kind == names::GENESIS_MOVES {
-        put_genesis(n.first, n.second);
-        return;
-    }
-    write_into(kind, n);
-}
-
-fn put_of_layout(layout: IsomorphicLayout) {
+pub(crate) fn put_of_layout(layout: IsomorphicLayout) {
     let mut moves = [[0i32; 2]; 2];
     let made = layout_moves::get_moves(layout, &mut moves);
     put_made(made, moves);
 }
 
-fn put_genesis(period: u16, generator: u16) {
+pub(crate) fn put_genesis(period: u16, generator: u16) {
     let mut moves = [[0i32; 2]; 2];
     let made = mos_moves::genesis_moves(period, generator, &mut moves);
     put_made(made, moves);
@@ -116,7 +74,7 @@ fn put_row(row: [i32; 2]) {
     print::next_signed(row[1]);
 }
 
-fn write_into(kind: usize, n: Values) {
+pub(crate) fn write_into(kind: usize, n: Values) {
     let mut out = print::signed_list_room();
     let end = n.room as usize;
     put_written(kind, n, &mut out[..end]);
@@ -125,13 +83,12 @@ fn write_into(kind: usize, n: Values) {
 fn put_written(kind: usize, n: Values, out: &mut [i32]) {
     let answer = written(kind, n, out);
     print::signed_list(out, answer);
-    print::end_line();
 }
 
 // A layout's moves, or those of a walk.
 fn written(kind: usize, n: Values, out: &mut [i32]) -> CountAnswer {
     if kind == names::WRITE_MOVES {
-        return layout_moves::write_moves(layouts::layout_of(kind, n), out);
+        return layout_moves::write_moves(layouts::with_start(n), out);
     }
     mos_moves::walk_moves(n.first, n.second, out)
 }

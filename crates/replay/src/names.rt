@@ -1,7 +1,7 @@
 // The names of the questions. A question goes by its name's place among them, counted from 0.
 //
-// They stand in the order of the modules that answer them. Up to `LAST_PLAIN` they have 16-bit numbers, and some of them a key
-// behind these; the others have other numbers.
+// They stand in the order of the functions that answer them. Up to `LAST_PLAIN` the table `SHAPES` says which numbers they have; the
+// others read their own.
 ghost use Prim.Native.Nat.{_<_};
 use crate::words;
 
@@ -11,12 +11,14 @@ pub(crate) const GCD: usize = 0;
 pub(crate) const SIMPLIFY: usize = 1;
 
 pub(crate) const ODD: usize = 2;
+
 // On free pergens.
 pub(crate) const PERGEN: usize = 3;
 
 pub(crate) const GENERATION: usize = 4;
 
 pub(crate) const ACCIDENTALS: usize = 5;
+
 // On patterns.
 pub(crate) const NEW_GENESIS: usize = 6;
 
@@ -36,93 +38,127 @@ pub(crate) const MIRROR: usize = 13;
 
 pub(crate) const COPRIME: usize = 14;
 
-pub(crate) const CHILDREN: usize = 15;
+// On an octave of equal steps, mappings, moves, distances and retunings.
+pub(crate) const TRITAVES: usize = 15;
 
-pub(crate) const PARENTS: usize = 16;
+pub(crate) const FIND_CHAIN_BY_EDO: usize = 16;
 
-pub(crate) const LAYER_SIZES: usize = 17;
+pub(crate) const KBM_LEN: usize = 17;
 
-pub(crate) const LAYERS: usize = 18;
-// On layouts.
-pub(crate) const CHAIN: usize = 19;
+pub(crate) const MOVES: usize = 18;
 
-pub(crate) const LAYOUT: usize = 20;
+pub(crate) const GENESIS_MOVES: usize = 19;
 
-pub(crate) const NAMES: usize = 21;
+pub(crate) const NEAREST: usize = 20;
 
-pub(crate) const KEY_LAYERS: usize = 22;
+pub(crate) const LARGEST_MOVE: usize = 21;
 
-pub(crate) const LAMPS: usize = 23;
+// On what a list of numbers answers.
+pub(crate) const CHILDREN: usize = 22;
 
-pub(crate) const SPELLING: usize = 24;
+pub(crate) const PARENTS: usize = 23;
 
-pub(crate) const NAME: usize = 25;
+pub(crate) const LAYER_SIZES: usize = 24;
 
-pub(crate) const LAYER: usize = 26;
+pub(crate) const LAYERS: usize = 25;
 
-pub(crate) const LAMP: usize = 27;
+pub(crate) const FIND_BY_EDO: usize = 26;
 
-// On books.
-pub(crate) const BOOK_LEN: usize = 28;
+pub(crate) const MOVE_TABLE: usize = 27;
 
-pub(crate) const BOOK: usize = 29;
+pub(crate) const REACH: usize = 28;
 
-pub(crate) const FIND: usize = 30;
+// On what a list of moves answers.
+pub(crate) const WRITE_MOVES: usize = 29;
+
+pub(crate) const WALK_MOVES: usize = 30;
+
+// On what a text answers.
+pub(crate) const CHAIN: usize = 31;
+
+pub(crate) const EDO_REPORT: usize = 32;
+
+pub(crate) const KBM: usize = 33;
+
+// On layouts and their books.
+pub(crate) const LAYOUT: usize = 34;
+
+pub(crate) const NAMES: usize = 35;
+
+pub(crate) const KEY_LAYERS: usize = 36;
+
+pub(crate) const LAMPS: usize = 37;
+
+pub(crate) const SPELLING: usize = 38;
+
+pub(crate) const NAME: usize = 39;
+
+pub(crate) const LAYER: usize = 40;
+
+pub(crate) const LAMP: usize = 41;
+
+pub(crate) const BOOK_LEN: usize = 42;
+
+pub(crate) const BOOK: usize = 43;
+
+pub(crate) const FIND: usize = 44;
 
 // On layouts and books again, from `LAYOUT` to `FIND` in the same order, with a start.
-pub(crate) const LAYOUT_FROM: usize = 31;
+pub(crate) const LAYOUT_FROM: usize = 45;
 
 // How many places lie between a question and the same with a start.
 const FROM: usize = 11;
 
-pub(crate) const LAST_PLAIN: usize = 41;
+pub(crate) const LAST_PLAIN: usize = 55;
+
 // With other numbers.
-pub(crate) const GET_KEY: usize = 42;
+pub(crate) const GET_KEY: usize = 56;
 
-pub(crate) const DIVIDE16: usize = 43;
+pub(crate) const DIVIDE16: usize = 57;
 
-pub(crate) const DIVIDE32: usize = 44;
+pub(crate) const DIVIDE32: usize = 58;
 
-pub(crate) const TABLE: usize = 45;
+pub(crate) const NTH_MOVES: usize = 59;
 
-pub(crate) const FIND_IN: usize = 46;
+pub(crate) const MOVED: usize = 60;
 
-pub(crate) const WIDEN: usize = 47;
+pub(crate) const TABLE: usize = 61;
 
-pub(crate) const NARROW: usize = 48;
+pub(crate) const FIND_IN: usize = 62;
 
-pub(crate) const NEAREST: usize = 49;
+pub(crate) const WIDEN: usize = 63;
 
-pub(crate) const REACH: usize = 50;
+pub(crate) const NARROW: usize = 64;
 
-pub(crate) const TO_CHAIN_ORDER: usize = 51;
+pub(crate) const TO_CHAIN_ORDER: usize = 65;
 
-pub(crate) const TO_KEY_ORDER: usize = 52;
+pub(crate) const TO_KEY_ORDER: usize = 66;
 
-pub(crate) const MOVES: usize = 53;
+pub(crate) const READ_KBM: usize = 67;
 
-pub(crate) const WRITE_MOVES: usize = 54;
+pub(crate) const SHEET: usize = 68;
 
-pub(crate) const GENESIS_MOVES: usize = 55;
+pub(crate) const FRACTIONAL_CHILD: usize = 69;
 
-pub(crate) const NTH_MOVES: usize = 56;
+pub(crate) const FRACTIONAL_GENESIS: usize = 70;
 
-pub(crate) const WALK_MOVES: usize = 57;
+pub(crate) const FRACTIONAL_NTH: usize = 71;
 
-// How many 16-bit numbers come behind each name up to `LAST_PLAIN`, a key aside.
-const COUNTS: [usize; 42] = [
+pub(crate) const FRACTIONAL_LEN: usize = 72;
+
+pub(crate) const FRACTIONAL_CHILDREN: usize = 73;
+
+// What comes behind each name up to `LAST_PLAIN`: so many 16-bit numbers, 10 more where a key follows them, and 20 more where one more
+// 16-bit number is the last.
+const SHAPES: [usize; 56] = [
     2,
     2,
     1,
     2,
+    12,
+    14,
     2,
-    4,
     2,
-    2,
-    4,
-    4,
-    4,
-    4,
     4,
     4,
     4,
@@ -131,34 +167,52 @@ const COUNTS: [usize; 42] = [
     4,
     4,
     1,
-    3,
-    3,
-    3,
-    3,
-    3,
-    3,
-    3,
-    3,
-    3,
-    3,
-    3,
+    2,
+    4,
+    4,
+    2,
+    34,
+    24,
     4,
     4,
     4,
     4,
+    1,
+    24,
+    34,
+    4,
+    2,
+    1,
+    0,
+    4,
+    3,
+    3,
+    3,
+    3,
+    13,
+    13,
+    13,
+    13,
+    3,
+    3,
+    13,
     4,
     4,
     4,
     4,
+    14,
+    14,
+    14,
+    14,
     4,
     4,
-    4,
+    14,
 ];
 
-pub(crate) fn count_of(kind: usize) -> usize
-    requires { ⌜ kind < 42 ⌝ }
+pub(crate) fn shape_of(kind: usize) -> usize
+    requires { ⌜ kind < 56 ⌝ }
 {
-    COUNTS[kind]
+    SHAPES[kind]
 }
 
 // What a question up to `LAST_PLAIN` asks, a start aside.
@@ -169,27 +223,10 @@ pub(crate) fn asked(kind: usize) -> usize {
     kind - FROM
 }
 
-// Whether a key, of 32 signed bits, comes behind the numbers of what is asked.
-pub(crate) fn has_key(kind: usize) -> bool {
-    if kind == GENERATION {
-        return true;
-    }
-    if kind == ACCIDENTALS {
-        return true;
-    }
-    if kind < SPELLING {
-        return false;
-    }
-    if kind <= LAMP {
-        return true;
-    }
-    kind == FIND
-}
-
 // The place of the name that a line has up to `end`, or a place behind the last.
 pub(crate) fn kind_of(line: &[u8], end: usize) -> usize {
     let names =
-        b"gcd simplify odd pergen generation accidentals new_genesis new_collapsed pattern child parent genesis dual mirror coprime children parents layer_sizes layers chain layout names key_layers lamps spelling name layer lamp book_len book find layout_from names_from key_layers_from lamps_from spelling_from name_from layer_from lamp_from book_len_from book_from find_from get_key divide16 divide32 table find_in widen narrow nearest reach to_chain_order to_key_order moves write_moves genesis_moves nth_moves walk_moves ";
+        b"gcd simplify odd pergen generation accidentals new_genesis new_collapsed pattern child parent genesis dual mirror coprime tritaves find_chain_by_edo kbm_len moves genesis_moves nearest largest_move children parents layer_sizes layers find_by_edo move_table reach write_moves walk_moves chain edo_report kbm layout names key_layers lamps spelling name layer lamp book_len book find layout_from names_from key_layers_from lamps_from spelling_from name_from layer_from lamp_from book_len_from book_from find_from get_key divide16 divide32 nth_moves moved table find_in widen narrow to_chain_order to_key_order read_kbm sheet fractional_child fractional_genesis fractional_nth fractional_len fractional_children ";
     place_in(names, line, end)
 }
 

@@ -8,56 +8,45 @@
 use crate::names;
 use crate::print;
 use crate::words;
-use crate::words::Long;
 use crate::words::Values;
-use crate::words::Wide;
 use math::DividedU16Answer;
 use math::DividedU32Answer;
 use math::Fraction;
 
 pub(crate) fn answer(kind: usize, n: Values) {
-    if kind == names::SIMPLIFY {
-        put_fraction(math::simplify_u16(n.first, n.second));
-        return;
+    match kind {
+        names::GCD => print::line(math::gcd_u16(n.first, n.second)),
+        names::SIMPLIFY => put_fraction(math::simplify_u16(n.first, n.second)),
+        _ => print::line(math::odd_factors_u16(n.first)),
     }
-    if kind == names::ODD {
-        print::line(math::odd_factors_u16(n.first));
-        return;
-    }
-    print::line(math::gcd_u16(n.first, n.second));
 }
 
 fn put_fraction(fraction: Fraction) {
-    print::number(fraction.numer as u64);
+    print::short(fraction.numer);
     print::space();
     print::line(fraction.denom);
 }
 
 // Whether the line asks for a division; if so, it is answered.
-pub(crate) fn divide(kind: usize, line: &[u8], at: usize) -> bool {
-    let Long::Read(numer, next) = words::long_after(line, at) else {
-        return false;
-    };
-    let Wide::Read(denom, end) = words::wide_after(line, next) else {
-        return false;
-    };
-    if words::is_at(line, end, b'\n') {
-        return divided(kind, numer, denom);
+pub(crate) fn divide16(line: &[u8], at: usize) -> bool {
+    let numer = words::long_after(line, at);
+    let denom = words::natural_after(line, numer.end);
+    if words::is_at(line, denom.end, b'\n') {
+        put_divided16(math::i32_dr_u16(numer.value, denom.value));
+        return true;
     }
     false
 }
 
-// Whether the denominator has no more bits than the kind allows; if so, the division is answered.
-fn divided(kind: usize, numer: i32, denom: u32) -> bool {
-    if kind == names::DIVIDE32 {
-        put_divided32(math::i32_dr_u32(numer, denom));
+// Whether the line asks for a division; if so, it is answered.
+pub(crate) fn divide32(line: &[u8], at: usize) -> bool {
+    let numer = words::long_after(line, at);
+    let denom = words::wide_after(line, numer.end);
+    if words::is_at(line, denom.end, b'\n') {
+        put_divided32(math::i32_dr_u32(numer.value, denom.value));
         return true;
     }
-    if 65535 < denom {
-        return false;
-    }
-    put_divided16(math::i32_dr_u16(numer, denom as u16));
-    true
+    false
 }
 
 fn put_divided16(answer: DividedU16Answer) {

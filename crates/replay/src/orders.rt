@@ -13,17 +13,9 @@ use layout::IsomorphicLayout;
 
 // Whether the line asks this; if so, it is answered.
 pub(crate) fn answer(kind: usize, line: &[u8], at: usize, room: u16) -> bool {
-    let asked = words::numbers_after(line, at, 4);
-    if asked.all {
-        let values = asked.values;
-        return answer_list(kind, line, asked.end, words::values_of(values, 0, room));
-    }
-    false
-}
-
-fn answer_list(kind: usize, line: &[u8], at: usize, n: Values) -> bool {
+    let n = words::values_after(line, at, 4, room);
     let mut list = [0u16; 256];
-    let read = words::codes_after(line, at, &mut list);
+    let read = words::codes_after(line, n.end, &mut list);
     if words::is_at(line, read.end, b'\n') {
         order_front(kind, n, &list, read.count);
         return true;
@@ -41,13 +33,12 @@ fn order_front(kind: usize, n: Values, list: &[u16], count: usize) {
 fn order_into(kind: usize, n: Values, list: &[u16]) {
     let mut out = print::list_room();
     let end = n.room as usize;
-    put_order(kind, layouts::layout_of(kind, n), list, &mut out[..end]);
+    put_order(kind, layouts::with_start(n), list, &mut out[..end]);
 }
 
 fn put_order(kind: usize, layout: IsomorphicLayout, list: &[u16], out: &mut [u16]) {
     let answer = ordered(kind, layout, list, out);
     print::list(out, answer);
-    print::end_line();
 }
 
 fn ordered(kind: usize, layout: IsomorphicLayout, list: &[u16], out: &mut [u16]) -> CountAnswer {

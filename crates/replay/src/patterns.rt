@@ -12,9 +12,7 @@
 use crate::names;
 use crate::print;
 use crate::words;
-use crate::words::Short;
 use crate::words::Values;
-use answer::CountAnswer;
 use mos::KeyAnswer;
 use mos::Mos;
 use mos::MosAnswer;
@@ -23,27 +21,15 @@ use mos::TotalAnswer;
 use mos::WalkAnswer;
 
 pub(crate) fn answer(kind: usize, n: Values) {
-    if kind == names::NEW_GENESIS {
-        put_made(Mos::new_genesis(n.first, n.second));
-        return;
+    match kind {
+        names::NEW_GENESIS => put_made(Mos::new_genesis(n.first, n.second)),
+        names::NEW_COLLAPSED => put_pattern(Mos::new_collapsed(n.first, n.second)),
+        names::PATTERN => put_new(Mos::new(n.first, n.second, n.third, n.fourth)),
+        _ => answer_pattern(kind, pattern_of(n)),
     }
-    if kind == names::NEW_COLLAPSED {
-        put_pattern(Mos::new_collapsed(n.first, n.second));
-        return;
-    }
-    if kind == names::PATTERN {
-        put_new(Mos::new(n.first, n.second, n.third, n.fourth));
-        return;
-    }
-    let m = pattern_of(n);
-    if kind < names::CHILDREN {
-        answer_pattern(kind, m);
-        return;
-    }
-    answer_list(kind, m, n.room);
 }
 
-fn pattern_of(n: Values) -> Mos {
+pub(crate) fn pattern_of(n: Values) -> Mos {
     Mos {
         num_primary_steps: n.first,
         num_secondary_steps: n.second,
@@ -53,27 +39,14 @@ fn pattern_of(n: Values) -> Mos {
 }
 
 fn answer_pattern(kind: usize, m: Mos) {
-    if kind == names::CHILD {
-        put_walked(m.child());
-        return;
+    match kind {
+        names::CHILD => put_walked(m.child()),
+        names::PARENT => put_walked(m.parent()),
+        names::GENESIS => put_made(mos_walks::genesis(m)),
+        names::DUAL => put_made(m.dual()),
+        names::MIRROR => put_made(m.mirror()),
+        _ => put_made(m.coprime()),
     }
-    if kind == names::PARENT {
-        put_walked(m.parent());
-        return;
-    }
-    if kind == names::GENESIS {
-        put_made(mos_walks::genesis(m));
-        return;
-    }
-    if kind == names::DUAL {
-        put_made(m.dual());
-        return;
-    }
-    if kind == names::MIRROR {
-        put_made(m.mirror());
-        return;
-    }
-    put_made(m.coprime());
 }
 
 fn put_pattern(m: Mos) {
@@ -83,10 +56,10 @@ fn put_pattern(m: Mos) {
 
 // A pattern within a line.
 pub(crate) fn put_counts_and_steps(m: Mos) {
-    print::number(m.num_primary_steps as u64);
-    print::next_number(m.num_secondary_steps as u64);
-    print::next_number(m.primary_step as u64);
-    print::next_number(m.secondary_step as u64);
+    print::short(m.num_primary_steps);
+    print::next_short(m.num_secondary_steps);
+    print::next_short(m.primary_step);
+    print::next_short(m.secondary_step);
 }
 
 // The rest of a line: a pattern, or a refusal.
@@ -136,47 +109,13 @@ fn put_steps(answer: TotalAnswer) {
     }
 }
 
-fn answer_list(kind: usize, m: Mos, room: u16) {
-    let mut out = print::list_room();
-    let end = room as usize;
-    put_list(kind, m, &mut out[..end]);
-}
-
-fn put_list(kind: usize, m: Mos, out: &mut [u16]) {
-    let count = write_list(kind, m, out);
-    print::list(out, count);
-    print::end_line();
-}
-
-fn write_list(kind: usize, m: Mos, out: &mut [u16]) -> CountAnswer {
-    if kind == names::CHILDREN {
-        return mos_listings::children(m, out);
-    }
-    if kind == names::PARENTS {
-        return mos_listings::parents(m, out);
-    }
-    if kind == names::LAYER_SIZES {
-        return mos_layers::layer_sizes(m, out);
-    }
-    mos_layers::get_layers(m, out)
-}
-
 // Whether the line asks for a key; if so, it is answered.
 pub(crate) fn get_key(line: &[u8], at: usize) -> bool {
-    let asked = words::numbers_after(line, at, 4);
-    if !asked.all {
-        return false;
-    }
-    let Short::Read(primary, next) = words::short_after(line, asked.end) else {
-        return false;
-    };
-    let Short::Read(secondary, end) = words::short_after(line, next) else {
-        return false;
-    };
-    if words::is_at(line, end, b'\n') {
-        let values = asked.values;
-        let n = words::values_of(values, 0, 0);
-        put_key(pattern_of(n).get_key(primary, secondary));
+    let n = words::values_after(line, at, 4, 0);
+    let primary = words::short_after(line, n.end);
+    let secondary = words::short_after(line, primary.end);
+    if words::is_at(line, secondary.end, b'\n') {
+        put_key(pattern_of(n).get_key(primary.value, secondary.value));
         return true;
     }
     false

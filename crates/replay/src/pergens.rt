@@ -18,24 +18,29 @@ use pergen::PerGen;
 use pergen::PerGenAnswer;
 
 pub(crate) fn answer(kind: usize, n: Values) {
-    if kind == names::PERGEN {
-        put_pergen(PerGen::new(n.first, n.second));
-        print::end_line();
-        return;
+    match kind {
+        names::PERGEN => put_pergen_line(PerGen::new(n.first, n.second)),
+        names::GENERATION => put_generated(pergen_of(n).get_generation(n.key)),
+        _ => put_spelled(pergen_of(n).get_accidentals(
+            AccidentalsFormat {
+                num_symbols: n.third,
+                genchain_origin: n.fourth,
+            },
+            n.key,
+        )),
     }
-    let pergen = PerGen {
+}
+
+fn pergen_of(n: Values) -> PerGen {
+    PerGen {
         period: n.first,
         generator: n.second,
-    };
-    if kind == names::GENERATION {
-        put_generated(pergen.get_generation(n.key));
-        return;
     }
-    let format = AccidentalsFormat {
-        num_symbols: n.third,
-        genchain_origin: n.fourth,
-    };
-    put_spelled(pergen_spelling::get_accidentals(pergen, format, n.key));
+}
+
+fn put_pergen_line(answer: PerGenAnswer) {
+    put_pergen(answer);
+    print::end_line();
 }
 
 // Period, generator, cycles, reduced period and inverse, or a refusal, within a line.
@@ -47,8 +52,8 @@ pub(crate) fn put_pergen(answer: PerGenAnswer) {
 }
 
 fn put_numbers(pergen: PerGen) {
-    print::number(pergen.period as u64);
-    print::next_number(pergen.generator as u64);
+    print::short(pergen.period);
+    print::next_short(pergen.generator);
     print::next_answer(pergen.num_cycles());
     print::next_answer(pergen.reduced_period());
     print::next_answer(pergen.generator_inverse());
@@ -62,7 +67,7 @@ fn put_generated(answer: GenerationAnswer) {
 }
 
 fn put_generation(generation: Generation) {
-    print::number(generation.degree as u64);
+    print::short(generation.degree);
     let cycle = generation.cycle;
     put_cycle(cycle);
 }
@@ -85,10 +90,10 @@ pub(crate) fn put_spelled(answer: AccidentalsAnswer) {
 }
 
 fn put_accidentals(accidentals: Accidentals) {
-    print::number(accidentals.sharp_index as u64);
-    print::next_number(accidentals.sharp_count as u64);
-    print::next_number(accidentals.flat_index as u64);
-    print::next_number(accidentals.flat_count as u64);
+    print::short(accidentals.sharp_index);
+    print::next_short(accidentals.sharp_count);
+    print::next_short(accidentals.flat_index);
+    print::next_short(accidentals.flat_count);
     let cycle = accidentals.cycle;
     put_cycle(cycle);
 }

@@ -38,6 +38,11 @@ pub(crate) fn next_number(n: u64) {
     number(n);
 }
 
+pub(crate) fn next_short(n: u16) {
+    space();
+    short(n);
+}
+
 // A number that may be below 0: a minus, and then the number 1 above its mirror image.
 pub(crate) fn signed(n: i64) {
     if n < 0 {
@@ -79,21 +84,58 @@ pub(crate) fn answer(answer: NumberAnswer) {
     }
 }
 
+// An answer alone on its line.
+pub(crate) fn answer_line(found: NumberAnswer) {
+    answer(found);
+    end_line();
+}
+
+// How many there are, or a refusal, within a line.
+pub(crate) fn count(answer: CountAnswer) {
+    match answer {
+        CountAnswer::Given(count) => number(count as u64),
+        CountAnswer::Refused(q) => refusal(q),
+    }
+}
+
+// The same alone on its line.
+pub(crate) fn count_line(answer: CountAnswer) {
+    count(answer);
+    end_line();
+}
+
 // An answer behind another word of the line.
 pub(crate) fn next_answer(found: NumberAnswer) {
     space();
     answer(found);
 }
 
-// As many bytes of a slice as were written to its front, or the refusal to write them. The slice holds what was written.
+// As many bytes of a slice as were written to its front, or the refusal to write them.
 pub(crate) fn written(bytes: &[u8], answer: CountAnswer) {
     match answer {
-        CountAnswer::Given(count) => {
-            if count <= bytes.len() {
-                text(&bytes[..count]);
-            }
-        }
+        CountAnswer::Given(count) => front_text(bytes, count),
         CountAnswer::Refused(q) => refusal(q),
+    }
+}
+
+// The same, alone on its line.
+pub(crate) fn written_line(bytes: &[u8], answer: CountAnswer) {
+    written(bytes, answer);
+    end_line();
+}
+
+// Lines that were written to the front of a slice, which have their own ends, or the refusal to write them, alone on its line.
+pub(crate) fn lines(bytes: &[u8], answer: CountAnswer) {
+    match answer {
+        CountAnswer::Given(count) => front_text(bytes, count),
+        CountAnswer::Refused(q) => refused(q),
+    }
+}
+
+// The first `count` bytes, which the slice holds.
+fn front_text(bytes: &[u8], count: usize) {
+    if count <= bytes.len() {
+        text(&bytes[..count]);
     }
 }
 
@@ -104,8 +146,13 @@ pub(crate) fn list_room() -> [u16; 65536]
     [0; 65536]
 }
 
-// As many numbers of a slice as were written to its front, `-` where that is none, or the refusal to write them.
+// As many numbers of a slice as were written to its front, `-` where that is none, or the refusal to write them; alone on the line.
 pub(crate) fn list(numbers: &[u16], answer: CountAnswer) {
+    list_words(numbers, answer);
+    end_line();
+}
+
+fn list_words(numbers: &[u16], answer: CountAnswer) {
     match answer {
         CountAnswer::Given(count) => front(numbers, count),
         CountAnswer::Refused(q) => refusal(q),
@@ -138,8 +185,13 @@ pub(crate) fn signed_list_room() -> [i32; 65536]
     [0; 65536]
 }
 
-// As many such numbers of a slice as were written to its front, or the refusal to write them.
+// As many such numbers of a slice as were written to its front, or the refusal to write them; alone on the line.
 pub(crate) fn signed_list(numbers: &[i32], answer: CountAnswer) {
+    signed_words(numbers, answer);
+    end_line();
+}
+
+fn signed_words(numbers: &[i32], answer: CountAnswer) {
     match answer {
         CountAnswer::Given(count) => signed_front(numbers, count),
         CountAnswer::Refused(q) => refusal(q),

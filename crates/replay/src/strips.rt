@@ -32,7 +32,6 @@ fn widen_into(strip: &[u8], room: u16) {
 fn put_widened(strip: &[u8], out: &mut [u16]) {
     let answer = lamp_codes::widen_strip(strip, out);
     print::list(out, answer);
-    print::end_line();
 }
 
 // Whether the line asks this; if so, it is answered.

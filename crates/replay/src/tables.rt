@@ -2,7 +2,6 @@
 //
 //     table LINE     all that the program prints for the line
 use crate::print;
-use answer::CountAnswer;
 
 // Whether the line asks this; if so, it is answered.
 pub(crate) fn answer(line: &[u8], at: usize, room: u16) -> bool {
@@ -24,8 +23,6 @@ fn answer_table(line: &[u8], room: u16) {
 }
 
 fn put_table(line: &[u8], out: &mut [u8]) {
-    match layout_table::respond(line, out) {
-        CountAnswer::Refused(q) => print::refused(q),
-        CountAnswer::Given(count) => print::written(out, CountAnswer::Given(count)),
-    }
+    let answer = layout_table::respond(line, out);
+    print::lines(out, answer);
 }

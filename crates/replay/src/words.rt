@@ -1,44 +1,40 @@
-// The words of a line: a name, then numbers with one space before each, then a line feed.
+// The words of a line: a name, then numbers with one space before each, then a line feed. What cannot be read ends `NOWHERE`, and so does
+// all that is read behind it: only the end of the last number is tested.
 ghost use Prim.Native.Nat.{_≤_};
 ghost use lib.ListN.{length};
 
-// A number of 16 bits and the place behind it, or no such number.
-pub(crate) enum Natural {
-    Read(u16, usize),
-    Nothing,
-}
+// A place behind every line.
+pub(crate) const NOWHERE: usize = 65536;
 
-// A number of 32 bits and the place behind it, or no such number.
-pub(crate) enum Wide {
-    Read(u32, usize),
-    Nothing,
-}
-
-// A number of 16 signed bits and the place behind it, or no such number.
-pub(crate) enum Short {
-    Read(i16, usize),
-    Nothing,
-}
-
-// A number of 32 signed bits and the place behind it, or no such number.
-pub(crate) enum Long {
-    Read(i32, usize),
-    Nothing,
-}
-
-// A number with a sign, and the place behind it: `Negative(n, _)` is -1 - n.
-enum Signed {
-    Positive(u32, usize),
-    Negative(u32, usize),
-    Nothing,
-}
-
-// The numbers behind a question's name, read into the first places of `values`; whether there are as many as were wanted; and
-// the place behind them.
-pub(crate) struct Numbers {
-    pub(crate) values: [u16; 4],
-    pub(crate) all: bool,
+// A number of 16 bits, and the place behind it.
+pub(crate) struct Natural {
+    pub(crate) value: u16,
     pub(crate) end: usize,
+}
+
+// A number of 32 bits, and the place behind it.
+pub(crate) struct Wide {
+    pub(crate) value: u32,
+    pub(crate) end: usize,
+}
+
+// A number of 16 signed bits, and the place behind it.
+pub(crate) struct Short {
+    pub(crate) value: i16,
+    pub(crate) end: usize,
+}
+
+// A number of 32 signed bits, and the place behind it.
+pub(crate) struct Long {
+    pub(crate) value: i32,
+    pub(crate) end: usize,
+}
+
+// A number with a sign, and the place behind it: one that is `below` 0 is -1 - value.
+struct Signed {
+    value: u32,
+    below: bool,
+    end: usize,
 }
 
 // How many numbers of a list were read, and the place behind them.
@@ -47,26 +43,53 @@ pub(crate) struct Listed {
     pub(crate) end: usize,
 }
 
-// The numbers of a question in the order of the line and its key, 0 where it has no more, and the room that it lends. Fields,
-// since the prover has less to do with a field than with an element of an array.
+// The numbers of a question in the order of the line, its key and its last number, 0 where it has no more; the room that it lends; and the
+// place behind them.
 pub(crate) struct Values {
     pub(crate) first: u16,
     pub(crate) second: u16,
     pub(crate) third: u16,
     pub(crate) fourth: u16,
     pub(crate) key: i32,
+    pub(crate) last: u16,
     pub(crate) room: u16,
+    pub(crate) end: usize,
 }
 
-pub(crate) fn values_of(values: [u16; 4], key: i32, room: u16) -> Values {
+// The numbers of a line behind its name, as the name's shape says.
+pub(crate) fn values_after(line: &[u8], at: usize, shape: usize, room: u16) -> Values {
+    let count = shape % 10;
+    let first = natural_if(0 < count, line, at);
+    let second = natural_if(1 < count, line, first.end);
+    let third = natural_if(2 < count, line, second.end);
+    let fourth = natural_if(3 < count, line, third.end);
+    let key = long_if(shape / 10 % 2 == 1, line, fourth.end);
+    let last = natural_if(20 <= shape, line, key.end);
     Values {
-        first: values[0],
-        second: values[1],
-        third: values[2],
-        fourth: values[3],
-        key,
+        first: first.value,
+        second: second.value,
+        third: third.value,
+        fourth: fourth.value,
+        key: key.value,
+        last: last.value,
         room,
+        end: last.end,
     }
+}
+
+// The number behind a space at a place where one is wanted; else 0, and nothing is read.
+fn natural_if(wanted: bool, line: &[u8], at: usize) -> Natural {
+    if wanted {
+        return natural_after(line, at);
+    }
+    Natural { value: 0, end: at }
+}
+
+fn long_if(wanted: bool, line: &[u8], at: usize) -> Long {
+    if wanted {
+        return long_after(line, at);
+    }
+    Long { value: 0, end: at }
 }
 
 // Whether there is a byte at a place, and it is the one asked for.
@@ -108,7 +131,7 @@ pub(crate) fn wide_at(line: &[u8], from: usize) -> Wide {
             return digits_read(value, from, at);
         }
         if 4294967295 < value {
-            return Wide::Nothing;
+            return digits_read(value, from, at);
         }
         value = 10 * value + (byte - b'0') as u64;
         at += 1;
@@ -119,140 +142,134 @@ pub(crate) fn wide_at(line: &[u8], from: usize) -> Wide {
 // At least one digit was read, and the number has 32 bits.
 fn digits_read(value: u64, from: usize, at: usize) -> Wide {
     if at <= from {
-        return Wide::Nothing;
+        return Wide {
+            value: 0,
+            end: NOWHERE,
+        };
     }
     if 4294967295 < value {
-        return Wide::Nothing;
+        return Wide {
+            value: 0,
+            end: NOWHERE,
+        };
     }
-    Wide::Read(value as u32, at)
-}
-
-// The number of 16 bits behind a space at a place.
-pub(crate) fn natural_after(line: &[u8], at: usize) -> Natural {
-    match wide_after(line, at) {
-        Wide::Nothing => Natural::Nothing,
-        Wide::Read(value, next) => {
-            if 65535 < value {
-                return Natural::Nothing;
-            }
-            Natural::Read(value as u16, next)
-        }
+    Wide {
+        value: value as u32,
+        end: at,
     }
 }
 
 // The number of 32 bits behind a space at a place.
 pub(crate) fn wide_after(line: &[u8], at: usize) -> Wide {
-    if line.len() <= at {
-        return Wide::Nothing;
+    if is_at(line, at, b' ') {
+        return wide_at(line, behind(at));
     }
-    if line[at] != b' ' {
-        return Wide::Nothing;
+    Wide {
+        value: 0,
+        end: NOWHERE,
     }
-    wide_at(line, at + 1)
 }
 
-// The number behind a space at a place, with a minus before it where it is below 0.
+// The next place.
+fn behind(at: usize) -> usize {
+    if at < NOWHERE {
+        return at + 1;
+    }
+    NOWHERE
+}
+
+// The number of 16 bits behind a space at a place.
+pub(crate) fn natural_after(line: &[u8], at: usize) -> Natural {
+    let number = wide_after(line, at);
+    if 65535 < number.value {
+        return Natural {
+            value: 0,
+            end: NOWHERE,
+        };
+    }
+    Natural {
+        value: number.value as u16,
+        end: number.end,
+    }
+}
+
+// The number behind a space at a place, with a minus before it where it is below 0; there is no -0.
 fn signed_after(line: &[u8], at: usize) -> Signed {
-    if line.len() <= at {
-        return Signed::Nothing;
+    if is_at(line, behind(at), b'-') {
+        let mirrored = wide_after_minus(line, at);
+        if 0 < mirrored.value {
+            return Signed {
+                value: mirrored.value - 1,
+                below: true,
+                end: mirrored.end,
+            };
+        }
+        return Signed {
+            value: 0,
+            below: true,
+            end: NOWHERE,
+        };
     }
-    if line[at] != b' ' {
-        return Signed::Nothing;
-    }
-    let first = at + 1;
-    if line.len() <= first {
-        return Signed::Nothing;
-    }
-    if line[first] == b'-' {
-        return below_zero(wide_at(line, first + 1));
-    }
-    match wide_at(line, first) {
-        Wide::Nothing => Signed::Nothing,
-        Wide::Read(value, next) => Signed::Positive(value, next),
+    let number = wide_after(line, at);
+    Signed {
+        value: number.value,
+        below: false,
+        end: number.end,
     }
 }
 
-// The number with a minus before it; there is no -0.
-fn below_zero(digits: Wide) -> Signed {
-    match digits {
-        Wide::Nothing => Signed::Nothing,
-        Wide::Read(value, next) => {
-            if value == 0 {
-                return Signed::Nothing;
-            }
-            Signed::Negative(value - 1, next)
-        }
+// The number behind a space at a place and a byte behind it.
+fn wide_after_minus(line: &[u8], at: usize) -> Wide {
+    if is_at(line, at, b' ') {
+        return wide_at(line, behind(behind(at)));
+    }
+    Wide {
+        value: 0,
+        end: NOWHERE,
     }
 }
 
 // The number of 16 signed bits behind a space at a place.
 pub(crate) fn short_after(line: &[u8], at: usize) -> Short {
-    match signed_after(line, at) {
-        Signed::Nothing => Short::Nothing,
-        Signed::Positive(value, next) => {
-            if 32767 < value {
-                return Short::Nothing;
-            }
-            Short::Read(value as i16, next)
-        }
-        Signed::Negative(value, next) => {
-            if 32767 < value {
-                return Short::Nothing;
-            }
-            let mirror = value as i16;
-            Short::Read(-1 - mirror, next)
-        }
+    let number = signed_after(line, at);
+    if 32767 < number.value {
+        return Short {
+            value: 0,
+            end: NOWHERE,
+        };
+    }
+    let value = number.value as i16;
+    if number.below {
+        return Short {
+            value: -1 - value,
+            end: number.end,
+        };
+    }
+    Short {
+        value,
+        end: number.end,
     }
 }
 
 // The number of 32 signed bits behind a space at a place.
 pub(crate) fn long_after(line: &[u8], at: usize) -> Long {
-    match signed_after(line, at) {
-        Signed::Nothing => Long::Nothing,
-        Signed::Positive(value, next) => {
-            if 2147483647 < value {
-                return Long::Nothing;
-            }
-            Long::Read(value as i32, next)
-        }
-        Signed::Negative(value, next) => {
-            if 2147483647 < value {
-                return Long::Nothing;
-            }
-            let mirror = value as i32;
-            Long::Read(-1 - mirror, next)
-        }
+    let number = signed_after(line, at);
+    if 2147483647 < number.value {
+        return Long {
+            value: 0,
+            end: NOWHERE,
+        };
     }
-}
-
-// The numbers of a line behind its name, `count` of them and at most 4.
-pub(crate) fn numbers_after(line: &[u8], from: usize, count: usize) -> Numbers {
-    let mut values: [u16; 4] = [0; 4];
-    let mut at = from;
-    let mut i: usize = 0;
-    while i < 4 {
-        if count <= i {
-            break;
-        }
-        match natural_after(line, at) {
-            Natural::Nothing => {
-                return Numbers {
-                    values,
-                    all: false,
-                    end: at,
-                };
-            }
-            Natural::Read(value, next) => {
-                values[i] = value;
-                at = next;
-                i += 1;
-            }
-        }
+    let value = number.value as i32;
+    if number.below {
+        return Long {
+            value: -1 - value,
+            end: number.end,
+        };
     }
-    Numbers {
-        values,
-        all: true,
-        end: at,
+    Long {
+        value,
+        end: number.end,
     }
 }
 
@@ -261,14 +278,15 @@ pub(crate) fn bytes_after(line: &[u8], from: usize, out: &mut [u8]) -> Listed {
     let mut at = from;
     let mut count: usize = 0;
     while count < out.len() {
-        let Natural::Read(value, next) = natural_after(line, at) else {
-            return Listed { count, end: at };
-        };
-        if 255 < value {
+        let number = natural_after(line, at);
+        if NOWHERE <= number.end {
             return Listed { count, end: at };
         }
-        out[count] = value as u8;
-        at = next;
+        if 255 < number.value {
+            return Listed { count, end: at };
+        }
+        out[count] = number.value as u8;
+        at = number.end;
         count += 1;
     }
     Listed { count, end: at }
@@ -279,11 +297,12 @@ pub(crate) fn codes_after(line: &[u8], from: usize, out: &mut [u16]) -> Listed {
     let mut at = from;
     let mut count: usize = 0;
     while count < out.len() {
-        let Natural::Read(value, next) = natural_after(line, at) else {
+        let number = natural_after(line, at);
+        if NOWHERE <= number.end {
             return Listed { count, end: at };
-        };
-        out[count] = value;
-        at = next;
+        }
+        out[count] = number.value;
+        at = number.end;
         count += 1;
     }
     Listed { count, end: at }

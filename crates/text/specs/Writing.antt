@@ -1,4 +1,5 @@
--- The writer's vocabulary: a text put into a lent slice at a place, and texts joined over a range of keys.
+-- The writer's vocabulary: a text, of bytes or of any other elements, put into a lent slice at a place, and texts joined over a range of
+-- keys.
 use Prim.Native.Nat.{ℕ, zero, suc, _+_, _≤_}
 use mathlib.Core.Path.{_≡_}
 use mathlib.Core.List.{List, [], _++_}
@@ -6,11 +7,11 @@ use lib.ListN.{length}
 use lib.Seq.{sets}
 
 -- `text` has room in `slice` from the place `at` on.
-abbrev pub Room : List ℕ → ℕ → List ℕ → Type 0
+abbrev pub Room : {A : Type 0} → List A → ℕ → List A → Type 0
 Room slice at text = at + length text ≤ length slice
 
 -- `after` is `before` with `text` stored from the place `at` on, and `next` is the place after it.
-pub record Wrote (before : List ℕ) (at : ℕ) (text after : List ℕ) (next : ℕ) : Type 0 where
+pub record Wrote {A : Type 0} (before : List A) (at : ℕ) (text after : List A) (next : ℕ) : Type 0 where
   pub content : after ≡ sets before at text
   pub end : next ≡ at + length text
 

@@ -12,14 +12,14 @@ use borrow.Author.Tests.{leb-true}
 use mir.Syntax.{w16, w32}
 use mir.Val.{SFits, toZ, ofZ}
 use Rattle.answer.specs.Outcome.{Outcome, given, refused, ask, andThen}
-use Rattle.answer.specs.Lent.{heldIn}
+use Rattle.answer.specs.Lent.{heldIn, inRoom}
 use Rattle.answer.proofs.Asked.{given-same, asked-yes, asked-rest, ask-then}
 use Rattle.answer.proofs.Questions.{ask-none, ask-some}
 use Rattle.genchain.specs.Answers.{lettersOutcome, nameOutcome}
 use Rattle.genchain.specs.Chains.{chainOf, rowOf}
 use Rattle.mos_layers.specs.Answers.{layersOutcome}
 use Rattle.mos_layers.specs.Layers.{layersOf}
-use Rattle.layout.specs.Answers.{inRoom, getNoteName}
+use Rattle.layout.specs.Answers.{getNoteName}
 use Rattle.layout.specs.Layouts.{Layout, layoutOutcome, Accepted}
 use Rattle.layout.specs.Names.{nameIn}
 use Rattle.layout.specs.declared.IsomorphicLayout.{IsomorphicLayout}

@@ -4,12 +4,10 @@ use mathlib.Core.Path.{_≡_}
 use mathlib.Core.Bool.{Bool, true, false}
 use mathlib.Core.Option.{Option, none, some}
 use mathlib.Core.List.{List, [], _∷_}
-use lib.IntN.{ℤ}
 use lib.ListN.{length, set}
-use Rattle.answer.specs.Outcome.{Outcome, given, andThen}
+use Rattle.answer.specs.Lent.{heldIn, counted, written}
 use Rattle.mos_fractional.specs.declared.FractionalMos.{FractionalMos}
 use Rattle.mos_fractional.specs.Fractional.{childOf}
-use Rattle.mos_fractional.specs.Answers.{heldIn, counted, written}
 use Rattle.vetchnoon_codes.specs.Codes.{codeOf}
 use Rattle.vetchnoon.specs.declared.fractional.ChildPlan.{ChildPlan}
 
@@ -17,12 +15,6 @@ use Rattle.vetchnoon.specs.declared.fractional.ChildPlan.{ChildPlan}
 abbrev pub childPatterns : Option FractionalMos → List FractionalMos
 childPatterns none = []
 childPatterns (some m) = m ∷ []
-
--- The promise of a call that fills a lent slice of patterns: after its own questions comes question 10; the code is the number of patterns
--- written, or the refusal; "a refusal writes to no buffer".
-pub record FillsPatterns (outcome : Outcome (List FractionalMos)) (code : ℤ) (before after : List FractionalMos) : Type 0 where
-  pub answered : code ≡ codeOf (counted (andThen outcome (heldIn (length before))))
-  pub content : after ≡ written (andThen outcome (heldIn (length before))) before
 
 -- ---- the part behind `vn_fractional_child`
 

@@ -1,5 +1,3 @@
 pub mod Written
-pub mod Board
-pub mod Sheets
 pub mod Examples
 pub mod FractionalPatterns

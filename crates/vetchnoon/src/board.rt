@@ -4,7 +4,6 @@ ghost use Rattle.layout_moves.specs.Answers.{getMoveNumbers};
 ghost use Rattle.layout_order.specs.Answers.{getChainOrder, getKeyOrder};
 ghost use Rattle.mos_moves.specs.Answers.{getWalkMoves};
 ghost use Rattle.vetchnoon_codes.specs.Codes.{Fills};
-ghost use Rattle.vetchnoon.specs.Board.{FillsSigned};
 ghost use Rattle.vetchnoon.specs.Written.{layout};
 
 // The first octave many entries of a list, each at its key's place in the chain (1, 2, 3, 4, 18, 10).
@@ -58,7 +57,7 @@ pub extern "C" fn vn_moves(
     start: u16,
     out: &mut [i32],
 ) -> i64
-    ensures { λ r. ⌜ FillsSigned (getMoveNumbers (layout chain octave tritave start)) r (now (out .entry)) (now (out .exit)) ⌝ }
+    ensures { λ r. ⌜ Fills (getMoveNumbers (layout chain octave tritave start)) r (now (out .entry)) (now (out .exit)) ⌝ }
 {
     let layout = IsomorphicLayout {
         genchain: chain,
@@ -72,7 +71,7 @@ pub extern "C" fn vn_moves(
 // The moves of all patterns of the walk from a genesis, four numbers each (2, 10).
 #[no_mangle]
 pub extern "C" fn vn_walk_moves(period: u16, generator: u16, out: &mut [i32]) -> i64
-    ensures { λ r. ⌜ FillsSigned (getWalkMoves period generator) r (now (out .entry)) (now (out .exit)) ⌝ }
+    ensures { λ r. ⌜ Fills (getWalkMoves period generator) r (now (out .entry)) (now (out .exit)) ⌝ }
 {
     vetchnoon_codes::count(mos_moves::walk_moves(period, generator, out))
 }

@@ -17,7 +17,7 @@ pub extern "C" fn vn_chain_letters(chain: u16, out: &mut [u16]) -> i64
 pub extern "C" fn vn_chain_name(chain: u16, out: &mut [u8]) -> i64
     ensures { λ r. ⌜ Fills (nameOutput chain) r (now (out .entry)) (now (out .exit)) ⌝ }
 {
-    vetchnoon_codes::count(genchain_names::name(chain, out))
+    vetchnoon_codes::count(genchain::name(chain, out))
 }
 
 // The place of key 0's letter among a chain's letters, from 0 (1).

@@ -6,7 +6,8 @@ ghost use Rattle.answer.specs.Outcome.{given};
 ghost use Rattle.mos_fractional.specs.Fractional.{childOf};
 ghost use Rattle.mos_fractional.specs.Walk.{childrenFrom};
 ghost use Rattle.mos_fractional.specs.Answers.{ofGenerator};
-ghost use Rattle.vetchnoon.specs.FractionalPatterns.{childPatterns, FillsPatterns, PlansChild};
+ghost use Rattle.vetchnoon_codes.specs.Codes.{Fills};
+ghost use Rattle.vetchnoon.specs.FractionalPatterns.{childPatterns, PlansChild};
 
 // What is answered for a child, and whether it is stored.
 pub(crate) struct ChildPlan {
@@ -46,7 +47,7 @@ pub(crate) fn plan_child(pattern: FractionalMos, room: usize) -> ChildPlan
 // The child, or nothing (10).
 #[no_mangle]
 pub extern "C" fn vn_fractional_child(pattern: FractionalMos, out: &mut [FractionalMos]) -> i64
-    ensures { λ r. ⌜ FillsPatterns (given (childPatterns (childOf pattern))) r (now (out .entry)) (now (out .exit)) ⌝ }
+    ensures { λ r. ⌜ Fills (given (childPatterns (childOf pattern))) r (now (out .entry)) (now (out .exit)) ⌝ }
 {
     let plan = plan_child(pattern, out.len());
     let stores = plan.stores;
@@ -59,7 +60,7 @@ pub extern "C" fn vn_fractional_child(pattern: FractionalMos, out: &mut [Fractio
 // All patterns of a generator's walk, the genesis first (22, 10).
 #[no_mangle]
 pub extern "C" fn vn_fractional_children(generator: f64, out: &mut [FractionalMos]) -> i64
-    ensures { λ r. ⌜ FillsPatterns (ofGenerator generator (childrenFrom generator)) r (now (out .entry)) (now (out .exit)) ⌝ }
+    ensures { λ r. ⌜ Fills (ofGenerator generator (childrenFrom generator)) r (now (out .entry)) (now (out .exit)) ⌝ }
 {
     vetchnoon_codes::count(mos_fractional::children(generator, out))
 }

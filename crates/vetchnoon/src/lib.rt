@@ -4,8 +4,7 @@
 // `board`, `kbm`, `sheets`, `strips` and `books`, over the library's calls and the parts of `vetchnoon_codes`. A call answers a signed
 // number: a value or the number of elements that it wrote, or minus the number of the question that was answered with no (`codeOf` and
 // `Fills` in the specs of `vetchnoon_codes`).
-// specs/: Written says which numbers a call writes, Board how signed ones are, FractionalPatterns which patterns, Sheets what a list of
-// records then holds, Examples what some calls answer.
+// specs/: Written says which numbers a call writes, FractionalPatterns which patterns, Examples what some calls answer.
 // Every call answers every input. Assumed is what the header asks of a caller: that a slice's pointer and length are good.
 pub mod board;
 pub mod books;

@@ -90,5 +90,5 @@ pub extern "C" fn vn_accidentals(
         num_symbols: symbols,
         genchain_origin: origin,
     };
-    vetchnoon_codes::accidentals(out, pergen_spelling::get_accidentals(pergen, format, key))
+    vetchnoon_codes::accidentals(out, pergen.get_accidentals(format, key))
 }

@@ -11,7 +11,7 @@ use mir.Syntax.{w64}
 use mir.Val.{SFits, toZ, ofZ}
 use mir.ValLaws.{toZ-pos}
 use Rattle.answer.specs.Outcome.{Outcome, given, refused, andThen}
-use Rattle.answer.specs.Lent.{heldIn, counted, written, Filled}
+use Rattle.answer.specs.Lent.{inRoom, counted, written, Filled}
 use Rattle.answer.specs.Refusals.{countOutcome}
 use Rattle.text.specs.Writing.{Wrote}
 use Rattle.answer.specs.declared.CountAnswer.{CountAnswer}
@@ -44,21 +44,17 @@ coded {r} h e = read-back w64 r (record { sfits = h }) ∙ e
 
 -- ---- calls that fill a slice
 
--- question 10, after the questions of the call
-abbrev inRoom : ℕ → Outcome (List ℕ) → Outcome (List ℕ)
-inRoom room o = andThen o (heldIn room)
-
-in-room : {o p whole : Outcome (List ℕ)} (room : ℕ) → p ≡ o → inRoom room p ≡ whole → inRoom room o ≡ whole
+in-room : {A : Type 0} {o p whole : Outcome (List A)} (room : ℕ) → p ≡ o → inRoom room p ≡ whole → inRoom room o ≡ whole
 in-room room e w = sym (ap (inRoom room) e) ∙ w
 
-module _ {o : Outcome (List ℕ)} {z : ℤ} (xs : List ℕ) where
+module _ {A : Type 0} {o : Outcome (List A)} {z : ℤ} (xs : List A) where
   -- by the whole outcome, question 10 included
-  fills-by : (whole : Outcome (List ℕ)) (ys : List ℕ) → inRoom (length xs) o ≡ whole → z ≡ codeOf (counted whole) → ys ≡ written whole xs
+  fills-by : (whole : Outcome (List A)) (ys : List A) → inRoom (length xs) o ≡ whole → z ≡ codeOf (counted whole) → ys ≡ written whole xs
       → Fills o z xs ys
   fills-by whole ys e f g =
       record {
-        answered = f ∙ sym (ap (λ (p : Outcome (List ℕ)). codeOf (counted p)) e);
-        content = g ∙ sym (ap (λ (p : Outcome (List ℕ)). written p xs) e);
+        answered = f ∙ sym (ap (λ (p : Outcome (List A)). codeOf (counted p)) e);
+        content = g ∙ sym (ap (λ (p : Outcome (List A)). written p xs) e);
       }
 
   -- a refusal of the call's own, with the slice untouched
@@ -66,11 +62,11 @@ module _ {o : Outcome (List ℕ)} {z : ℤ} (xs : List ℕ) where
   fills-refused n e f = fills-by (refused n) xs (in-room _ e refl) f refl
 
   -- question 10, with the slice untouched
-  pub fills-short : (output : List ℕ) → given output ≡ o → length xs < length output → z ≡ negℤ (pos 10) → Fills o z xs xs
+  pub fills-short : (output : List A) → given output ≡ o → length xs < length output → z ≡ negℤ (pos 10) → Fills o z xs xs
   fills-short output e h f = fills-by (refused 10) xs (in-room _ e (not-held (length xs) output h)) f refl
 
   -- an output that has room, written from place 0 on
-  pub fills-given : {ys : List ℕ} {next : ℕ} (output : List ℕ) → given output ≡ o → z ≡ pos (length output) → length output ≤ length xs
+  pub fills-given : {ys : List A} {next : ℕ} (output : List A) → given output ≡ o → z ≡ pos (length output) → length output ≤ length xs
       → Wrote xs 0 output ys next → Fills o z xs ys
   fills-given {ys} output e f room w =
       fills-by (given output) ys (in-room _ e (held (length xs) output room)) f (wrote-front room w)
@@ -80,14 +76,15 @@ module _ {o : Outcome (List ℕ)} {z : ℤ} (xs : List ℕ) where
   fills-nothing e f = fills-by (given []) xs (in-room _ e (held (length xs) [] (omega arith))) f refl
 
 -- the library filled it
-pub fills-filled : {o whole : Outcome (List ℕ)} {a : Outcome ℕ} {z : ℤ} {xs ys : List ℕ} → inRoom (length xs) o ≡ whole → Filled whole a xs ys
-    → z ≡ codeOf a → Fills o z xs ys
+pub fills-filled : {A : Type 0} {o whole : Outcome (List A)} {a : Outcome ℕ} {z : ℤ} {xs ys : List A} → inRoom (length xs) o ≡ whole
+    → Filled whole a xs ys → z ≡ codeOf a → Fills o z xs ys
 fills-filled {whole = whole} {xs = xs} {ys = ys} e w f = fills-by xs whole ys e (f ∙ ap codeOf (w .answered)) (w .content)
 
 -- a part filled it, and its outcome is said otherwise
-pub fills-as : {o p : Outcome (List ℕ)} {z : ℤ} {xs ys : List ℕ} → o ≡ p → mag z < 2 ^ 63 → Fills o z xs ys → Fills p (toZ w64 (ofZ w64 z)) xs ys
-fills-as {o} {z = z} {xs = xs} {ys = ys} e h f =
-    subst (λ (q : Outcome (List ℕ)). Fills q (toZ w64 (ofZ w64 z)) xs ys) e
+pub fills-as : {A : Type 0} {o p : Outcome (List A)} {z : ℤ} {xs ys : List A} → o ≡ p → mag z < 2 ^ 63 → Fills o z xs ys
+    → Fills p (toZ w64 (ofZ w64 z)) xs ys
+fills-as {A} {o} {z = z} {xs = xs} {ys = ys} e h f =
+    subst (λ (q : Outcome (List A)). Fills q (toZ w64 (ofZ w64 z)) xs ys) e
     (subst (λ (y : ℤ). Fills o y xs ys) (sym (read-back w64 z (record { sfits = h }))) f)
 
 -- ---- a call that writes one signed number
@@ -121,17 +118,18 @@ module _ {o : Outcome ℤ} {z : ℤ} (xs : List ℤ) where
 -- ---- counts fit
 
 -- what was written fits the slice, and a slice's length fits
-pub small-filled : {o : Outcome (List ℕ)} {xs ys : List ℕ} (a : CountAnswer) → Filled o (countOutcome a) xs ys → length ys < 2 ^ 63 → SmallCount a
-small-filled {o} {xs} {ys} (Count.Given n) f h = by o (f .answered) (f .content)
+pub small-filled : {A : Type 0} {o : Outcome (List A)} {xs ys : List A} (a : CountAnswer) → Filled o (countOutcome a) xs ys
+    → length ys < 2 ^ 63 → SmallCount a
+small-filled {A} {o} {xs} {ys} (Count.Given n) f h = by o (f .answered) (f .content)
   where
-    by : (p : Outcome (List ℕ)) → given n ≡ counted p → ys ≡ written p xs → n < 2 ^ 63
+    by : (p : Outcome (List A)) → given n ≡ counted p → ys ≡ written p xs → n < 2 ^ 63
     by (given text) e w =
         let same : n ≡ length text = cc in omega (arith, same, ap length w, length-append text (drop (length text) xs))
     by (refused k) e w = absurd (let y : _≡_ {A = ℕ} 0 1 = cc in omega arith)
 small-filled (Count.Refused q) f h = tt
 
-pub small-counted : (o : Outcome (List ℕ)) (a : CountAnswer) → countOutcome a ≡ counted o
-    → ((text : List ℕ) → o ≡ given text → length text < 2 ^ 63) → SmallCount a
+pub small-counted : {A : Type 0} (o : Outcome (List A)) (a : CountAnswer) → countOutcome a ≡ counted o
+    → ((text : List A) → o ≡ given text → length text < 2 ^ 63) → SmallCount a
 small-counted (given text) (Count.Given n) e h =
     let same : n ≡ length text = cc in subst (λ (k : ℕ). k < 2 ^ 63) (sym same) (h text refl)
 small-counted (refused k) (Count.Given n) e h = absurd (let y : _≡_ {A = ℕ} 0 1 = cc in omega arith)

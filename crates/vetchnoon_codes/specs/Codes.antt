@@ -6,7 +6,7 @@ use lib.Dec.{leb}
 use lib.IntN.{ℤ, pos, negℤ}
 use lib.ListN.{length, drop}
 use Rattle.answer.specs.Outcome.{Outcome, given, refused, ask, andThen}
-use Rattle.answer.specs.Lent.{heldIn, counted, written}
+use Rattle.answer.specs.Lent.{inRoom, counted, written}
 use Rattle.answer.specs.declared.CountAnswer.{CountAnswer}
 use Rattle.answer.specs.declared.CountAnswer.the-variants as Count
 
@@ -15,11 +15,11 @@ abbrev pub codeOf : Outcome ℕ → ℤ
 codeOf (given n) = pos n
 codeOf (refused n) = negℤ (pos n)
 
--- The promise of a call that fills a lent slice: after its own questions comes question 10, "Does the output slice hold the whole
--- output?"; the code is the number of elements written, or the refusal; "a refusal writes to no buffer".
-pub record Fills (outcome : Outcome (List ℕ)) (code : ℤ) (before after : List ℕ) : Type 0 where
-  pub answered : code ≡ codeOf (counted (andThen outcome (heldIn (length before))))
-  pub content : after ≡ written (andThen outcome (heldIn (length before))) before
+-- The promise of a call that fills a lent slice, whatever its elements are: after its own questions comes question 10, "Does the output
+-- slice hold the whole output?"; the code is the number of elements written, or the refusal; "a refusal writes to no buffer".
+pub record Fills {A : Type 0} (outcome : Outcome (List A)) (code : ℤ) (before after : List A) : Type 0 where
+  pub answered : code ≡ codeOf (counted (inRoom (length before) outcome))
+  pub content : after ≡ written (inRoom (length before) outcome) before
 
 -- ---- the same of a call that writes one signed number
 

@@ -4,7 +4,8 @@ use borrow.Author.Needs.{needs}
 use Rattle.mos.specs.Patterns.{stepsOf}
 use Rattle.mos.proofs.Descent.{child-at, child-falls}
 use Rattle.mos_moves.proofs.Going.{going-pattern, going-small}
-use Rattle.mos_moves.proofs.Listing.{stored-length, Listing, listing-start, listing-room, listing-more, listing-end}
+use Rattle.text.proofs.Writing.{wrote-length}
+use Rattle.mos_moves.proofs.Listing.{Listing, listing-start, listing-room, listing-more, listing-end}
 use Rattle.mos_moves.proofs.parts.list_moves.Statement.{statement}
 use Rattle.mos_moves.proofs.parts.list_moves.Tie as tie
 
@@ -62,7 +63,7 @@ put-moves-requires-2 c κs =
     )
 
 same-length : tie.Need-same-length Inv-loop μ-loop
-same-length c = stored-length (c .before .put-moves2 .ensures) ∙ stored-length (c .before .before .before .before .before .loop .inv .stored)
+same-length c = wrote-length (c .before .put-moves2 .ensures) ∙ wrote-length (c .before .before .before .before .before .loop .inv .stored)
 
 returns : tie.Need-returns Inv-loop μ-loop
 returns c =

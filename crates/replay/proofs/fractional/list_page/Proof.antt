@@ -51,12 +51,13 @@ use denote.Triple.Table.{entered, cited}
 use denote.Triple.Walked.{says, Stays, stay-none, walkOf, AllGo, goes-none, Walks, ends-at, walked, walk-meets}
 use denote.Triple.Clauses.{ensured, lasts}
 use denote.Exit.{yes}
+use Rattle.answer.specs.Lent.{Filled}
 use Rattle.answer.specs.Refusals.{countOutcome}
 use Rattle.answer.specs.declared.CountAnswer.{CountAnswer}
 use Rattle.answer.proofs.CountAnswer as N
 use Rattle.answer.proofs.CountAnswer.Laws as N′
 use Rattle.mos_fractional.specs.declared.FractionalMos.{FractionalMos}
-use Rattle.mos_fractional.specs.Answers.{listingOutcome, Listed}
+use Rattle.mos_fractional.specs.Answers.{listingOutcome}
 use Rattle.mos_fractional.proofs.FractionalMos as T
 use Rattle.mos_fractional.proofs.FractionalMos.Laws as T′
 use Rattle.mos_fractional.proofs.children as list
@@ -118,7 +119,7 @@ module _ {M : Type 1} (𝓤 : URA M) (H : Heap 𝓤) (A : Atoms 𝓤) (W : Given
 
   -- what the contract says of an answer and the patterns after it
   abbrev Says : CountAnswer → List FractionalMos → Type 0
-  Says r zs = Listed (listingOutcome gen (length xs)) (countOutcome r) xs zs
+  Says r zs = Filled (listingOutcome gen (length xs)) (countOutcome r) xs zs
 
   eight : length xs ≡ 8
   eight = is .1 .0 .1

@@ -11,8 +11,8 @@ list-room-requires c κs = search needs
 cast-end : tie.Need-cast-end
 cast-end c = search needs
 
-layout-of-requires : tie.Need-layout-of-requires
-layout-of-requires c κs = search needs
+with-start-requires : tie.Need-with-start-requires
+with-start-requires c κs = search needs
 
 array-borrow-prefix-out : tie.Need-array-borrow-prefix-out
 array-borrow-prefix-out c = search needs
@@ -32,7 +32,7 @@ read-into-spec =
     (tie.spec
     list-room-requires
     cast-end
-    layout-of-requires
+    with-start-requires
     array-borrow-prefix-out
     slice-aggregate-put-keys
     put-keys-requires

@@ -48,6 +48,7 @@ use denote.Triple.Table.{entered, cited}
 use denote.Triple.Walked.{says, Stays, stay-none, walkOf, AllGo, goes-none, Walks, ends-at, walked, walk-meets}
 use denote.Triple.Clauses.{ensured, lasts}
 use denote.Exit.{yes}
+use Rattle.answer.specs.Lent.{Filled}
 use Rattle.answer.specs.Refusals.{countOutcome}
 use Rattle.answer.specs.declared.CountAnswer.{CountAnswer}
 use Rattle.answer.proofs.CountAnswer as N
@@ -56,7 +57,7 @@ use Rattle.layout.specs.declared.IsomorphicLayout.{IsomorphicLayout}
 use Rattle.layout.proofs.IsomorphicLayout as Q
 use Rattle.layout.proofs.IsomorphicLayout.Laws as Q′
 use Rattle.layout_sheet.specs.declared.Record.{Record}
-use Rattle.layout_sheet.specs.Answers.{getSheet, SheetFilled}
+use Rattle.layout_sheet.specs.Answers.{getSheet}
 use Rattle.layout_sheet.proofs.Record as T
 use Rattle.layout_sheet.proofs.Record.Laws as T′
 use Rattle.layout_sheet.proofs.fill_sheet as fill
@@ -121,7 +122,7 @@ module _ {M : Type 1} (𝓤 : URA M) (H : Heap 𝓤) (A : Atoms 𝓤) (W : Given
 
   -- what the contract says of an answer and the records after it
   abbrev Says : CountAnswer → List Record → Type 0
-  Says r zs = SheetFilled (getSheet rq xs) (countOutcome r) xs zs
+  Says r zs = Filled (getSheet rq xs) (countOutcome r) xs zs
 
   four : length xs ≡ 4
   four = is .1 .0 .1

@@ -29,6 +29,9 @@ digits-read-requires-2 c κs = search needs
 returns-2 : tie.Need-returns-2 Inv-loop μ-loop
 returns-2 c = search needs
 
+digits-read-requires-3 : tie.Need-digits-read-requires-3 Inv-loop μ-loop
+digits-read-requires-3 c κs = search needs
+
 returns-3 : tie.Need-returns-3 Inv-loop μ-loop
 returns-3 c = search needs
 
@@ -50,8 +53,8 @@ loop-less c = search needs
 loop-again : tie.Need-loop-again Inv-loop μ-loop
 loop-again c = search needs
 
-digits-read-requires-3 : tie.Need-digits-read-requires-3 Inv-loop μ-loop
-digits-read-requires-3 c κs = search needs
+digits-read-requires-4 : tie.Need-digits-read-requires-4 Inv-loop μ-loop
+digits-read-requires-4 c κs = search needs
 
 returns-4 : tie.Need-returns-4 Inv-loop μ-loop
 returns-4 c = search needs
@@ -68,6 +71,7 @@ wide-at-spec =
     returns
     digits-read-requires-2
     returns-2
+    digits-read-requires-3
     returns-3
     mul-value
     cast-value
@@ -75,5 +79,5 @@ wide-at-spec =
     add-at
     loop-less
     loop-again
-    digits-read-requires-3
+    digits-read-requires-4
     returns-4)

@@ -42,25 +42,26 @@ use denote.Triple.Clauses.{ensured, lasts}
 use denote.Triple.Table.{entered, cited}
 use denote.Triple.Walked.{says, Stays, stay-none, gave-slice, walkOf, AllGo, goes-none, goes-gave-slice, Walks, ends-at, walked, walk-meets}
 use denote.Exit.{yes}
+use Rattle.answer.specs.Lent.{Filled}
 use Rattle.answer.specs.Refusals.{countOutcome}
 use Rattle.answer.specs.declared.CountAnswer.{CountAnswer}
 use Rattle.answer.proofs.CountAnswer as N
 use Rattle.answer.proofs.CountAnswer.Laws as N′
 use Rattle.mos_fractional.specs.declared.FractionalMos.{FractionalMos}
 use Rattle.mos_fractional.specs.Walk.{childrenFrom}
-use Rattle.mos_fractional.specs.Answers.{ofGenerator, listingOutcome, Listed}
+use Rattle.mos_fractional.specs.Answers.{ofGenerator, listingOutcome}
 use Rattle.mos_fractional.proofs.FractionalMos as T
 use Rattle.mos_fractional.proofs.children as list
 use Rattle.mos_fractional.proofs.children.Symbol as list-def
 use Rattle.mos_fractional.proofs.children.Symbol.{name as #mos-fractional·children}
 use Rattle.mos_fractional.proofs.children.Met as list-thm
-use Rattle.vetchnoon_codes.specs.Codes.{codeOf, SmallCount}
+use Rattle.vetchnoon_codes.specs.Codes.{codeOf, Fills, SmallCount}
+use Rattle.vetchnoon_codes.proofs.Coding.{fills-filled, small-filled}
 use Rattle.vetchnoon_codes.proofs.count as count
 use Rattle.vetchnoon_codes.proofs.count.Symbol as count-def
 use Rattle.vetchnoon_codes.proofs.count.Symbol.{name as #vetchnoon-codes·count}
 use Rattle.vetchnoon_codes.proofs.count.Met as count-thm
-use Rattle.vetchnoon.specs.FractionalPatterns.{FillsPatterns}
-use Rattle.vetchnoon.proofs.FractionalCalls.{small-listed, fills-listed}
+use Rattle.vetchnoon.proofs.FractionalCalls.{patterns-in-room}
 use Rattle.vetchnoon.proofs.fractional.vn_fractional_children.Key.{name as #vetchnoon·fractional·vn-fractional-children}
 use Rattle.vetchnoon.proofs.fractional.vn_fractional_children as f
 use Rattle.vetchnoon.proofs.fractional.vn_fractional_children.Statement as stated
@@ -104,7 +105,7 @@ module _ {M : Type 1} (𝓤 : URA M) (H : Heap 𝓤) (A : Atoms 𝓤) (W : Given
   Post = walkOf 𝓤 H A f.ended stayed (f.clauses 𝓤 H A mem run) .post (((κ, tt), (q, tt), tt, a, vals), tt)
 
   abbrev Filled-by : CountAnswer → List FractionalMos → Type 0
-  Filled-by r zs = Listed (listingOutcome gen (length xs)) (countOutcome r) xs zs
+  Filled-by r zs = Filled (listingOutcome gen (length xs)) (countOutcome r) xs zs
 
   -- what each callee's triple binds outside, and that the caller has what it asks
   abbrev to-list : List-all 𝓤 H A mem run .Ghost
@@ -131,9 +132,9 @@ module _ {M : Type 1} (𝓤 : URA M) (H : Heap 𝓤) (A : Atoms 𝓤) (W : Given
   small : (c : CountAnswer) (zs : List FractionalMos) → Filled-by c zs → length zs ≡ length xs → SmallCount c
   small c zs e l =
       let bytes : length xs * 24 < 2 ^ 63 = room .1 in
-      small-listed c e (omega (arith, bytes, l))
+      small-filled c e (omega (arith, bytes, l))
 
-  exits : (z : ℤ) (w : Val) (zs : List FractionalMos) → FillsPatterns (ofGenerator gen (childrenFrom gen)) z xs zs → length zs ≡ length xs
+  exits : (z : ℤ) (w : Val) (zs : List FractionalMos) → Fills (ofGenerator gen (childrenFrom gen)) z xs zs → length zs ≡ length xs
       → ent 𝓤
       (sep 𝓤 (sep 𝓤 (A .lft κ q) (sem 𝓤 H A ftrue)) (sep 𝓤 (sem 𝓤 H A (finally T.the-row γ zs)) (sem 𝓤 H A (i64 .own z (w ∷ [])))))
       (Post w)
@@ -209,7 +210,7 @@ module _ {M : Type 1} (𝓤 : URA M) (H : Heap 𝓤) (A : Atoms 𝓤) (W : Given
         move ! (14 ∷ 15 ∷ []) $ free1 ! $ move ! (12 ∷ 13 ∷ []) $ free1 ! $ move ! (10 ∷ 11 ∷ []) $ free1 ! $ move ! (8 ∷ 9 ∷ []) $
         free1 ! $
         move ! (6 ∷ 7 ∷ []) $ free1 ! $ move ! (4 ∷ 5 ∷ []) $ free1 ! $ free0 ! $
-        keep ! (1 ∷ 2 ∷ 0 ∷ []) $ by ! (exits z w (ws .1 .0) (fills-listed gen r e coded) l)))))))))))))))))
+        keep ! (1 ∷ 2 ∷ 0 ∷ []) $ by ! (exits z w (ws .1 .0) (fills-filled (patterns-in-room (length xs) gen) e coded) l)))))))))))))))))
       where
         spelled : (r : CountAnswer) (v : Val) → Is N.the-row r (v ∷ []) → Is N.the-row r (N-val r ∷ [])
         spelled r v was = subst (Is N.the-row r) (EL.tells N.the-type N′.the-laws r _ was) was

@@ -4,7 +4,8 @@ use lib.IntN.{ℤ}
 use lib.ListN.{length}
 use denote.Ref.{now}
 use native.Mathlib.Omega.{arith}
-use Rattle.layout.specs.Answers.{inRoom, getNoteName}
+use Rattle.answer.specs.Lent.{inRoom}
+use Rattle.layout.specs.Answers.{getNoteName}
 use Rattle.vetchnoon.specs.Written.{layout}
 use Rattle.vetchnoon.proofs.Outputs.{key-handed-on}
 use Rattle.vetchnoon_codes.proofs.Coding.{coded, fills-filled, small-filled}

@@ -4,7 +4,7 @@ use lib.IntN.{ℤ}
 use lib.ListN.{length}
 use denote.Ref.{now}
 use native.Mathlib.Omega.{arith}
-use Rattle.layout.specs.Answers.{inRoom}
+use Rattle.answer.specs.Lent.{inRoom}
 use Rattle.layout_reach.specs.Answers.{getReach}
 use Rattle.vetchnoon.specs.Written.{layout}
 use Rattle.vetchnoon.proofs.Outputs.{key-handed-on}

@@ -42,6 +42,7 @@ use denote.Triple.Clauses.{ensured, lasts}
 use denote.Triple.Table.{entered, cited}
 use denote.Triple.Walked.{says, Stays, stay-none, gave-slice, walkOf, AllGo, goes-none, goes-gave-slice, Walks, ends-at, walked, walk-meets}
 use denote.Exit.{yes}
+use Rattle.answer.specs.Lent.{Filled}
 use Rattle.answer.specs.Refusals.{countOutcome}
 use Rattle.answer.specs.declared.CountAnswer.{CountAnswer}
 use Rattle.answer.proofs.CountAnswer as N
@@ -50,20 +51,20 @@ use Rattle.layout.specs.declared.IsomorphicLayout.{IsomorphicLayout}
 use Rattle.layout.proofs.IsomorphicLayout as Q
 use Rattle.layout.proofs.IsomorphicLayout.Laws as Q′
 use Rattle.layout_sheet.specs.declared.Record.{Record}
-use Rattle.layout_sheet.specs.Answers.{getSheet, SheetFilled}
+use Rattle.layout_sheet.specs.Answers.{getSheet}
+use Rattle.layout_sheet.proofs.Calls.{sheet-has-room}
 use Rattle.layout_sheet.proofs.Record as T
 use Rattle.layout_sheet.proofs.fill_sheet as fill
 use Rattle.layout_sheet.proofs.fill_sheet.Symbol as fill-def
 use Rattle.layout_sheet.proofs.fill_sheet.Symbol.{name as #layout-sheet·fill-sheet}
 use Rattle.layout_sheet.proofs.fill_sheet.Met as fill-thm
-use Rattle.vetchnoon_codes.specs.Codes.{codeOf, SmallCount}
+use Rattle.vetchnoon_codes.specs.Codes.{codeOf, Fills, SmallCount}
+use Rattle.vetchnoon_codes.proofs.Coding.{fills-filled, small-filled}
 use Rattle.vetchnoon_codes.proofs.count as count
 use Rattle.vetchnoon_codes.proofs.count.Symbol as count-def
 use Rattle.vetchnoon_codes.proofs.count.Symbol.{name as #vetchnoon-codes·count}
 use Rattle.vetchnoon_codes.proofs.count.Met as count-thm
 use Rattle.vetchnoon.specs.Written.{layout}
-use Rattle.vetchnoon.specs.Sheets.{FillsSheet}
-use Rattle.vetchnoon.proofs.SheetCodes.{small-sheet, fills-sheet}
 use Rattle.vetchnoon.proofs.sheets.vn_sheet.Key.{name as #vetchnoon·sheets·vn-sheet}
 use Rattle.vetchnoon.proofs.sheets.vn_sheet as f
 use Rattle.vetchnoon.proofs.sheets.vn_sheet.Statement as stated
@@ -151,12 +152,12 @@ module _ {M : Type 1} (𝓤 : URA M) (H : Heap 𝓤) (A : Atoms 𝓤) (W : Given
       nothing ! $ join ! $ done !
 
   -- the records' bytes are in memory, so there are few
-  small : (c : CountAnswer) (zs : List Record) → SheetFilled (getSheet rq xs) (countOutcome c) xs zs → length zs ≡ length xs → SmallCount c
+  small : (c : CountAnswer) (zs : List Record) → Filled (getSheet rq xs) (countOutcome c) xs zs → length zs ≡ length xs → SmallCount c
   small c zs e l =
       let bytes : length xs * 16 < 2 ^ 63 = room .1 in
-      small-sheet (getSheet rq xs) c e (omega (arith, bytes, l))
+      small-filled c e (omega (arith, bytes, l))
 
-  exits : (z : ℤ) (w : Val) (zs : List Record) → FillsSheet (getSheet rq xs) z xs zs → length zs ≡ length xs
+  exits : (z : ℤ) (w : Val) (zs : List Record) → Fills (getSheet rq xs) z xs zs → length zs ≡ length xs
       → ent 𝓤
       (sep 𝓤 (sep 𝓤 (A .lft κ q) (sem 𝓤 H A ftrue)) (sep 𝓤 (sem 𝓤 H A (finally T.the-row γ zs)) (sem 𝓤 H A (i64 .own z (w ∷ [])))))
       (Post w)
@@ -216,8 +217,8 @@ module _ {M : Type 1} (𝓤 : URA M) (H : Heap 𝓤) (A : Atoms 𝓤) (W : Given
         use1 W
         (some
         (λ (ws : Unit {0} × (List Record × Unit {0})).
-        ‵ (lasts fill.ended (κ, tt) (rq, (x, tt)) ws) ⊛ raw (fact 𝓤 (SheetFilled (getSheet rq xs) (countOutcome r) xs (ws .1 .0))))) (id⊢ 𝓤 _) $
-        pick ! (λ ws. split ! $ move ! (1 ∷ []) $ heard ! (SheetFilled (getSheet rq xs) (countOutcome r) xs (ws .1 .0)) (λ e.
+        ‵ (lasts fill.ended (κ, tt) (rq, (x, tt)) ws) ⊛ raw (fact 𝓤 (Filled (getSheet rq xs) (countOutcome r) xs (ws .1 .0))))) (id⊢ 𝓤 _) $
+        pick ! (λ ws. split ! $ move ! (1 ∷ []) $ heard ! (Filled (getSheet rq xs) (countOutcome r) xs (ws .1 .0)) (λ e.
         fsplit ! $ drop ! $ fsplit ! $ fsplit ! $ move ! (1 ∷ []) $ feqL ! (λ l.
         -- [the last list; true; the token and the result; …]
         move ! (2 ∷ []) $ split ! $ move ! (1 ∷ []) $ facts ! N.the-row (Is N.the-row) (shows 𝓤 H A N.the-row) r (v ∷ []) (λ was.
@@ -242,7 +243,7 @@ module _ {M : Type 1} (𝓤 : URA M) (H : Heap 𝓤) (A : Atoms 𝓤) (W : Given
         move ! (22 ∷ 23 ∷ []) $ free1 ! $ move ! (20 ∷ 21 ∷ []) $ free1 ! $ move ! (18 ∷ 19 ∷ []) $ free1 ! $ move ! (16 ∷ 17 ∷ []) $ free1 ! $
         move ! (14 ∷ 15 ∷ []) $ free1 ! $ move ! (12 ∷ 13 ∷ []) $ free1 ! $ move ! (10 ∷ 11 ∷ []) $ free1 ! $ move ! (8 ∷ 9 ∷ []) $ free1 ! $
         move ! (6 ∷ 7 ∷ []) $ free1 ! $ move ! (4 ∷ 5 ∷ []) $ free1 ! $ free0 ! $
-        keep ! (1 ∷ 2 ∷ 0 ∷ []) $ by ! (exits z w (ws .1 .0) (fills-sheet e coded) l)))))))))))))))))))))
+        keep ! (1 ∷ 2 ∷ 0 ∷ []) $ by ! (exits z w (ws .1 .0) (fills-filled (sheet-has-room rq xs) e coded) l)))))))))))))))))))))
       where
         spelled : (r : CountAnswer) (v : Val) → Is N.the-row r (v ∷ []) → Is N.the-row r (N-val r ∷ [])
         spelled r v was = subst (Is N.the-row r) (EL.tells N.the-type N′.the-laws r _ was) was

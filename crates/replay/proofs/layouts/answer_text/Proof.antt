@@ -1,0 +1,35 @@
+-- The part that is lent is as long as the room.
+use mathlib.Core.Path.{sym}
+use lib.Seq.{length-take-le}
+use borrow.Author.Needs.{needs}
+use Rattle.replay.proofs.layouts.answer_text.Statement.{statement}
+use Rattle.replay.proofs.layouts.answer_text.Tie as tie
+
+large-buffer-requires : tie.Need-large-buffer-requires
+large-buffer-requires c κs = search needs
+
+cast-end : tie.Need-cast-end
+cast-end c = search needs
+
+array-borrow-prefix-out : tie.Need-array-borrow-prefix-out
+array-borrow-prefix-out c = search needs
+
+slice-aggregate-put-text : tie.Need-slice-aggregate-put-text
+slice-aggregate-put-text c = sym (length-take-le _ _ (search needs))
+
+put-text-requires : tie.Need-put-text-requires
+put-text-requires c κs = search needs
+
+returns : tie.Need-returns
+returns c = search needs
+
+pub answer-text-spec : {M : Type 1} → statement M
+answer-text-spec =
+    tie.close
+    (tie.spec
+    large-buffer-requires
+    cast-end
+    array-borrow-prefix-out
+    slice-aggregate-put-text
+    put-text-requires
+    returns)
