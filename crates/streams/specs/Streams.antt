@@ -26,6 +26,11 @@ longest = 18
 pub Handed : List ℕ → Output → Type 0
 Handed bytes done = done .handed ≡ length bytes % round
 
+-- What `begin` promises: nothing is handed over, and nothing was not taken.
+pub record Opened (done : Output) : Type 0 where
+  pub none : Handed [] done
+  pub all : done .taken ≡ true
+
 -- What `write` promises: the part was handed over after the parts before it; all is taken only where those were.
 pub record Written (past : Output) (text : List ℕ) (done : Output) : Type 0 where
   pub next : (bytes : List ℕ) → Handed bytes past → Handed (bytes ++ text) done
@@ -37,10 +42,11 @@ pub record Written (past : Output) (text : List ℕ) (done : Output) : Type 0 wh
 pub Taken : List ℕ → Input → ℕ → Type 0
 Taken bytes input count = (input .taken ≡ length bytes % round) × (count ≡ input .taken)
 
--- What `begin` promises: nothing is taken.
+-- What `begin` promises: nothing is taken, and the input is not said to have ended.
 pub record Begun (input : Input) : Type 0 where
   pub none : Taken [] input 0
   pub none-kept : input .kept ≡ 0
+  pub not-ended : input .«at_end» ≡ false
 
 -- What `next_byte` promises: nothing more where the input ended, else one byte more, which is the last.
 pub record Next (past : Input) (before : ℕ) (input : Input) (count : ℕ) : Type 0 where

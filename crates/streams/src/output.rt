@@ -3,10 +3,9 @@
 use libc::STDOUT_FILENO;
 use std::num::wrapping_add_usize;
 ghost use mathlib.Core.Path.{_≡_};
-ghost use mathlib.Core.List.{[]};
 ghost use Prim.Native.Nat.{_≤_};
 ghost use lib.ListN.{length, take};
-ghost use Rattle.streams.specs.Streams.{Handed, Written};
+ghost use Rattle.streams.specs.Streams.{Opened, Written};
 
 // Where writing stands: how many bytes were handed over (modulo 2^64), and whether all of them were taken.
 pub struct Output {
@@ -16,7 +15,7 @@ pub struct Output {
 
 // Before the first part.
 pub fn begin() -> Output
-    ensures { λ r. ⌜ Handed [] r ⌝ }
+    ensures { λ r. ⌜ Opened r ⌝ }
 {
     Output {
         handed: 0,

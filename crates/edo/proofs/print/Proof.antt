@@ -38,7 +38,7 @@ returns c =
     let put = c .before .before .before .before .before in
     let kept = put .before .before .before in
     printed _ _ _ (kept .before .before .pre) (kept .kept .ensures) _ (front _ refl (put .put-output .ensures .0) (put .put-output .ensures .1) .1) _ _
-    (c .before .before .before .begin .ensures) (c .before .write-front .ensures)
+    (c .before .before .before .begin .ensures .none) (c .before .write-front .ensures)
 
 pub print-spec : {M : Type 1} → statement M
 print-spec =

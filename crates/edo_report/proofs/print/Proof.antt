@@ -27,7 +27,7 @@ write-front-requires c κs = omega (arith, report-there refl (c .before .before 
 returns : tie.Need-returns
 returns c =
     subst (λ (text : List ℕ). Handed text (c .write-front .result)) (report-there refl (c .before .before .before .before .put-report .ensures) .1)
-    (c .write-front .ensures .next [] (c .before .before .begin .ensures))
+    (c .write-front .ensures .next [] (c .before .before .begin .ensures .none))
 
 pub print-spec : {M : Type 1} → statement M
 print-spec =

@@ -29,7 +29,7 @@ returns : tie.Need-returns
 returns c =
     let put = c .before .before .before .before in
     let start = put .before .before .before in
-    mapping-printed _ _ _ _ _ (c .before .before .begin .ensures) (c .write-front .ensures) _ (start .pre)
+    mapping-printed _ _ _ _ _ (c .before .before .begin .ensures .none) (c .write-front .ensures) _ (start .pre)
     (put-there (buffer-room _ (start .pre .few)) (put .put-file .ensures) .1)
 
 pub print-mapping-spec : {M : Type 1} → statement M

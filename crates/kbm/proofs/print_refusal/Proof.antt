@@ -36,7 +36,7 @@ returns : tie.Need-returns
 returns c =
     let put = c .before .before .before .before .before in
     let few : put .before .before .before .args .number ≤ 65535 = search needs in
-    refusal-printed _ _ _ _ _ (c .before .before .before .begin .ensures) (c .before .write-front .ensures) _ (put .before .before .before .pre)
+    refusal-printed _ _ _ _ _ (c .before .before .before .begin .ensures .none) (c .before .write-front .ensures) _ (put .before .before .before .pre)
     (put-there (refusal-room _ few) (put .put-refusal .ensures) .1)
 
 pub print-refusal-spec : {M : Type 1} → statement M

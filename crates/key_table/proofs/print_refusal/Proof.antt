@@ -37,7 +37,7 @@ returns c =
     let put = c .before .before .before .before .before in
     let few : put .before .before .before .args .number ≤ 65535 = search needs in
     refusal-printed _ _ _ (put .before .before .before .pre) _ (put-there (refusal-room _ few) (put .put-refusal .ensures) .1) _ _
-    (c .before .before .before .begin .ensures) (c .before .write-front .ensures)
+    (c .before .before .before .begin .ensures .none) (c .before .write-front .ensures)
 
 pub print-refusal-spec : {M : Type 1} → statement M
 print-refusal-spec =

@@ -24,7 +24,7 @@ begin-requires : tie.Need-begin-requires Inv-loop μ-loop
 begin-requires c κs = search needs
 
 loop-holds : tie.Need-loop-holds Inv-loop μ-loop
-loop-holds c = (lines-start _ _ (c .begin .ensures), omega arith, refl)
+loop-holds c = (lines-start _ _ (c .begin .ensures .none), omega arith, refl)
 
 sub-at-once : tie.Need-sub-at-once Inv-loop μ-loop
 sub-at-once c = search needs

@@ -36,7 +36,7 @@ returns : tie.Need-returns
 returns c =
     let put = c .before .before .before .before .before in
     let few : put .before .before .args .number ≤ 65535 = search needs in
-    written-first (c .before .before .before .begin .ensures)
+    written-first (c .before .before .before .begin .ensures .none)
     (written-as (put-there (refusal-room _ few) (put .put-refusal .ensures) .1) (c .before .write-front .ensures))
 
 pub print-refusal-spec : {M : Type 1} → statement M

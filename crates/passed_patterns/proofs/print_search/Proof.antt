@@ -27,7 +27,7 @@ unfolding shown
 returns c =
     let start = c .before .before .before .before in
     let lines = patternLines (passed (start .args .n) (children (start .args .genesis))) in
-    written-first (c .before .before .before .begin .ensures)
+    written-first (c .before .before .before .begin .ensures .none)
     (written-as (ap (λ (o : Option Mos). lines ++ answerLine o) (c .before .first-with .ensures))
     (written-then (c .before .before .print-patterns .ensures) (c .print-answer .ensures)))
 

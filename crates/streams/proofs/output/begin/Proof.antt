@@ -5,7 +5,7 @@ use Rattle.streams.proofs.output.begin.Statement.{statement}
 use Rattle.streams.proofs.output.begin.Tie as tie
 
 returns : tie.Need-returns
-returns c = handed-none _ refl
+returns c = record { none = handed-none _ refl; all = refl }
 
 pub begin-spec : {M : Type 1} → statement M
 begin-spec = tie.close (tie.spec returns)
