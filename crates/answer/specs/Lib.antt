@@ -1,4 +1,5 @@
 pub mod Choice
+pub mod Tests
 pub mod Outcome
 pub mod Refusals
 pub mod Lent

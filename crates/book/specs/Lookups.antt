@@ -35,13 +35,13 @@ unfolding findOutcome
 namePart book key = partAt (findOutcome (book .bytes) key) book
 
 -- The number beside the part: 0 where a name is found, else that of the question.
-abbrev pub numberAt : Outcome Place → ℕ
-numberAt (given place) = 0
-numberAt (refused n) = n
+abbrev pub refusalNumber : Outcome Place → ℕ
+refusalNumber (given place) = 0
+refusalNumber (refused n) = n
 
 unfoldable pub nameRefusal : List ℕ → ℤ → ℕ
 unfolding findOutcome
-nameRefusal book key = numberAt (findOutcome book key)
+nameRefusal book key = refusalNumber (findOutcome book key)
 
 -- Where that part starts and ends in the book, and the number beside it: what a lookup puts together.
 abbrev pub extentAt : Outcome Place → Extent

@@ -12,34 +12,34 @@ use Rattle.answer.specs.Outcome.{Outcome, given, refused}
 use Rattle.mos.specs.declared.Mos.{Mos}
 use Rattle.mos.specs.Patterns.{primary, secondary}
 use Rattle.edo_layouts.specs.declared.EdoLayout.{EdoLayout}
-use Rattle.edo_layouts.specs.Layouts.{chainOutcome, listed, gathered, layoutsOf, one}
+use Rattle.edo_layouts.specs.Layouts.{chainOutcome, givenOf, gathered, layoutsOf, one}
 use Rattle.edo_layouts.proofs.Serving.{chain-is}
 use Rattle.edo_counts.specs.declared.parts.Tally.{Tally}
-use Rattle.edo_counts.specs.Counts.{allLayouts, countOf, isAbove, isBelow, isEqual, ofChain, tallyOf}
+use Rattle.edo_counts.specs.Counts.{allLayouts, countPassing, isAbove, isBelow, isEqual, ofChain, tallyOf}
 use Rattle.edo_counts.specs.Parts.{plus, side, Small}
 
 -- ---- counts of lists
 
-pub count-append : (p : EdoLayout → Bool) (xs ys : List EdoLayout) → countOf p (xs ++ ys) ≡ countOf p xs + countOf p ys
-unfolding countOf
-count-append p [] ys = sym (zero-add (countOf p ys))
+pub count-append : (p : EdoLayout → Bool) (xs ys : List EdoLayout) → countPassing p (xs ++ ys) ≡ countPassing p xs + countPassing p ys
+unfolding countPassing
+count-append p [] ys = sym (zero-add (countPassing p ys))
 count-append p (x ∷ xs) ys = omega (arith, count-append p xs ys)
 
-pub count-none : (p : EdoLayout → Bool) → countOf p [] ≡ 0
-unfolding countOf
+pub count-none : (p : EdoLayout → Bool) → countPassing p [] ≡ 0
+unfolding countPassing
 count-none p = refl
 
-count-one : (p : EdoLayout → Bool) (c : EdoLayout) → countOf p (c ∷ []) ≡ one (p c)
-unfolding countOf
+count-one : (p : EdoLayout → Bool) (c : EdoLayout) → countPassing p (c ∷ []) ≡ one (p c)
+unfolding countPassing
 count-one p c = add-zero (one (p c))
 
 one-small : (b : Bool) → one b ≤ 1
 one-small true = omega arith
 one-small false = omega arith
 
-pub count-listed : (p : EdoLayout → Bool) (o : Outcome EdoLayout) → countOf p (listed o) ≤ 1
-count-listed p (given c) = omega (arith, count-one p c, one-small (p c))
-count-listed p (refused q) = omega (arith, count-none p)
+pub count-given : (p : EdoLayout → Bool) (o : Outcome EdoLayout) → countPassing p (givenOf o) ≤ 1
+count-given p (given c) = omega (arith, count-one p c, one-small (p c))
+count-given p (refused q) = omega (arith, count-none p)
 
 -- ---- of what is gathered, one list counts
 
@@ -51,47 +51,47 @@ pub gathered-none : (f : ℕ → List EdoLayout) → gathered f 0 ≡ []
 unfolding gathered
 gathered-none f = refl
 
-module _ (p : EdoLayout → Bool) (f : ℕ → List EdoLayout) (code : ℕ) (others : (k : ℕ) → (k ≡ code → ⊥) → countOf p (f k) ≡ 0) where
-  before-it : (m : ℕ) → m ≤ code → countOf p (gathered f m) ≡ 0
-  before-it zero h = ap (countOf p) (gathered-none f) ∙ count-none p
+module _ (p : EdoLayout → Bool) (f : ℕ → List EdoLayout) (code : ℕ) (others : (k : ℕ) → (k ≡ code → ⊥) → countPassing p (f k) ≡ 0) where
+  before-it : (m : ℕ) → m ≤ code → countPassing p (gathered f m) ≡ 0
+  before-it zero h = ap (countPassing p) (gathered-none f) ∙ count-none p
   before-it (suc m) h =
       omega (
         arith,
-        ap (countOf p) (gathered-next f m),
+        ap (countPassing p) (gathered-next f m),
         count-append p (gathered f m) (f m),
         before-it m (omega arith),
         others m (λ e. omega arith),
       )
 
-  split : (m : ℕ) → countOf p (gathered f (suc m)) ≡ countOf p (gathered f m) + countOf p (f m)
-  split m = ap (countOf p) (gathered-next f m) ∙ count-append p (gathered f m) (f m)
+  split : (m : ℕ) → countPassing p (gathered f (suc m)) ≡ countPassing p (gathered f m) + countPassing p (f m)
+  split m = ap (countPassing p) (gathered-next f m) ∙ count-append p (gathered f m) (f m)
 
-  at-or-past : (m : ℕ) → (code ≡ m) ⊎ (code < m) → (code < m → countOf p (gathered f m) ≡ countOf p (f code))
-      → countOf p (gathered f (suc m)) ≡ countOf p (f code)
-  at-or-past m (inl e) past = omega (arith, split m, before-it m (omega arith), ap (λ (k : ℕ). countOf p (f k)) e)
+  at-or-past : (m : ℕ) → (code ≡ m) ⊎ (code < m) → (code < m → countPassing p (gathered f m) ≡ countPassing p (f code))
+      → countPassing p (gathered f (suc m)) ≡ countPassing p (f code)
+  at-or-past m (inl e) past = omega (arith, split m, before-it m (omega arith), ap (λ (k : ℕ). countPassing p (f k)) e)
   at-or-past m (inr l) past = omega (arith, split m, past l, others m (λ e. omega arith))
 
-  pub only-it : (m : ℕ) → code < m → countOf p (gathered f m) ≡ countOf p (f code)
+  pub only-it : (m : ℕ) → code < m → countPassing p (gathered f m) ≡ countPassing p (f code)
   only-it zero h = absurd (let z : ⊥ = omega arith in z)
   only-it (suc m) h = at-or-past m (eq-or-lt-of-le (let z : code ≤ m = omega arith in z)) (λ l. only-it m l)
 
 -- ---- a chain's layouts count for that chain
 
 module _ (n : ℕ) where
-  not-its : (code k : ℕ) (side : Mos → Bool) → (k ≡ code → ⊥) → (o : Outcome EdoLayout) → o ≡ chainOutcome n k → countOf (ofChain code side) (listed o) ≡ 0
+  not-its : (code k : ℕ) (side : Mos → Bool) → (k ≡ code → ⊥) → (o : Outcome EdoLayout) → o ≡ chainOutcome n k → countPassing (ofChain code side) (givenOf o) ≡ 0
   not-its code k side h (refused q) e = count-none (ofChain code side)
   not-its code k side h (given c) e =
       count-one (ofChain code side) c
       ∙ ap (λ (b : Bool). one (b && side (c .pattern))) (ne-eqb (c .layout .genchain) code (λ f. h (sym (chain-is n k c e) ∙ f)))
 
   pub division-counts : (code : ℕ) (side : Mos → Bool) → code < 6
-      → countOf (ofChain code side) (layoutsOf n) ≡ countOf (ofChain code side) (listed (chainOutcome n code))
+      → countPassing (ofChain code side) (layoutsOf n) ≡ countPassing (ofChain code side) (givenOf (chainOutcome n code))
   unfolding layoutsOf
   division-counts code side h =
-      only-it (ofChain code side) (λ (k : ℕ). listed (chainOutcome n k)) code
+      only-it (ofChain code side) (λ (k : ℕ). givenOf (chainOutcome n k)) code
       (λ k e. not-its code k side e (chainOutcome n k) refl) 6 h
 
-  pub its : (code : ℕ) (side : Mos → Bool) (c : EdoLayout) → given c ≡ chainOutcome n code → countOf (ofChain code side) (c ∷ []) ≡ one (side (c .pattern))
+  pub its : (code : ℕ) (side : Mos → Bool) (c : EdoLayout) → given c ≡ chainOutcome n code → countPassing (ofChain code side) (c ∷ []) ≡ one (side (c .pattern))
   its code side c e =
       count-one (ofChain code side) c
       ∙ ap (λ (b : Bool). one (b && side (c .pattern))) (eq-eqb (c .layout .genchain) code (chain-is n code c e))
@@ -110,7 +110,7 @@ same {a} {b} {e} {x} {y} {z} p q r =
 
 module _ (code n : ℕ) where
   abbrev got : Tally
-  got = tallyOf code (listed (chainOutcome n code))
+  got = tallyOf code (givenOf (chainOutcome n code))
 
   -- no layout
   pub counts-none : (past : Tally) (q : ℕ) → refused q ≡ chainOutcome n code → past ≡ plus past got
@@ -121,19 +121,19 @@ module _ (code n : ℕ) where
       (nothing (ofChain code isBelow) (past .below))
       (nothing (ofChain code isEqual) (past .equal))
     where
-      nothing : (p : EdoLayout → Bool) (k : ℕ) → k ≡ k + countOf p (listed (chainOutcome n code))
+      nothing : (p : EdoLayout → Bool) (k : ℕ) → k ≡ k + countPassing p (givenOf (chainOutcome n code))
       nothing p k =
-          omega (arith, ap (λ (o : Outcome EdoLayout). countOf p (listed o)) e, count-none p)
+          omega (arith, ap (λ (o : Outcome EdoLayout). countPassing p (givenOf o)) e, count-none p)
 
   -- one
   pub counts-one : (past r : Tally) (c : EdoLayout) → given c ≡ chainOutcome n code → r ≡ plus past (side (c .pattern)) → r ≡ plus past got
   unfolding tallyOf
   counts-one past r c e q = q ∙ same (seen isAbove (past .above)) (seen isBelow (past .below)) (seen isEqual (past .equal))
     where
-      seen : (test : Mos → Bool) (k : ℕ) → k + one (test (c .pattern)) ≡ k + countOf (ofChain code test) (listed (chainOutcome n code))
+      seen : (test : Mos → Bool) (k : ℕ) → k + one (test (c .pattern)) ≡ k + countPassing (ofChain code test) (givenOf (chainOutcome n code))
       seen test k =
           ap (λ (x : ℕ). k + x)
-          (sym (its n code test c e) ∙ ap (λ (o : Outcome EdoLayout). countOf (ofChain code test) (listed o)) e)
+          (sym (its n code test c e) ∙ ap (λ (o : Outcome EdoLayout). countPassing (ofChain code test) (givenOf o)) e)
 
 -- ---- the three sides
 
@@ -168,11 +168,11 @@ all-more : (before : ℕ) → allLayouts (before + 1) ≡ allLayouts before ++ l
 unfolding allLayouts
 all-more before = ap (gathered (λ (k : ℕ). layoutsOf (k + 1))) (add-one before) ∙ gathered-next (λ (k : ℕ). layoutsOf (k + 1)) before
 
-pub count-more : (p : EdoLayout → Bool) (before : ℕ) → countOf p (allLayouts (before + 1)) ≡ countOf p (allLayouts before) + countOf p (layoutsOf (before + 1))
-count-more p before = ap (countOf p) (all-more before) ∙ count-append p (allLayouts before) (layoutsOf (before + 1))
+pub count-more : (p : EdoLayout → Bool) (before : ℕ) → countPassing p (allLayouts (before + 1)) ≡ countPassing p (allLayouts before) + countPassing p (layoutsOf (before + 1))
+count-more p before = ap (countPassing p) (all-more before) ∙ count-append p (allLayouts before) (layoutsOf (before + 1))
 
-pub count-all-none : (p : EdoLayout → Bool) → countOf p (allLayouts 0) ≡ 0
-count-all-none p = ap (countOf p) all-none ∙ count-none p
+pub count-all-none : (p : EdoLayout → Bool) → countPassing p (allLayouts 0) ≡ 0
+count-all-none p = ap (countPassing p) all-none ∙ count-none p
 
 pub tally-none : (code : ℕ) → none ≡ tallyOf code (allLayouts 0)
 unfolding tallyOf
@@ -185,22 +185,22 @@ tally-none code =
 module _ (code : ℕ) (h : code < 6) where
   -- one division more: its layouts count as the chain's one does
   one-more : (test : Mos → Bool) (before : ℕ)
-      → countOf (ofChain code test) (allLayouts before) + countOf (ofChain code test) (listed (chainOutcome (before + 1) code))
-      ≡ countOf (ofChain code test) (allLayouts (before + 1))
+      → countPassing (ofChain code test) (allLayouts before) + countPassing (ofChain code test) (givenOf (chainOutcome (before + 1) code))
+      ≡ countPassing (ofChain code test) (allLayouts (before + 1))
   one-more test before =
-      ap (λ (k : ℕ). countOf (ofChain code test) (allLayouts before) + k) (sym (division-counts (before + 1) code test h))
+      ap (λ (k : ℕ). countPassing (ofChain code test) (allLayouts before) + k) (sym (division-counts (before + 1) code test h))
       ∙ sym (count-more (ofChain code test) before)
 
   pub tally-more : (before : ℕ) (past r : Tally) → past ≡ tallyOf code (allLayouts before)
-      → r ≡ plus past (tallyOf code (listed (chainOutcome (before + 1) code))) → r ≡ tallyOf code (allLayouts (before + 1))
+      → r ≡ plus past (tallyOf code (givenOf (chainOutcome (before + 1) code))) → r ≡ tallyOf code (allLayouts (before + 1))
   unfolding tallyOf
   tally-more before past r e q =
       q
-      ∙ ap (λ (t : Tally). plus t (tallyOf code (listed (chainOutcome (before + 1) code)))) e
+      ∙ ap (λ (t : Tally). plus t (tallyOf code (givenOf (chainOutcome (before + 1) code)))) e
       ∙ same (one-more isAbove before) (one-more isBelow before) (one-more isEqual before)
 
   -- at most one of each division
-  few : (test : Mos → Bool) (before : ℕ) → countOf (ofChain code test) (allLayouts before) ≤ before
+  few : (test : Mos → Bool) (before : ℕ) → countPassing (ofChain code test) (allLayouts before) ≤ before
   few test zero = omega (arith, count-all-none (ofChain code test))
   few test (suc before) =
       rw (← (add-one before))
@@ -208,7 +208,7 @@ module _ (code : ℕ) (h : code < 6) where
         arith,
         one-more test before,
         few test before,
-        count-listed (ofChain code test) (chainOutcome (before + 1) code),
+        count-given (ofChain code test) (chainOutcome (before + 1) code),
       ))
 
   pub tally-few : (before : ℕ) (t : Tally) → t ≡ tallyOf code (allLayouts before) → (t .above ≤ before) × (t .below ≤ before) × (t .equal ≤ before)

@@ -12,8 +12,8 @@ use Rattle.answer.specs.Outcome.{Outcome, given, refused}
 use Rattle.mos.specs.declared.Mos.{Mos}
 use Rattle.mos.specs.Patterns.{primary, secondary}
 use Rattle.edo_layouts.specs.declared.EdoLayout.{EdoLayout}
-use Rattle.edo_layouts.specs.Layouts.{chainOutcome, listed, gathered, layoutsOf, one, numbersOf, flat}
-use Rattle.edo_counts.specs.Counts.{allLayouts, countOf, isAbove, isBelow, isEqual, ofChain, tallyOf}
+use Rattle.edo_layouts.specs.Layouts.{chainOutcome, givenOf, gathered, layoutsOf, one, numbersOf, joinedOver}
+use Rattle.edo_counts.specs.Counts.{allLayouts, countPassing, isAbove, isBelow, isEqual, ofChain, tallyOf}
 use Rattle.edo_counts.specs.Theorems.{sumOf, whole, EveryLayoutIsCounted}
 use Rattle.edo_counts.proofs.Counting.{count-none, count-more, count-all-none, division-counts, its, gathered-next, gathered-none}
 
@@ -86,41 +86,41 @@ once code c = by (eqb (c .layout .genchain) code)
     by false = refl
 
 -- so the three numbers of a chain are its layouts
-whole-is : (code : ℕ) (xs : List EdoLayout) → whole (tallyOf code xs) ≡ countOf (ofChain code any) xs
-unfolding tallyOf countOf
+whole-is : (code : ℕ) (xs : List EdoLayout) → whole (tallyOf code xs) ≡ countPassing (ofChain code any) xs
+unfolding tallyOf countPassing
 whole-is code [] = refl
 whole-is code (c ∷ xs) = omega (arith, once code c, whole-is code xs)
 
 -- ---- the layouts of a division
 
 module _ (n : ℕ) where
-  one-chain : (code : ℕ) (o : Outcome EdoLayout) → o ≡ chainOutcome n code → countOf (ofChain code any) (listed o) ≡ length (listed o)
+  one-chain : (code : ℕ) (o : Outcome EdoLayout) → o ≡ chainOutcome n code → countPassing (ofChain code any) (givenOf o) ≡ length (givenOf o)
   one-chain code (given c) e = its n code any c e
   one-chain code (refused q) e = count-none (ofChain code any)
 
-  division-sum : sumOf (λ (code : ℕ). countOf (ofChain code any) (layoutsOf n)) 6 ≡ length (layoutsOf n)
+  division-sum : sumOf (λ (code : ℕ). countPassing (ofChain code any) (layoutsOf n)) 6 ≡ length (layoutsOf n)
   unfolding layoutsOf
   division-sum =
-      sum-same (λ (code : ℕ). countOf (ofChain code any) (layoutsOf n)) (λ (code : ℕ). length (listed (chainOutcome n code))) 6
+      sum-same (λ (code : ℕ). countPassing (ofChain code any) (layoutsOf n)) (λ (code : ℕ). length (givenOf (chainOutcome n code))) 6
       (λ code h. division-counts n code any h ∙ one-chain code (chainOutcome n code) refl)
-      ∙ sym (length-gathered (λ (code : ℕ). listed (chainOutcome n code)) 6)
+      ∙ sym (length-gathered (λ (code : ℕ). givenOf (chainOutcome n code)) 6)
 
 -- ---- and of all
 
 abbrev counts : ℕ → ℕ
-counts last = sumOf (λ (code : ℕ). countOf (ofChain code any) (allLayouts last)) 6
+counts last = sumOf (λ (code : ℕ). countPassing (ofChain code any) (allLayouts last)) 6
 
 counts-more : (last : ℕ) → counts (last + 1) ≡ counts last + length (layoutsOf (last + 1))
 counts-more last =
-    sum-same (λ (code : ℕ). countOf (ofChain code any) (allLayouts (last + 1)))
-    (λ (code : ℕ). countOf (ofChain code any) (allLayouts last) + countOf (ofChain code any) (layoutsOf (last + 1))) 6
+    sum-same (λ (code : ℕ). countPassing (ofChain code any) (allLayouts (last + 1)))
+    (λ (code : ℕ). countPassing (ofChain code any) (allLayouts last) + countPassing (ofChain code any) (layoutsOf (last + 1))) 6
     (λ code h. count-more (ofChain code any) last)
-    ∙ sum-add (λ (code : ℕ). countOf (ofChain code any) (allLayouts last)) (λ (code : ℕ). countOf (ofChain code any) (layoutsOf (last + 1))) 6
+    ∙ sum-add (λ (code : ℕ). countPassing (ofChain code any) (allLayouts last)) (λ (code : ℕ). countPassing (ofChain code any) (layoutsOf (last + 1))) 6
     ∙ ap (λ (k : ℕ). counts last + k) (division-sum (last + 1))
 
 all-counted : (last : ℕ) → counts last ≡ sumOf (λ (before : ℕ). length (layoutsOf (before + 1))) last
 all-counted zero =
-    sum-zeros (λ (code : ℕ). countOf (ofChain code any) (allLayouts 0)) 6 (λ code h. count-all-none (ofChain code any))
+    sum-zeros (λ (code : ℕ). countPassing (ofChain code any) (allLayouts 0)) 6 (λ code h. count-all-none (ofChain code any))
     ∙ sym (sum-none (λ (before : ℕ). length (layoutsOf (before + 1))))
 all-counted (suc last) =
     ap counts (sym (add-one last))
@@ -128,16 +128,16 @@ all-counted (suc last) =
     ∙ ap (λ (k : ℕ). k + length (layoutsOf (last + 1))) (all-counted last)
     ∙ sym (sum-next (λ (before : ℕ). length (layoutsOf (before + 1))) last)
 
-three-each : (xs : List EdoLayout) → length (flat numbersOf xs) ≡ 3 * length xs
-unfolding flat
+three-each : (xs : List EdoLayout) → length (joinedOver numbersOf xs) ≡ 3 * length xs
+unfolding joinedOver
 three-each [] = refl
-three-each (c ∷ xs) = omega (arith, length-append (numbersOf c) (flat numbersOf xs), three-each xs)
+three-each (c ∷ xs) = omega (arith, length-append (numbersOf c) (joinedOver numbersOf xs), three-each xs)
 
 pub every-layout-is-counted : (last : ℕ) → EveryLayoutIsCounted last
 every-layout-is-counted last =
     record {
       all =
-          sum-same (λ (code : ℕ). whole (tallyOf code (allLayouts last))) (λ (code : ℕ). countOf (ofChain code any) (allLayouts last)) 6
+          sum-same (λ (code : ℕ). whole (tallyOf code (allLayouts last))) (λ (code : ℕ). countPassing (ofChain code any) (allLayouts last)) 6
           (λ code h. whole-is code (allLayouts last))
           ∙ all-counted last;
       written = λ n. three-each (layoutsOf n);

@@ -23,9 +23,9 @@ allLayouts last = gathered (λ (before : ℕ). layoutsOf (before + 1)) last
 -- ---- "the number of layouts with sharpness above 0, below 0 and at 0"
 
 -- How many of a list pass a test.
-unfoldable pub countOf : (EdoLayout → Bool) → List EdoLayout → ℕ
-countOf test [] = 0
-countOf test (c ∷ rest) = one (test c) + countOf test rest
+unfoldable pub countPassing : (EdoLayout → Bool) → List EdoLayout → ℕ
+countPassing test [] = 0
+countPassing test (c ∷ rest) = one (test c) + countPassing test rest
 
 -- Sharpness is the primary less the secondary step.
 abbrev pub isAbove : Mos → Bool
@@ -43,12 +43,12 @@ ofChain code side c = eqb (c .layout .genchain) code && side (c .pattern)
 
 -- The three numbers of a chain.
 unfoldable pub tallyOf : ℕ → List EdoLayout → Tally
-unfolding countOf
+unfolding countPassing
 tallyOf code list =
     record {
-      above = countOf (ofChain code isAbove) list;
-      below = countOf (ofChain code isBelow) list;
-      equal = countOf (ofChain code isEqual) list;
+      above = countPassing (ofChain code isAbove) list;
+      below = countPassing (ofChain code isBelow) list;
+      equal = countPassing (ofChain code isEqual) list;
     }
 
 -- ---- the lines

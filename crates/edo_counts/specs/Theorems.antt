@@ -7,7 +7,7 @@ use lib.IntN.{pos, negsuc}
 use lib.ListN.{length}
 use Rattle.mos.specs.declared.Mos.{Mos}
 use Rattle.mos.specs.Patterns.{sharpnessOf}
-use Rattle.edo_layouts.specs.Layouts.{layoutsOf, numbersOf, flat}
+use Rattle.edo_layouts.specs.Layouts.{layoutsOf, numbersOf, joinedOver}
 use Rattle.edo_counts.specs.declared.parts.Tally.{Tally}
 use Rattle.edo_counts.specs.Counts.{allLayouts, isAbove, isBelow, isEqual, tallyOf}
 
@@ -35,4 +35,4 @@ whole t = t .above + t .below + t .equal
 -- all six lines together are the numbers of layouts of each division together, and `find_by_edo` writes three numbers for each.
 pub record EveryLayoutIsCounted (last : ℕ) : Type 0 where
   pub all : sumOf (λ (code : ℕ). whole (tallyOf code (allLayouts last))) 6 ≡ sumOf (λ (before : ℕ). length (layoutsOf (before + 1))) last
-  pub written : (n : ℕ) → length (flat numbersOf (layoutsOf n)) ≡ 3 * length (layoutsOf n)
+  pub written : (n : ℕ) → length (joinedOver numbersOf (layoutsOf n)) ≡ 3 * length (layoutsOf n)

@@ -7,7 +7,7 @@ ghost use mathlib.Core.Path.{_≡_};
 ghost use Prim.Native.Nat.{_+_, _≤_, _<_};
 ghost use lib.ListN.{length};
 ghost use Rattle.text.specs.Writing.{Wrote};
-ghost use Rattle.edo_layouts.specs.Layouts.{chainOutcome, listed};
+ghost use Rattle.edo_layouts.specs.Layouts.{chainOutcome, givenOf};
 ghost use Rattle.edo_counts.specs.Counts.{allLayouts, tallyOf, reportLine, report};
 ghost use Rattle.edo_counts.specs.Parts.{plus, side, Small};
 
@@ -47,7 +47,7 @@ fn count_pattern(past: Tally, pattern: Mos) -> Tally
 // The layout of a chain where n steps make an octave, if there is one.
 fn count_chain(past: Tally, n: u16, genchain: u16) -> Tally
     requires { ⌜ Small past ⌝ }
-    ensures { λ r. ⌜ r ≡ plus past (tallyOf genchain (listed (chainOutcome n genchain))) ⌝ }
+    ensures { λ r. ⌜ r ≡ plus past (tallyOf genchain (givenOf (chainOutcome n genchain))) ⌝ }
 {
     match edo_layouts::find_chain_by_edo(n, genchain) {
         EdoAnswer::Refused(_) => past,

@@ -10,7 +10,7 @@ use Rattle.answer.specs.Outcome.{Outcome, given, refused}
 use Rattle.answer.proofs.Asked.{given-same}
 use Rattle.layout.specs.Layouts.{Layout, layoutOutcome, Accepted, defaultLayout}
 use Rattle.edo_tritaves.specs.declared.Choices.{Choices}
-use Rattle.edo_tritaves.specs.Tritaves.{tritave, secondOf, choicesOf}
+use Rattle.edo_tritaves.specs.Tritaves.{tritave, secondChoice, choicesOf}
 use Rattle.edo_tritaves.proofs.Choosing.{no-steps, too-many, tritaves-given}
 use Rattle.edo_layouts.specs.declared.EdoLayout.{EdoLayout}
 use Rattle.edo_layouts.specs.Layouts.{edoLayout, tried, chainServed, chainOutcome}
@@ -70,7 +70,7 @@ module _ (n code : ℕ) where
   in-division : 1 ≤ n → n ≤ 400 → chainServed n code (choicesOf n) ≡ chainOutcome n code
   in-division l h = chain-served n code (choicesOf n) (tritaves-given n l h (choicesOf n) refl)
 
-  all-served : 1 ≤ n → n ≤ 400 → Served n code (tritave n) (secondOf n (tritave n))
+  all-served : 1 ≤ n → n ≤ 400 → Served n code (tritave n) (secondChoice n (tritave n))
   unfolding choicesOf
   all-served l h =
       record {
@@ -90,7 +90,7 @@ module _ (n code : ℕ) (c : EdoLayout) (is : chainOutcome n code ≡ given c) w
   k = tritave n
 
   abbrev s : ℕ
-  s = secondOf n (tritave n)
+  s = secondChoice n (tritave n)
 
   chosen : (x : EdoLayout) → chainOutcome n code ≡ given x → Chosen n code x → Chosen n code c
   chosen x e = subst (λ (y : EdoLayout). Chosen n code y) (given-same (sym e ∙ is))

@@ -16,47 +16,47 @@ use Rattle.text.proofs.Joined.{joined-same}
 use Rattle.edo_tritaves.specs.declared.Choices.{Choices}
 use Rattle.edo_tritaves.specs.Tritaves.{isDivision, choicesOf, tritavesOf}
 use Rattle.edo_layouts.specs.declared.EdoLayout.{EdoLayout}
-use Rattle.edo_layouts.specs.Layouts.{chainServed, chainOutcome, listed, gathered, layoutsOf, one, numbersOf, flat, findByEdo}
+use Rattle.edo_layouts.specs.Layouts.{chainServed, chainOutcome, givenOf, gathered, layoutsOf, one, numbersOf, joinedOver, findByEdo}
 use Rattle.edo_layouts.specs.Parts.{chainNumbers}
 use Rattle.edo_layouts.proofs.Serving.{chain-served}
 
 -- ---- what is said of a list that is gathered
 
-pub flat-append : (said : EdoLayout → List ℕ) (xs ys : List EdoLayout) → flat said (xs ++ ys) ≡ flat said xs ++ flat said ys
-unfolding flat
-flat-append said [] ys = refl
-flat-append said (x ∷ xs) ys =
-    ap (λ (l : List ℕ). said x ++ l) (flat-append said xs ys) ∙ sym (append-assoc (said x) (flat said xs) (flat said ys))
+pub joined-over-append : (said : EdoLayout → List ℕ) (xs ys : List EdoLayout) → joinedOver said (xs ++ ys) ≡ joinedOver said xs ++ joinedOver said ys
+unfolding joinedOver
+joined-over-append said [] ys = refl
+joined-over-append said (x ∷ xs) ys =
+    ap (λ (l : List ℕ). said x ++ l) (joined-over-append said xs ys) ∙ sym (append-assoc (said x) (joinedOver said xs) (joinedOver said ys))
 
-pub flat-gathered : (said : EdoLayout → List ℕ) (list : ℕ → List EdoLayout) (k : ℕ)
-    → flat said (gathered list k) ≡ joined (λ (i : ℕ). flat said (list i)) k
-unfolding gathered joined flat
-flat-gathered said list zero = refl
-flat-gathered said list (suc k) =
-    flat-append said (gathered list k) (list k) ∙ ap (λ (l : List ℕ). l ++ flat said (list k)) (flat-gathered said list k)
+pub joined-over-gathered : (said : EdoLayout → List ℕ) (list : ℕ → List EdoLayout) (k : ℕ)
+    → joinedOver said (gathered list k) ≡ joined (λ (i : ℕ). joinedOver said (list i)) k
+unfolding gathered joined joinedOver
+joined-over-gathered said list zero = refl
+joined-over-gathered said list (suc k) =
+    joined-over-append said (gathered list k) (list k) ∙ ap (λ (l : List ℕ). l ++ joinedOver said (list k)) (joined-over-gathered said list k)
 
-pub flat-one : (said : EdoLayout → List ℕ) (c : EdoLayout) → flat said (c ∷ []) ≡ said c
-unfolding flat
-flat-one said c = append-nil (said c)
+pub joined-over-one : (said : EdoLayout → List ℕ) (c : EdoLayout) → joinedOver said (c ∷ []) ≡ said c
+unfolding joinedOver
+joined-over-one said c = append-nil (said c)
 
-pub flat-none : (said : EdoLayout → List ℕ) → flat said [] ≡ []
-unfolding flat
-flat-none said = refl
+pub joined-over-none : (said : EdoLayout → List ℕ) → joinedOver said [] ≡ []
+unfolding joinedOver
+joined-over-none said = refl
 
 -- ---- the numbers of one chain
 
 module _ (n : ℕ) (t : Choices) (code : ℕ) where
   pub chain-numbers : (c : EdoLayout) → given c ≡ chainServed n code t → numbersOf c ≡ chainNumbers n t code
   unfolding chainNumbers
-  chain-numbers c e = sym (flat-one numbersOf c) ∙ ap (λ (o : Outcome EdoLayout). flat numbersOf (listed o)) e
+  chain-numbers c e = sym (joined-over-one numbersOf c) ∙ ap (λ (o : Outcome EdoLayout). joinedOver numbersOf (givenOf o)) e
 
   pub no-numbers : (q : ℕ) → refused q ≡ chainServed n code t → [] ≡ chainNumbers n t code
   unfolding chainNumbers
-  no-numbers q e = sym (flat-none numbersOf) ∙ ap (λ (o : Outcome EdoLayout). flat numbersOf (listed o)) e
+  no-numbers q e = sym (joined-over-none numbersOf) ∙ ap (λ (o : Outcome EdoLayout). joinedOver numbersOf (givenOf o)) e
 
-  at-most : (o : Outcome EdoLayout) → length (flat numbersOf (listed o)) ≤ 3
-  at-most (given c) = omega (arith, ap length (flat-one numbersOf c))
-  at-most (refused q) = omega (arith, ap length (flat-none numbersOf))
+  at-most : (o : Outcome EdoLayout) → length (joinedOver numbersOf (givenOf o)) ≤ 3
+  at-most (given c) = omega (arith, ap length (joined-over-one numbersOf c))
+  at-most (refused q) = omega (arith, ap length (joined-over-none numbersOf))
 
   pub few-numbers : length (chainNumbers n t code) ≤ 3
   unfolding chainNumbers
@@ -106,23 +106,23 @@ module _ (n : ℕ) where
   unfolding findByEdo tritavesOf
   find-refused q e = by (isDivision n) e
     where
-      by : (test : Bool) → refused q ≡ ask 15 test (given (choicesOf n)) → refused q ≡ ask 15 test (given (flat numbersOf (layoutsOf n)))
+      by : (test : Bool) → refused q ≡ ask 15 test (given (choicesOf n)) → refused q ≡ ask 15 test (given (joinedOver numbersOf (layoutsOf n)))
       by true f = absurd (let z : _≡_ {A = ℕ} 0 1 = cc in omega arith)
       by false f = let same : q ≡ 15 = cc in ap refused same
 
   module _ (t : Choices) (e : given t ≡ tritavesOf n) where
-    all-numbers : joined (chainNumbers n t) 6 ≡ flat numbersOf (layoutsOf n)
+    all-numbers : joined (chainNumbers n t) 6 ≡ joinedOver numbersOf (layoutsOf n)
     unfolding layoutsOf chainNumbers
     all-numbers =
-        joined-same (chainNumbers n t) (λ (code : ℕ). flat numbersOf (listed (chainOutcome n code))) 6
-        (λ code h. ap (λ (o : Outcome EdoLayout). flat numbersOf (listed o)) (chain-served n code t e))
-        ∙ sym (flat-gathered numbersOf (λ (code : ℕ). listed (chainOutcome n code)) 6)
+        joined-same (chainNumbers n t) (λ (code : ℕ). joinedOver numbersOf (givenOf (chainOutcome n code))) 6
+        (λ code h. ap (λ (o : Outcome EdoLayout). joinedOver numbersOf (givenOf o)) (chain-served n code t e))
+        ∙ sym (joined-over-gathered numbersOf (λ (code : ℕ). givenOf (chainOutcome n code)) 6)
 
     pub find-given : given (joined (chainNumbers n t) 6) ≡ findByEdo n
     unfolding findByEdo tritavesOf
     find-given =
         ap given all-numbers
-        ∙ ap (λ (test : Bool). ask 15 test (given (flat numbersOf (layoutsOf n)))) (sym (asked-yes 15 (isDivision n) _ (sym e)))
+        ∙ ap (λ (test : Bool). ask 15 test (given (joinedOver numbersOf (layoutsOf n)))) (sym (asked-yes 15 (isDivision n) _ (sym e)))
 
     pub find-in-room : (room : ℕ) → heldIn room (joined (chainNumbers n t) 6) ≡ inRoom room (findByEdo n)
     find-in-room room = ap (λ (o : Outcome (List ℕ)). andThen o (heldIn room)) find-given

@@ -49,9 +49,9 @@ chainOutcome n code = andThen (tritavesOf n) (chainServed n code)
 -- ---- all chains
 
 -- What is given, as a list of at most one.
-abbrev pub listed : Outcome EdoLayout → List EdoLayout
-listed (given c) = c ∷ []
-listed (refused q) = []
+abbrev pub givenOf : Outcome EdoLayout → List EdoLayout
+givenOf (given c) = c ∷ []
+givenOf (refused q) = []
 
 -- The lists of 0 to count − 1, one after the other.
 unfoldable pub gathered : (ℕ → List EdoLayout) → ℕ → List EdoLayout
@@ -61,7 +61,7 @@ gathered list (suc count) = gathered list count ++ list count
 -- "in its order of chains": Mavila[9], Meantone[7], Meantone[5], Porcupine[8], Tetracot[7], Hanson[7], which are the codes 0 to 5, rising.
 unfoldable pub layoutsOf : ℕ → List EdoLayout
 unfolding gathered chainOutcome
-layoutsOf n = gathered (λ (code : ℕ). listed (chainOutcome n code)) 6
+layoutsOf n = gathered (λ (code : ℕ). givenOf (chainOutcome n code)) 6
 
 -- ---- as numbers
 
@@ -74,14 +74,14 @@ abbrev pub numbersOf : EdoLayout → List ℕ
 numbersOf c = c .layout .genchain ∷ c .layout .tritave ∷ one (c .second) ∷ []
 
 -- What is said of each layout, one after the other.
-unfoldable pub flat : (EdoLayout → List ℕ) → List EdoLayout → List ℕ
-flat said [] = []
-flat said (c ∷ rest) = said c ++ flat said rest
+unfoldable pub joinedOver : (EdoLayout → List ℕ) → List EdoLayout → List ℕ
+joinedOver said [] = []
+joinedOver said (c ∷ rest) = said c ++ joinedOver said rest
 
 -- Question 15, then the numbers of all layouts; then comes question 10.
 unfoldable pub findByEdo : ℕ → Outcome (List ℕ)
-unfolding flat layoutsOf
-findByEdo n = ask 15 (isDivision n) (given (flat numbersOf (layoutsOf n)))
+unfolding joinedOver layoutsOf
+findByEdo n = ask 15 (isDivision n) (given (joinedOver numbersOf (layoutsOf n)))
 
 -- What an answer means.
 abbrev pub edoOutcome : EdoAnswer → Outcome EdoLayout

@@ -2,8 +2,8 @@
 use Prim.Native.Nat.{ℕ}
 use mathlib.Core.List.{List}
 use Rattle.edo_tritaves.specs.declared.Choices.{Choices}
-use Rattle.edo_layouts.specs.Layouts.{chainServed, listed, flat, numbersOf}
+use Rattle.edo_layouts.specs.Layouts.{chainServed, givenOf, joinedOver, numbersOf}
 
 unfoldable pub chainNumbers : ℕ → Choices → (code : ℕ) → List ℕ
-unfolding flat chainServed
-chainNumbers n t code = flat numbersOf (listed (chainServed n code t))
+unfolding joinedOver chainServed
+chainNumbers n t code = joinedOver numbersOf (givenOf (chainServed n code t))

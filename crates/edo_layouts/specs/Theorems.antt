@@ -5,7 +5,7 @@ use mathlib.Core.Logic.{_⊎_}
 use mathlib.Core.Path.{_≡_}
 use Rattle.answer.specs.Outcome.{given, refused}
 use Rattle.layout.specs.Layouts.{Layout, layoutOutcome, Accepted, defaultLayout}
-use Rattle.edo_tritaves.specs.Tritaves.{tritave, secondOf}
+use Rattle.edo_tritaves.specs.Tritaves.{tritave, secondChoice}
 use Rattle.edo_layouts.specs.declared.EdoLayout.{EdoLayout}
 use Rattle.edo_layouts.specs.Layouts.{chainOutcome}
 
@@ -36,10 +36,10 @@ pub record Chosen (n code : ℕ) (c : EdoLayout) : Type 0 where
   pub pattern-is : c .pattern ≡ found .pattern
   -- its tritave is the first choice, or it is the second, and then the first gives no layout
   pub choice : ((c .second ≡ false) × (c .layout .tritave ≡ tritave n))
-      ⊎ ((c .second ≡ true) × (c .layout .tritave ≡ secondOf n (tritave n)) × NoFirst n code)
+      ⊎ ((c .second ≡ true) × (c .layout .tritave ≡ secondChoice n (tritave n)) × NoFirst n code)
 
 -- Theorem: for 1 to 400 steps every chain is so served, whatever its code; else the answer is 15. So each layout that is found is so chosen.
 pub record LayoutsAreChosen : Type 0 where
-  pub served : (n code : ℕ) → 1 ≤ n → n ≤ 400 → Served n code (tritave n) (secondOf n (tritave n))
+  pub served : (n code : ℕ) → 1 ≤ n → n ≤ 400 → Served n code (tritave n) (secondChoice n (tritave n))
   pub outside : (n code : ℕ) → (n ≡ 0) ⊎ (400 < n) → chainOutcome n code ≡ refused 15
   pub found : (n code : ℕ) (c : EdoLayout) → chainOutcome n code ≡ given c → Chosen n code c

@@ -13,11 +13,11 @@ use Rattle.text.specs.Decimal.{digits}
 use Rattle.text.proofs.Digits.{digits-length}
 use Rattle.edo_tritaves.specs.declared.Choices.{Choices}
 use Rattle.edo_layouts.specs.declared.EdoLayout.{EdoLayout}
-use Rattle.edo_layouts.specs.Layouts.{chainServed, listed, flat}
-use Rattle.edo_layouts.proofs.Listing.{flat-one, flat-none}
+use Rattle.edo_layouts.specs.Layouts.{chainServed, givenOf, joinedOver}
+use Rattle.edo_layouts.proofs.Listing.{joined-over-one, joined-over-none}
 use Rattle.edo_layouts.proofs.Serving.{served-chain}
 use Rattle.edo_lines.specs.Lines.{lineWith, layoutLine}
-use Rattle.edo_lines.specs.Parts.{chainLine}
+use Rattle.edo_lines.specs.Parts.{servedLine}
 
 -- a number of 16 bits and the byte behind it; a text of the table
 pub short : (n behind : ℕ) → n ≤ 65535 → length (digits n ++ (behind ∷ [])) ≤ 6
@@ -27,9 +27,9 @@ pub short-name : (place : ℕ) → place < 19 → length (textAt place) ≤ 12
 short-name place h = text-small place h
 
 module _ (n : ℕ) (t : Choices) (code : ℕ) where
-  pub no-line : (q : ℕ) → refused q ≡ chainServed n code t → [] ≡ chainLine n t code
-  unfolding chainLine
-  no-line q e = sym (flat-none layoutLine) ∙ ap (λ (o : Outcome EdoLayout). flat layoutLine (listed o)) e
+  pub no-line : (q : ℕ) → refused q ≡ chainServed n code t → [] ≡ servedLine n t code
+  unfolding servedLine
+  no-line q e = sym (joined-over-none layoutLine) ∙ ap (λ (o : Outcome EdoLayout). joinedOver layoutLine (givenOf o)) e
 
   module _ (h : code < 6) (c : EdoLayout) (e : given c ≡ chainServed n code t) (scale : ℕ)
       (p : PlaceOf (scaleName code (c .pattern)) scale)
@@ -41,6 +41,6 @@ module _ (n : ℕ) (t : Choices) (code : ℕ) where
           ∙ ap (λ (k : ℕ). lineWith k (c .layout .octave) (c .layout .tritave) (chainOf k .name) (scaleName k (c .pattern)))
           (sym (served-chain n code c t e))
 
-      pub line-is : lineWith code (c .layout .octave) (c .layout .tritave) (textAt (1 + 3 * code)) (textAt scale) ≡ chainLine n t code
-      unfolding chainLine
-      line-is = line-of ∙ sym (flat-one layoutLine c) ∙ ap (λ (o : Outcome EdoLayout). flat layoutLine (listed o)) e
+      pub line-is : lineWith code (c .layout .octave) (c .layout .tritave) (textAt (1 + 3 * code)) (textAt scale) ≡ servedLine n t code
+      unfolding servedLine
+      line-is = line-of ∙ sym (joined-over-one layoutLine c) ∙ ap (λ (o : Outcome EdoLayout). joinedOver layoutLine (givenOf o)) e

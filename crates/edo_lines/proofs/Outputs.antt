@@ -10,26 +10,26 @@ use Rattle.answer.proofs.Asked.{asked-yes}
 use Rattle.text.specs.Writing.{joined}
 use Rattle.text.proofs.Joined.{joined-same}
 use Rattle.text.proofs.Digits.{digits-length}
-use Rattle.layout_table.specs.Tables.{refusalLine, outputOf}
-use Rattle.layout_table.proofs.Lines.{length-refusal}
+use Rattle.line.specs.Refusals.{refusalLine, outputOf}
+use Rattle.line.proofs.RefusalLines.{length-refusal}
 use Rattle.line.specs.Lines.{numberLine}
 use Rattle.line.proofs.Enough.{later-bytes-ignored}
 use Rattle.edo_tritaves.specs.declared.Choices.{Choices}
 use Rattle.edo_tritaves.specs.Tritaves.{isDivision, choicesOf, tritavesOf}
 use Rattle.edo_layouts.specs.declared.EdoLayout.{EdoLayout}
-use Rattle.edo_layouts.specs.Layouts.{chainOutcome, listed, layoutsOf, flat}
+use Rattle.edo_layouts.specs.Layouts.{chainOutcome, givenOf, layoutsOf, joinedOver}
 use Rattle.edo_layouts.proofs.Serving.{chain-served}
-use Rattle.edo_layouts.proofs.Listing.{flat-gathered}
+use Rattle.edo_layouts.proofs.Listing.{joined-over-gathered}
 use Rattle.edo_lines.specs.Lines.{layoutLine, divisionLines, output}
-use Rattle.edo_lines.specs.Parts.{chainLine}
+use Rattle.edo_lines.specs.Parts.{servedLine}
 use Rattle.edo_lines.specs.Theorems.{LaterBytesChangeNothing}
 
 -- ---- a division
 
 module _ (n : ℕ) where
-  division-by : (test : Bool) → isDivision n ≡ test → ask 15 test (given (flat layoutLine (layoutsOf n))) ≡ divisionLines n
+  division-by : (test : Bool) → isDivision n ≡ test → ask 15 test (given (joinedOver layoutLine (layoutsOf n))) ≡ divisionLines n
   unfolding divisionLines
-  division-by test e = ap (λ (t : Bool). ask 15 t (given (flat layoutLine (layoutsOf n)))) (sym e)
+  division-by test e = ap (λ (t : Bool). ask 15 t (given (joinedOver layoutLine (layoutsOf n)))) (sym e)
 
   -- question 15, by what the choices answer
   refusal : (q : ℕ) → refused q ≡ tritavesOf n → refused q ≡ divisionLines n
@@ -44,18 +44,18 @@ module _ (n : ℕ) where
   division-refused k q i e = ap refusalLine i ∙ ap outputOf (refusal q e)
 
   module _ (t : Choices) (e : given t ≡ tritavesOf n) where
-    all-lines : joined (chainLine n t) 6 ≡ flat layoutLine (layoutsOf n)
-    unfolding layoutsOf chainLine
+    all-lines : joined (servedLine n t) 6 ≡ joinedOver layoutLine (layoutsOf n)
+    unfolding layoutsOf servedLine
     all-lines =
-        joined-same (chainLine n t) (λ (code : ℕ). flat layoutLine (listed (chainOutcome n code))) 6
-        (λ code h. ap (λ (o : Outcome EdoLayout). flat layoutLine (listed o)) (chain-served n code t e))
-        ∙ sym (flat-gathered layoutLine (λ (code : ℕ). listed (chainOutcome n code)) 6)
+        joined-same (servedLine n t) (λ (code : ℕ). joinedOver layoutLine (givenOf (chainOutcome n code))) 6
+        (λ code h. ap (λ (o : Outcome EdoLayout). joinedOver layoutLine (givenOf o)) (chain-served n code t e))
+        ∙ sym (joined-over-gathered layoutLine (λ (code : ℕ). givenOf (chainOutcome n code)) 6)
 
     divided : isDivision n ≡ true
     unfolding tritavesOf
     divided = asked-yes 15 (isDivision n) _ (sym e)
 
-    pub division-given : joined (chainLine n t) 6 ≡ outputOf (divisionLines n)
+    pub division-given : joined (servedLine n t) 6 ≡ outputOf (divisionLines n)
     division-given = all-lines ∙ ap outputOf (division-by true divided)
 
 -- ---- a line

@@ -4,11 +4,11 @@ use mathlib.Core.List.{List, [], _∷_, _++_}
 use Rattle.answer.specs.Outcome.{Outcome, given, ask, andThen}
 use Rattle.genchain.specs.Chains.{chainOf}
 use Rattle.layout.specs.ScaleNames.{scaleName}
-use Rattle.layout_table.specs.Tables.{refusalLine, outputOf}
+use Rattle.line.specs.Refusals.{refusalLine, outputOf}
 use Rattle.line.specs.Lines.{space, lineFeed, numberLine}
 use Rattle.text.specs.Decimal.{digits}
 use Rattle.edo_layouts.specs.declared.EdoLayout.{EdoLayout}
-use Rattle.edo_layouts.specs.Layouts.{layoutsOf, flat}
+use Rattle.edo_layouts.specs.Layouts.{layoutsOf, joinedOver}
 use Rattle.edo_tritaves.specs.Tritaves.{isDivision}
 
 -- Three numbers, each with a space behind it.
@@ -33,8 +33,8 @@ layoutLine c =
 
 -- Question 15, then a line for each layout, in the order of chains; where none has a layout there is no line.
 unfoldable pub divisionLines : ℕ → Outcome (List ℕ)
-unfolding layoutLine flat layoutsOf
-divisionLines n = ask 15 (isDivision n) (given (flat layoutLine (layoutsOf n)))
+unfolding layoutLine joinedOver layoutsOf
+divisionLines n = ask 15 (isDivision n) (given (joinedOver layoutLine (layoutsOf n)))
 
 -- What the program prints: question 14, of the line, then the lines; a refusal prints only `refused`, a space and the number.
 unfoldable pub output : List ℕ → List ℕ

@@ -2,9 +2,9 @@
 use Prim.Native.Nat.{ℕ}
 use mathlib.Core.List.{List}
 use Rattle.edo_tritaves.specs.declared.Choices.{Choices}
-use Rattle.edo_layouts.specs.Layouts.{chainServed, listed, flat}
+use Rattle.edo_layouts.specs.Layouts.{chainServed, givenOf, joinedOver}
 use Rattle.edo_lines.specs.Lines.{layoutLine}
 
-unfoldable pub chainLine : ℕ → Choices → (code : ℕ) → List ℕ
-unfolding flat layoutLine chainServed
-chainLine n t code = flat layoutLine (listed (chainServed n code t))
+unfoldable pub servedLine : ℕ → Choices → (code : ℕ) → List ℕ
+unfolding joinedOver layoutLine chainServed
+servedLine n t code = joinedOver layoutLine (givenOf (chainServed n code t))

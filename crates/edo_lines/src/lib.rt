@@ -15,10 +15,10 @@ use text::writer::put_byte;
 ghost use Prim.Native.Nat.{_+_, _*_, _≤_, _<_};
 ghost use lib.ListN.{length};
 ghost use Rattle.genchain.specs.Texts.{textAt};
-ghost use Rattle.layout_table.specs.Tables.{outputOf};
+ghost use Rattle.line.specs.Refusals.{outputOf};
 ghost use Rattle.text.specs.Writing.{Wrote, joined};
 ghost use Rattle.edo_lines.specs.Lines.{numbersPart, namesPart, lineWith, divisionLines, output};
-ghost use Rattle.edo_lines.specs.Parts.{chainLine};
+ghost use Rattle.edo_lines.specs.Parts.{servedLine};
 
 // Three numbers, with a space behind each; the place after them.
 fn put_numbers(out: &mut [u8], at: usize, genchain: u16, octave: u16, tritave: u16) -> usize
@@ -60,7 +60,7 @@ fn put_line(
 // The line of a chain's layout, none where it has none; the place after it.
 fn put_chain(out: &mut [u8], at: usize, n: u16, genchain: u16, choices: Choices) -> usize
     requires { ⌜ (genchain < 6) × (at + 44 ≤ length (now out)) ⌝ }
-    ensures { λ r. ⌜ Wrote (now (out .entry)) at (chainLine n choices genchain) (now (out .exit)) r × (r ≤ at + 44) ⌝ }
+    ensures { λ r. ⌜ Wrote (now (out .entry)) at (servedLine n choices genchain) (now (out .exit)) r × (r ≤ at + 44) ⌝ }
 {
     match edo_layouts::parts::serve(n, genchain, choices) {
         EdoAnswer::Refused(_) => at,
@@ -76,7 +76,7 @@ fn put_chain(out: &mut [u8], at: usize, n: u16, genchain: u16, choices: Choices)
 // The lines of all chains at the front; the place after them.
 fn put_chains(out: &mut [u8], n: u16, choices: Choices) -> usize
     requires { ⌜ 264 ≤ length (now out) ⌝ }
-    ensures { λ r. ⌜ Wrote (now (out .entry)) 0 (joined (chainLine n choices) 6) (now (out .exit)) r × (r ≤ 264) ⌝ }
+    ensures { λ r. ⌜ Wrote (now (out .entry)) 0 (joined (servedLine n choices) 6) (now (out .exit)) r × (r ≤ 264) ⌝ }
 {
     let mut place: usize = 0;
     let mut genchain: u16 = 0;
@@ -93,7 +93,7 @@ fn put_division(out: &mut [u8], n: u16) -> usize
     ensures { λ r. ⌜ Wrote (now (out .entry)) 0 (outputOf (divisionLines n)) (now (out .exit)) r × (r ≤ 264) ⌝ }
 {
     match edo_tritaves::tritaves(n) {
-        TritavesAnswer::Refused(q) => layout_table::parts::put_refusal(out, q.number() as u16),
+        TritavesAnswer::Refused(q) => line::refusals::put_refusal(out, q.number() as u16),
         TritavesAnswer::Given(choices) => put_chains(out, n, choices),
     }
 }
@@ -104,7 +104,7 @@ pub fn put_output(line: &[u8], out: &mut [u8]) -> usize
     ensures { λ r. ⌜ Wrote (now (out .entry)) 0 (output (now (line .entry))) (now (out .exit)) r × (r ≤ 264) ⌝ }
 {
     match line::parse_number(line) {
-        NumberAnswer::Refused(q) => layout_table::parts::put_refusal(out, q.number() as u16),
+        NumberAnswer::Refused(q) => line::refusals::put_refusal(out, q.number() as u16),
         NumberAnswer::Given(n) => put_division(out, n),
     }
 }

@@ -1,19 +1,19 @@
 -- The number that meets the rule is the first that does; from there to each way in which the choices end.
-use mathlib.Core.Path.{_≡_, refl, sym, ap, _∙_, subst}
+use mathlib.Core.Path.{_≡_, refl, sym, ap, _∙_}
 use mathlib.Core.Bool.{Bool, true, false}
 use mathlib.Core.List.{[], _∷_}
 use Prim.Native.Nat.{ℕ, _+_, _*_, _-_, _≤_, _<_, _^_}
 use native.Mathlib.Nat.{pow-le-pow-right}
 use native.Mathlib.Omega.{arith}
-use lib.Dec.{T, ltb}
+use lib.Dec.{ltb}
 use borrow.Author.Tests.{lt-ltb, le-ltb, le-leb, lt-leb, ltb-true, eq-eqb, ne-eqb}
 use Rattle.answer.specs.Outcome.{given, refused, ask}
 use Rattle.answer.specs.Choice.{pick}
 use Rattle.answer.proofs.Asked.{and-left, and-right}
-use Rattle.pergen.specs.Pergen.{first}
-use Rattle.pergen.proofs.Inverse.{first-finds}
+use Rattle.math.specs.Passing.{first}
+use Rattle.math.proofs.Passing.{first-finds}
 use Rattle.edo_tritaves.specs.declared.Choices.{Choices}
-use Rattle.edo_tritaves.specs.Tritaves.{TritaveRule, isTritave, tritave, goesUp, goesDown, secondOf, choicesOf, choiceNumbers, isDivision, tritavesOf}
+use Rattle.edo_tritaves.specs.Tritaves.{TritaveRule, isTritave, tritave, goesUp, goesDown, secondChoice, choicesOf, choiceNumbers, isDivision, tritavesOf}
 use Rattle.edo_tritaves.specs.Theorems.{OneTritave, NeverBoth}
 use Rattle.edo_tritaves.proofs.TableRule.{Sides}
 
@@ -46,31 +46,23 @@ as-rule n k e =
     let b = ltb (3 ^ (2 * n)) (2 ^ (2 * k + 1)) in
     record { above = ltb-true _ _ (and-left a b e); below = ltb-true _ _ (and-right a b e) }
 
-told : (b : Bool) → T b → b ≡ true
-told true t = refl
-told false t = absurd t
-
-tells : (b : Bool) → b ≡ true → T b
-tells true e = tt
-tells false e = subst T (sym e) tt
-
 pub tritave-is : (n k : ℕ) → k ≤ 2 * n → TritaveRule n k → k ≡ tritave n
 unfolding tritave
 tritave-is n k h r =
-    let f = first-finds (isTritave n) (2 * n + 1) 0 k (omega arith) (omega arith) (tells _ (as-test n k r)) in
-    one-tritave n k (first (isTritave n) (2 * n + 1) 0) r (as-rule n _ (told _ (f .0)))
+    let f = first-finds (isTritave n) (2 * n + 1) 0 k (omega arith) (omega arith) (as-test n k r) in
+    one-tritave n k (first (isTritave n) (2 * n + 1) 0) r (as-rule n _ (f .0))
 
 -- ---- the three ways in which the choices end
 
 module _ (n k : ℕ) (s : Sides n k) (is : k ≡ tritave n) where
-  chosen : (second : ℕ) → second ≡ secondOf n k → record { first = k; second = second } ≡ choicesOf n
+  chosen : (second : ℕ) → second ≡ secondChoice n k → record { first = k; second = second } ≡ choicesOf n
   unfolding choicesOf
   chosen second e =
       ap (λ (x : ℕ). record { first = k; second = x }) e
-      ∙ ap (λ (x : ℕ). record { first = x; second = secondOf n x }) is
+      ∙ ap (λ (x : ℕ). record { first = x; second = secondChoice n x }) is
 
-  by-tests : (u d : Bool) → goesUp n k ≡ u → goesDown n k ≡ d → pick u (k + 1) (pick d (k - 1) 0) ≡ secondOf n k
-  unfolding secondOf
+  by-tests : (u d : Bool) → goesUp n k ≡ u → goesDown n k ≡ d → pick u (k + 1) (pick d (k - 1) 0) ≡ secondChoice n k
+  unfolding secondChoice
   by-tests u d e f =
       ap (λ (x : Bool). pick x (k + 1) (pick d (k - 1) 0)) (sym e) ∙ ap (λ (x : Bool). pick (goesUp n k) (k + 1) (pick x (k - 1) 0)) (sym f)
 

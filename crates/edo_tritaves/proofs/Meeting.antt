@@ -9,7 +9,7 @@ use lib.Dec.{leb}
 use lib.ListN.{getD}
 use borrow.Author.Tests.{leb-true, leb-false}
 use Rattle.answer.specs.Choice.{pick}
-use Rattle.edo_tritaves.specs.Tritaves.{TritaveRule, tritave, goesUp, goesDown, secondOf}
+use Rattle.edo_tritaves.specs.Tritaves.{TritaveRule, tritave, goesUp, goesDown, secondChoice}
 use Rattle.edo_tritaves.specs.Table.{tritaveTable}
 use Rattle.edo_tritaves.specs.Theorems.{TableMeetsTheRule, EveryDivisionMeetsTheRule}
 use Rattle.edo_tritaves.proofs.TableRule.{the-table-ruled}
@@ -83,8 +83,8 @@ module _ (n : ℕ) (h : 1 ≤ n) where
 -- ---- the second choice
 
 module _ (n k : ℕ) where
-  second-by : (u d : Bool) → goesUp n k ≡ u → goesDown n k ≡ d → secondOf n k ≡ pick u (k + 1) (pick d (k - 1) 0)
-  unfolding secondOf
+  second-by : (u d : Bool) → goesUp n k ≡ u → goesDown n k ≡ d → secondChoice n k ≡ pick u (k + 1) (pick d (k - 1) 0)
+  unfolding secondChoice
   second-by u d e f =
       ap (λ (x : Bool). pick x (k + 1) (pick (goesDown n k) (k - 1) 0)) e ∙ ap (λ (x : Bool). pick u (k + 1) (pick x (k - 1) 0)) f
 
@@ -92,13 +92,13 @@ module _ (n k : ℕ) where
   not-up d true e = absurd (never-both n k e d)
   not-up d false e = refl
 
-  pub second-up : goesUp n k ≡ true → secondOf n k ≡ k + 1
+  pub second-up : goesUp n k ≡ true → secondChoice n k ≡ k + 1
   second-up e = second-by true (goesDown n k) e refl
 
-  pub second-down : 2 ≤ k → goesDown n k ≡ true → secondOf n k + 1 ≡ k
+  pub second-down : 2 ≤ k → goesDown n k ≡ true → secondChoice n k + 1 ≡ k
   second-down h d = omega (arith, second-by false true (not-up d (goesUp n k) refl) d)
 
-  pub second-none : goesUp n k ≡ false → goesDown n k ≡ false → secondOf n k ≡ 0
+  pub second-none : goesUp n k ≡ false → goesDown n k ≡ false → secondChoice n k ≡ 0
   second-none e d = second-by false false e d
 
 -- ---- the theorems

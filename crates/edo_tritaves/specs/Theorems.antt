@@ -3,7 +3,7 @@ use Prim.Native.Nat.{ℕ, _+_, _≤_, _<_}
 use mathlib.Core.Bool.{true, false}
 use mathlib.Core.Path.{_≡_}
 use lib.ListN.{length, getD}
-use Rattle.edo_tritaves.specs.Tritaves.{TritaveRule, tritave, goesUp, goesDown, secondOf}
+use Rattle.edo_tritaves.specs.Tritaves.{TritaveRule, tritave, goesUp, goesDown, secondChoice}
 use Rattle.edo_tritaves.specs.Table.{tritaveTable}
 
 -- Theorem: no two numbers meet the rule, whatever n is.
@@ -22,9 +22,9 @@ pub record TableMeetsTheRule : Type 0 where
 pub record ChoicesByTheRule (n : ℕ) : Type 0 where
   pub meets : TritaveRule n (tritave n)
   pub only : (k : ℕ) → TritaveRule n k → k ≡ tritave n
-  pub up : goesUp n (tritave n) ≡ true → secondOf n (tritave n) ≡ tritave n + 1
-  pub down : goesDown n (tritave n) ≡ true → secondOf n (tritave n) + 1 ≡ tritave n
-  pub neither : goesUp n (tritave n) ≡ false → goesDown n (tritave n) ≡ false → secondOf n (tritave n) ≡ 0
+  pub up : goesUp n (tritave n) ≡ true → secondChoice n (tritave n) ≡ tritave n + 1
+  pub down : goesDown n (tritave n) ≡ true → secondChoice n (tritave n) + 1 ≡ tritave n
+  pub neither : goesUp n (tritave n) ≡ false → goesDown n (tritave n) ≡ false → secondChoice n (tritave n) ≡ 0
   pub no-zero : 2 ≤ tritave n
 
 -- Theorem: so it is for every n from 1 on.

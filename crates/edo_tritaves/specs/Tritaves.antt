@@ -6,7 +6,7 @@ use lib.Dec.{eqb, ltb, leb}
 use Rattle.answer.specs.Outcome.{Outcome, given, refused, ask}
 use Rattle.answer.specs.Refusals.{numberOf}
 use Rattle.answer.specs.Choice.{pick}
-use Rattle.pergen.specs.Pergen.{first}
+use Rattle.math.specs.Passing.{first}
 use Rattle.edo_tritaves.specs.declared.Choices.{Choices}
 use Rattle.edo_tritaves.specs.declared.TritavesAnswer.{TritavesAnswer}
 use Rattle.edo_tritaves.specs.declared.TritavesAnswer.the-variants as Answer
@@ -38,13 +38,13 @@ abbrev pub goesDown : ℕ → ℕ → Bool
 goesDown n k = ltb (3 ^ (3 * n)) (2 ^ (3 * k - 1))
 
 -- "Otherwise there is no second choice": 0, which is no count.
-unfoldable pub secondOf : ℕ → ℕ → ℕ
-secondOf n k = pick (goesUp n k) (k + 1) (pick (goesDown n k) (k - 1) 0)
+unfoldable pub secondChoice : ℕ → ℕ → ℕ
+secondChoice n k = pick (goesUp n k) (k + 1) (pick (goesDown n k) (k - 1) 0)
 
 -- Both choices, in their order.
 unfoldable pub choicesOf : ℕ → Choices
-unfolding tritave secondOf
-choicesOf n = record { first = tritave n; second = secondOf n (tritave n) }
+unfolding tritave secondChoice
+choicesOf n = record { first = tritave n; second = secondChoice n (tritave n) }
 
 -- As a list: one number, or two.
 abbrev pub choiceNumbers : Choices → List ℕ

@@ -1,4 +1,3 @@
-pub mod Tables
 pub mod GoodChains
 pub mod TableRows
 pub mod TextTable

@@ -5,10 +5,10 @@ use Prim.Native.Nat.{ℕ, _+_, _<_, _≤_}
 use native.Mathlib.Omega.{arith}
 use lib.ListN.{length, getD, take, replicate, length-append, length-replicate}
 use lib.Seq.{length-take-le, take-take, take-append-seam}
+use Rattle.text.proofs.Copying.{mapped-at}
 use Rattle.genchain.specs.Chains.{Chain, chains, noChain, chainOf, padded, rowOf, TableRow, lettersIn}
 use Rattle.genchain.specs.Theorems.{GoodChain}
 use Rattle.genchain.specs.declared.rows.ChainRow.{ChainRow}
-use Rattle.genchain.proofs.Tables.{mapped-at}
 use Rattle.genchain.proofs.GoodChains.{chains-are-good}
 
 -- the table's rule, which each reading cites: what is `map rowOf chains` has at each code the row of the code's chain

@@ -5,9 +5,10 @@ use mathlib.Core.List.{List, [], _++_}
 use native.Mathlib.Omega.{arith}
 use lib.ListN.{length, take, replicate, length-append, length-replicate}
 use lib.Seq.{length-take-le, take-take, take-append-seam}
-use lib.Dec.{leb, leb→le}
+use lib.Dec.{leb}
+use borrow.Author.Tests.{leb-true}
+use Rattle.answer.proofs.Asked.{all-at}
 use Rattle.genchain.specs.Chains.{chainOf, equalized}
-use Rattle.genchain.proofs.Tables.{all-at}
 use Rattle.genchain.specs.Texts.{texts, textAt, textRowOf}
 use Rattle.genchain.specs.declared.names.TextRow.{TextRow}
 
@@ -36,7 +37,7 @@ texts-at (suc (suc (suc (suc (suc (suc k)))))) h = absurd (let z : ⊥ = omega a
 
 pub text-small : (place : ℕ) → place < 19 → length (textAt place) ≤ 12
 unfolding textAt
-text-small place h = leb→le _ 12 (all-at (λ (t : List ℕ). leb (length t) 12) texts place [] tt h)
+text-small place h = leb-true _ 12 (all-at (λ (t : List ℕ). leb (length t) 12) texts place [] refl h)
 
 module _ (place : ℕ) (h : place < 19) (row : TextRow) (is : row ≡ textRowOf (textAt place)) where
   pub row-count : row .length ≡ length (textAt place)

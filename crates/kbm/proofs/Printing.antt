@@ -15,13 +15,15 @@ use Rattle.streams.specs.Reading.{LineRead, LineIsEnough}
 use Rattle.streams.specs.Printing.{Printed}
 use Rattle.streams.proofs.Enough.{first-line-is-enough, kept-output}
 use Rattle.layout.specs.Layouts.{Layout, layoutOutcome}
-use Rattle.layout_table.specs.Tables.{layoutOn, lineLayout, refusalLine, outputOf}
-use Rattle.layout_table.proofs.Calls.{line-laid}
+use Rattle.line.specs.LineLayouts.{layoutOn, lineLayout}
+use Rattle.line.specs.Refusals.{refusalLine, outputOf}
+use Rattle.line.proofs.AskedLayouts.{line-laid}
 use Rattle.kbm_text.proofs.LineByLine.{mappings-fit}
-use Rattle.layout_kbm.specs.declared.parts.Mapping.{Mapping}
-use Rattle.layout_kbm.specs.Mappings.{mappingIn, getKbm}
-use Rattle.layout_kbm.specs.Parts.{isMapped, fileOf, MappingOf}
-use Rattle.kbm.specs.Printing.{kbmOutput, Refusing, Ready}
+use Rattle.layout.specs.Parts.{layoutOf, layoutIn, Ready}
+use Rattle.layout.specs.declared.parts.Found.{Found}
+use Rattle.layout.specs.declared.prepared.Prepared.{Prepared}
+use Rattle.layout_kbm.specs.Mappings.{natural, mappingIn, getKbm}
+use Rattle.kbm.specs.Printing.{kbmOutput, Refusing, Mapping}
 
 -- ---- the output, by what the line asks for
 
@@ -64,20 +66,21 @@ module _ (buffer : List ℕ) (input : Input) (kept : ℕ) (read : LineRead buffe
   pub refusing : (k n : ℕ) → k ≡ n → refused n ≡ lineLayout (take kept buffer) → Refusing buffer input k
   refusing k n i e = record { read = read; is-output = output-refused (take kept buffer) k n i e ∙ same-output }
 
-  pub ready : (l : Layout) → given l ≡ lineLayout (take kept buffer) → (m : Mapping) → MappingOf l m → Ready buffer input m
-  ready l e m w =
+  pub mapping : (f : Found) → given (layoutOf f) ≡ lineLayout (take kept buffer) → (p : Prepared) → Ready p → p .found ≡ f → Mapping buffer input p
+  mapping f e p ready is =
+      let same : given (layoutIn p) ≡ lineLayout (take kept buffer) = ap (λ (x : Found). given (layoutOf x)) is ∙ e in
       record {
         read = read;
-        sound = w .sound;
-        is-output = w .file-is ∙ output-given (take kept buffer) l e ∙ same-output;
-        few = omega (arith, line-laid (take kept buffer) l e .few-keys, w .octave-is);
+        ready = ready;
+        is-output = output-given (take kept buffer) (layoutIn p) same ∙ same-output;
+        few = line-laid (take kept buffer) (layoutIn p) same .few-keys;
       }
 
 -- ---- the buffer holds a mapping
 
-pub buffer-room : (m : Mapping) → m .keys ≤ 4096 → length (fileOf m) ≤ length (replicate {A = ℕ} 24611 0)
-unfolding fileOf
-buffer-room m h = omega (arith, mappings-fit (m .keys) (isMapped m) (omega arith), length-replicate {A = ℕ} 24611 0)
+pub buffer-room : (l : Layout) → l .octave ≤ 4096 → length (mappingIn l) ≤ length (replicate {A = ℕ} 24611 0)
+unfolding mappingIn
+buffer-room l h = omega (arith, mappings-fit (l .octave) (natural l) (omega arith), length-replicate {A = ℕ} 24611 0)
 
 -- ---- a text that is the output, handed over at once
 
@@ -88,5 +91,5 @@ module _ (buffer : List ℕ) (input : Input) (text : List ℕ) (start done : Out
   pub refusal-printed : (number : ℕ) → Refusing buffer input number → text ≡ refusalLine number → Printed kbmOutput buffer input done
   refusal-printed number r e = record { read = r .read; whole = λ taken. whole (r .read .line) (e ∙ r .is-output) }
 
-  pub mapping-printed : (m : Mapping) → Ready buffer input m → text ≡ fileOf m → Printed kbmOutput buffer input done
-  mapping-printed m r e = record { read = r .read; whole = λ taken. whole (r .read .line) (e ∙ r .is-output) }
+  pub mapping-printed : (p : Prepared) → Mapping buffer input p → text ≡ mappingIn (layoutIn p) → Printed kbmOutput buffer input done
+  mapping-printed p r e = record { read = r .read; whole = λ taken. whole (r .read .line) (e ∙ r .is-output) }

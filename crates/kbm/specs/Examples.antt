@@ -3,7 +3,7 @@ use Prim.Native.Nat.{ℕ}
 use mathlib.Core.List.{List, [], _∷_, _++_, map}
 use mathlib.Core.Path.{_≡_}
 use Rattle.line.specs.Lines.{lineText}
-use Rattle.layout_table.specs.Tables.{refusalLine}
+use Rattle.line.specs.Refusals.{refusalLine}
 use Rattle.layout_kbm.specs.Examples.{twelve}
 use Rattle.kbm.specs.Printing.{kbmOutput}
 

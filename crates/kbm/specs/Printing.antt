@@ -7,10 +7,11 @@ use Rattle.line.specs.declared.Line.{Line}
 use Rattle.line.specs.Lines.{lineOutcome}
 use Rattle.streams.specs.declared.input.Input.{Input}
 use Rattle.streams.specs.Reading.{LineRead}
-use Rattle.layout_table.specs.Tables.{layoutOn, refusalLine, outputOf}
-use Rattle.layout_kbm.specs.declared.parts.Mapping.{Mapping}
-use Rattle.layout_kbm.specs.Mappings.{getKbm}
-use Rattle.layout_kbm.specs.Parts.{Sound, fileOf}
+use Rattle.line.specs.LineLayouts.{layoutOn}
+use Rattle.line.specs.Refusals.{refusalLine, outputOf}
+use Rattle.layout.specs.declared.prepared.Prepared.{Prepared}
+use Rattle.layout.specs.Parts.{layoutIn, Ready}
+use Rattle.layout_kbm.specs.Mappings.{mappingIn, getKbm}
 
 -- The key table's line: question 14, then the mapping of the layout, with the chain's own start; or the line of a refusal.
 unfoldable pub kbmOutput : List ℕ → List ℕ
@@ -25,8 +26,8 @@ pub record Refusing (buffer : List ℕ) (input : Input) (number : ℕ) : Type 0 
   pub is-output : refusalLine number ≡ kbmOutput (read .line)
 
 -- A mapping is the output, of no more keys than question 14 lets through.
-pub record Ready (buffer : List ℕ) (input : Input) (m : Mapping) : Type 0 where
+pub record Mapping (buffer : List ℕ) (input : Input) (p : Prepared) : Type 0 where
   pub read : LineRead buffer input
-  pub sound : Sound m
-  pub is-output : fileOf m ≡ kbmOutput (read .line)
-  pub few : m .keys ≤ 4096
+  pub ready : Ready p
+  pub is-output : mappingIn (layoutIn p) ≡ kbmOutput (read .line)
+  pub few : p .found .octave ≤ 4096

@@ -7,7 +7,8 @@
 // what is printed, Examples what is printed for some lines. Which bytes a read hands over, and where written bytes go, rests on the kit's
 // library.
 use layout::parts::FoundAnswer;
-use layout_kbm::parts::Mapping;
+use layout::prepared;
+use layout::prepared::Prepared;
 use streams::input;
 use streams::input::Input;
 use streams::lines;
@@ -16,7 +17,7 @@ use streams::output::Output;
 use streams::words;
 ghost use Rattle.streams.specs.Reading.{LineRead, LineIsEnough};
 ghost use Rattle.streams.specs.Printing.{Printed};
-ghost use Rattle.kbm.specs.Printing.{kbmOutput, Refusing, Ready};
+ghost use Rattle.kbm.specs.Printing.{kbmOutput, Refusing, Mapping};
 
 // Writes the line of a refusal, and says that it is one.
 fn print_refusal(line: &[u8], input: Input, number: u16) -> Output
@@ -24,19 +25,19 @@ fn print_refusal(line: &[u8], input: Input, number: u16) -> Output
     ensures { λ r. ⌜ Printed kbmOutput (now (line .entry)) input r ⌝ }
 {
     let mut out = [0u8; 16];
-    let bytes = layout_table::parts::put_refusal(&mut out, number);
+    let bytes = line::refusals::put_refusal(&mut out, number);
     let done = output::write_front(output::begin(), &out, bytes);
     words::say_refused();
     done
 }
 
 // Writes a mapping.
-fn print_mapping(line: &[u8], input: Input, mapping: Mapping) -> Output
-    requires { ⌜ Ready (now line) input mapping ⌝ }
+fn print_mapping(line: &[u8], input: Input, prepared: Prepared) -> Output
+    requires { ⌜ Mapping (now line) input prepared ⌝ }
     ensures { λ r. ⌜ Printed kbmOutput (now (line .entry)) input r ⌝ }
 {
     let mut out = [0u8; 24611];
-    let bytes = layout_kbm::parts::put_file(&mut out, mapping);
+    let bytes = layout_kbm::parts::put_file(&mut out, prepared);
     output::write_front(output::begin(), &out, bytes)
 }
 
@@ -45,11 +46,9 @@ fn print(line: &[u8], input: Input) -> Output
     requires { ⌜ LineRead (now line) input ⌝ }
     ensures { λ r. ⌜ Printed kbmOutput (now (line .entry)) input r ⌝ }
 {
-    match layout_table::parts::ask_line(&line[..input::kept(input)]) {
+    match line::layouts::ask_line(&line[..input::kept(input)]) {
         FoundAnswer::Refused(q) => print_refusal(line, input, q.number() as u16),
-        FoundAnswer::Given(found) => {
-            print_mapping(line, input, layout_kbm::parts::mapping_of(found))
-        }
+        FoundAnswer::Given(found) => print_mapping(line, input, prepared::prepare(found)),
     }
 }
 

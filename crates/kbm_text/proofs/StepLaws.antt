@@ -11,7 +11,7 @@ use Rattle.text.proofs.Writing.{wrote-none, wrote-one, wrote-as}
 use Rattle.answer.specs.Choice.{pick}
 use Rattle.kbm_text.specs.Kinds.{isCommentKind}
 use Rattle.kbm_text.specs.Reading.{due, fitsAt, agreesAt, keyAt}
-use Rattle.kbm_text.specs.Parts.{keyCount, moved, unless, nextScan, lineAfter, PutKey}
+use Rattle.kbm_text.specs.Parts.{keyCount, withLine, unless, nextScan, lineAfter, PutKey}
 use Rattle.kbm_text.specs.declared.kinds.Kind.{Kind}
 use Rattle.kbm_text.specs.declared.kinds.Kind.the-variants.{Number, Frequency, Mark, Comment, Other}
 use Rattle.kbm_text.specs.declared.scan.Scan.{Scan}
@@ -92,16 +92,16 @@ module _ (out : List ℕ) (spot : Spot) (kind : Kind) where
 module _ (octave : ℕ) (s : Scan) (kind : Kind) where
   pub next-comment : isCommentKind kind ≡ true → s ≡ nextScan octave s kind
   unfolding nextScan
-  next-comment e = sym (ap (λ (t : Bool). unless t s (moved octave s kind)) e)
+  next-comment e = sym (ap (λ (t : Bool). unless t s (withLine octave s kind)) e)
 
-  next-other : isCommentKind kind ≡ false → moved octave s kind ≡ nextScan octave s kind
+  next-other : isCommentKind kind ≡ false → withLine octave s kind ≡ nextScan octave s kind
   unfolding nextScan
-  next-other e = sym (ap (λ (t : Bool). unless t s (moved octave s kind)) e)
+  next-other e = sym (ap (λ (t : Bool). unless t s (withLine octave s kind)) e)
 
-  pub next-moved : isCommentKind kind ≡ false → (fits agrees : Bool) (keys : ℕ) {f a : Bool} → fits ≡ (s .fits && f) → f ≡ fitsAt (s .line) kind
+  pub next-with-line : isCommentKind kind ≡ false → (fits agrees : Bool) (keys : ℕ) {f a : Bool} → fits ≡ (s .fits && f) → f ≡ fitsAt (s .line) kind
       → agrees ≡ (s .agrees && a) → a ≡ agreesAt octave (s .line) kind → keys ≡ keyCount (s .line) kind
       → record { line = s .line + 1; fits = fits; agrees = agrees; keys = s .keys + keys } ≡ nextScan octave s kind
-  next-moved e fits agrees keys p f q a k =
+  next-with-line e fits agrees keys p f q a k =
       ap (λ (x : Bool). record { line = s .line + 1; fits = x; agrees = agrees; keys = s .keys + keys }) (p ∙ ap (λ (y : Bool). s .fits && y) f)
       ∙ ap (λ (x : Bool). record { line = s .line + 1; fits = s .fits && fitsAt (s .line) kind; agrees = x; keys = s .keys + keys }) (q ∙ ap (λ (y : Bool). s .agrees && y) a)
       ∙ ap (λ (x : ℕ). record { line = s .line + 1; fits = s .fits && fitsAt (s .line) kind; agrees = s .agrees && agreesAt octave (s .line) kind; keys = s .keys + x }) k

@@ -38,8 +38,8 @@ abbrev pub keyCount : ℕ → Kind → ℕ
 keyCount k kind = length (keyAt k kind)
 
 -- One line more, unless it is skipped.
-abbrev pub moved : ℕ → Scan → Kind → Scan
-moved octave s kind =
+abbrev pub withLine : ℕ → Scan → Kind → Scan
+withLine octave s kind =
     record {
       line = s .line + 1;
       fits = s .fits && fitsAt (s .line) kind;
@@ -52,7 +52,7 @@ unless true s t = s
 unless false s t = t
 
 unfoldable pub nextScan : ℕ → Scan → Kind → Scan
-nextScan octave s kind = unless (isCommentKind kind) s (moved octave s kind)
+nextScan octave s kind = unless (isCommentKind kind) s (withLine octave s kind)
 
 pub record Scanned (octave : ℕ) (text : List ℕ) (s : Scan) : Type 0 where
   pub count : length (said (lines text)) ≡ s .line

@@ -7,7 +7,9 @@ use Rattle.line.specs.declared.Line.{Line}
 use Rattle.line.specs.Lines.{lineOutcome}
 use Rattle.line.proofs.Enough.{later-bytes-ignored}
 use Rattle.streams.proofs.Enough.{first-line-is-enough}
-use Rattle.layout_table.specs.Tables.{layoutOn, getTable, outputOf, output}
+use Rattle.layout_table.specs.Tables.{getTable, output}
+use Rattle.line.specs.LineLayouts.{layoutOn}
+use Rattle.line.specs.Refusals.{outputOf}
 use Rattle.streams.specs.Reading.{LineIsEnough}
 
 output-by : (x y : List ℕ) → lineOutcome x ≡ lineOutcome y → output x ≡ output y

@@ -5,7 +5,8 @@
 // of `layout_table` bounds a line), so a small stack is enough. specs/: Printing states what the functions between ask for. Which bytes a
 // read hands over, and where written bytes go, rests on the kit's library.
 use layout::parts::FoundAnswer;
-use layout_table::parts::Table;
+use layout::prepared;
+use layout::prepared::Prepared;
 use streams::input;
 use streams::input::Input;
 use streams::lines;
@@ -15,12 +16,13 @@ use streams::words;
 ghost use Prim.Native.Nat.{_≤_, _<_};
 ghost use lib.ListN.{length};
 ghost use Rattle.text.specs.Writing.{joined};
+ghost use Rattle.layout.specs.Parts.{layoutIn};
 ghost use Rattle.layout_table.specs.Tables.{output};
 ghost use Rattle.layout_table.specs.Parts.{lineFrom};
 ghost use Rattle.streams.specs.Streams.{Written};
 ghost use Rattle.streams.specs.Reading.{LineRead, LineIsEnough};
 ghost use Rattle.streams.specs.Printing.{Printed};
-ghost use Rattle.key_table.specs.Printing.{Refusing, Ready, Lines};
+ghost use Rattle.key_table.specs.Printing.{Refusing, Tabling, Lines};
 
 // Writes the line of a refusal, and says that it is one.
 fn print_refusal(line: &[u8], input: Input, number: u16) -> Output
@@ -28,7 +30,7 @@ fn print_refusal(line: &[u8], input: Input, number: u16) -> Output
     ensures { λ r. ⌜ Printed output (now (line .entry)) input r ⌝ }
 {
     let mut out = [0u8; 16];
-    let bytes = layout_table::parts::put_refusal(&mut out, number);
+    let bytes = line::refusals::put_refusal(&mut out, number);
     let done = output::write_front(output::begin(), &out, bytes);
     words::say_refused();
     done
@@ -42,24 +44,25 @@ fn at_once(left: u16) -> u16
 }
 
 // Writes the lines of so many keys from a key on, by way of the buffer.
-fn print_lines(table: Table, from: u16, count: u16, past: Output, out: &mut [u8]) -> Output
-    requires { ⌜ Lines table from count × (65536 ≤ length (now out)) ⌝ }
-    ensures { λ r. ⌜ Written past (joined (lineFrom table from) count) r ⌝ }
+fn print_lines(prepared: Prepared, from: u16, count: u16, past: Output, out: &mut [u8]) -> Output
+    requires { ⌜ Lines prepared from count × (65536 ≤ length (now out)) ⌝ }
+    ensures { λ r. ⌜ Written past (joined (lineFrom (layoutIn prepared) from) count) r ⌝ }
 {
-    let bytes = layout_table::parts::put_lines(out, table, from, count);
+    let bytes = layout_table::parts::put_lines(out, prepared, from, count);
     output::write(past, &out[..bytes])
 }
 
 // Writes a table, so many lines at a time; it stops where a part is not taken.
-fn print_table(line: &[u8], input: Input, table: Table, out: &mut [u8]) -> Output
-    requires { ⌜ Ready (now line) input table × (65536 ≤ length (now out)) ⌝ }
+fn print_table(line: &[u8], input: Input, prepared: Prepared, out: &mut [u8]) -> Output
+    requires { ⌜ Tabling (now line) input prepared × (65536 ≤ length (now out)) ⌝ }
     ensures { λ r. ⌜ Printed output (now (line .entry)) input r ⌝ }
 {
+    let octave = prepared.found.octave;
     let mut done = output::begin();
     let mut from: u16 = 0;
-    while from < table.keys {
-        let count = at_once(table.keys - from);
-        done = print_lines(table, from, count, done, out);
+    while from < octave {
+        let count = at_once(octave - from);
+        done = print_lines(prepared, from, count, done, out);
         if !output::taken(done) {
             return done;
         }
@@ -74,11 +77,11 @@ fn print(line: &[u8], input: Input) -> Output
     requires { ⌜ LineRead (now line) input ⌝ }
     ensures { λ r. ⌜ Printed output (now (line .entry)) input r ⌝ }
 {
-    match layout_table::parts::ask_line(&line[..input::kept(input)]) {
+    match line::layouts::ask_line(&line[..input::kept(input)]) {
         FoundAnswer::Refused(q) => print_refusal(line, input, q.number() as u16),
         FoundAnswer::Given(found) => {
             let mut out = [0u8; 65536];
-            print_table(line, input, layout_table::parts::table_of(found), &mut out)
+            print_table(line, input, prepared::prepare(found), &mut out)
         }
     }
 }

@@ -5,15 +5,15 @@ use mathlib.Core.List.{List, map}
 use mathlib.Core.Path.{_≡_, refl, ap, _∙_}
 use native.Mathlib.Nat.{zero-add}
 use native.Mathlib.Omega.{arith}
-use lib.ListN.{length}
+use lib.ListN.{length, length-map}
 use Rattle.answer.specs.Outcome.{Outcome, given, refused, ask, andThen}
 use Rattle.answer.specs.Lent.{heldIn, Filled}
 use Rattle.answer.proofs.Lent.{held, not-held, filled-refused}
 use Rattle.text.specs.Writing.{Wrote}
 use Rattle.text.proofs.Writing.{filled-given}
-use Rattle.lamp_codes.specs.Codes.{isOld, wideCode, isConverted, oldCode, allOf}
+use Rattle.answer.specs.Tests.{allOf}
+use Rattle.lamp_codes.specs.Codes.{isOld, wideCode, isConverted, oldCode}
 use Rattle.lamp_codes.specs.Answers.{getWidened, getNarrowed}
-use Rattle.lamp_codes.proofs.Strips.{length-map}
 
 abbrev pub converting : (ℕ → Bool) → (ℕ → ℕ) → List ℕ → Outcome (List ℕ)
 converting test f strip = ask 17 (allOf test strip) (given (map f strip))
@@ -30,13 +30,13 @@ module _ (test : ℕ → Bool) (f : ℕ → ℕ) (strip xs : List ℕ) where
 
   pub no-room : allOf test strip ≡ true → length xs < length strip → Filled answer (refused 10) xs xs
   no-room e h =
-      filled-refused 10 xs (all-have e ∙ not-held (length xs) (map f strip) (omega (arith, h, length-map f strip))) refl
+      filled-refused 10 xs (all-have e ∙ not-held (length xs) (map f strip) (omega (arith, h, length-map strip f))) refl
 
   pub converted : {ys : List ℕ} {n : ℕ} → allOf test strip ≡ true → length strip ≤ length xs → Wrote xs 0 (map f strip) ys n
       → Filled answer (given n) xs ys
   converted e h w =
-      filled-given (all-have e ∙ held (length xs) (map f strip) (omega (arith, h, length-map f strip))) (ap given (w .end ∙ zero-add (length (map f strip))))
-      (omega (arith, h, length-map f strip)) w
+      filled-given (all-have e ∙ held (length xs) (map f strip) (omega (arith, h, length-map strip f))) (ap given (w .end ∙ zero-add (length (map f strip))))
+      (omega (arith, h, length-map strip f)) w
 
 pub widening : (strip : List ℕ) → converting isOld wideCode strip ≡ getWidened strip
 unfolding getWidened

@@ -9,7 +9,8 @@ use lib.Dec.{eqb, ltb}
 use borrow.Author.Tests.{ltb-true, eqb-true, eqb-false, eq-eqb}
 use Rattle.answer.specs.Outcome.{given, ask}
 use Rattle.answer.proofs.Asked.{given-same, asked-yes, asked-rest, and-left, and-right}
-use Rattle.lamp_codes.specs.Codes.{isOld, wideCode, isConverted, oldCode, allOf}
+use Rattle.answer.specs.Tests.{allOf}
+use Rattle.lamp_codes.specs.Codes.{isOld, wideCode, isConverted, oldCode}
 use Rattle.lamp_codes.specs.Answers.{getWidened, getNarrowed}
 use Rattle.lamp_codes.specs.Theorems.{Partners, RoundTrips}
 use Rattle.lamp_codes.proofs.Ranges.{wide-plain, wide-sharp, wide-flat, wide-last, old-plain, old-even, old-odd, old-last, test-low, test-high}

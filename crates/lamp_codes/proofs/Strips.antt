@@ -4,12 +4,12 @@ use mathlib.Core.Bool.{Bool, true, false, _&&_, and-false}
 use mathlib.Core.List.{List, [], _∷_, map}
 use mathlib.Core.Path.{_≡_, refl, sym, ap, ap₂, subst, _∙_}
 use native.Mathlib.Omega.{arith}
-use lib.ListN.{length, getD, take, set}
+use lib.ListN.{length, getD, take, set, length-map}
 use lib.Dec.{eqb}
+use Rattle.answer.specs.Tests.{allOf}
 use Rattle.text.specs.Writing.{Wrote}
-use Rattle.text.proofs.Copying.{copy-more}
+use Rattle.text.proofs.Copying.{copy-more, mapped-at}
 use borrow.Author.Tests.{eqb-true, eqb-false}
-use Rattle.lamp_codes.specs.Codes.{allOf}
 
 -- the first k elements pass
 abbrev pub Passed : (ℕ → Bool) → List ℕ → ℕ → Type 0
@@ -36,19 +36,9 @@ one-fails test (x ∷ xs) zero h e = ap (λ (b : Bool). b && allOf test xs) (sym
 one-fails test (x ∷ xs) (suc i) h e =
     sym (ap (λ (b : Bool). test x && b) (sym (one-fails test xs i (omega (arith, h)) e)) ∙ and-false (test x))
 
--- an element of the converted strip is the converted element
-pub length-map : (f : ℕ → ℕ) (xs : List ℕ) → length (map f xs) ≡ length xs
-length-map f [] = refl
-length-map f (x ∷ xs) = ap suc (length-map f xs)
-
-pub map-at : (f : ℕ → ℕ) (xs : List ℕ) (i : ℕ) → i < length xs → f (getD xs i 0) ≡ getD (map f xs) i 0
-map-at f [] i h = absurd (let z : ⊥ = omega (arith, h) in z)
-map-at f (x ∷ xs) zero h = refl
-map-at f (x ∷ xs) (suc i) h = map-at f xs i (omega (arith, h))
-
 -- one element more is converted
 pub convert-more : {xs ys : List ℕ} {at o x : ℕ} (f : ℕ → ℕ) (strip : List ℕ) (i : ℕ) → i < length strip → x ≡ f (getD strip i 0)
     → Wrote xs at (take i (map f strip)) ys o → Wrote xs at (take (i + 1) (map f strip)) (set ys o x) (o + 1)
 convert-more {xs} {ys} {at} {o} f strip i h e w =
-    subst (λ (y : ℕ). Wrote xs at (take (i + 1) (map f strip)) (set ys o y) (o + 1)) (sym (e ∙ map-at f strip i h))
-    (copy-more (map f strip) i (omega (arith, h, length-map f strip)) w)
+    subst (λ (y : ℕ). Wrote xs at (take (i + 1) (map f strip)) (set ys o y) (o + 1)) (sym (e ∙ sym (mapped-at f strip i 0 0 h)))
+    (copy-more (map f strip) i (omega (arith, h, length-map strip f)) w)

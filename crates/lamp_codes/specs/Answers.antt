@@ -2,7 +2,8 @@
 use Prim.Native.Nat.{ℕ}
 use mathlib.Core.List.{List, map}
 use Rattle.answer.specs.Outcome.{Outcome, given, ask}
-use Rattle.lamp_codes.specs.Codes.{isOld, wideCode, isConverted, oldCode, allOf}
+use Rattle.answer.specs.Tests.{allOf}
+use Rattle.lamp_codes.specs.Codes.{isOld, wideCode, isConverted, oldCode}
 
 -- "17 when an old strip holds a code from 202 to 254"
 unfoldable pub getWidened : List ℕ → Outcome (List ℕ)

@@ -1,8 +1,7 @@
 -- Lamp codes of one byte, and of two. One byte (document 01, "Lamps and book"): home 0, "natural 1, sharp k 2 + k, flat k 102 + k,
 -- enharmonic 255", with k below 100. Two (document 02, W-207): "home 0, natural 1, sharp k 2 + 2 × k, flat k 3 + 2 × k, enharmonic 65,535".
 use Prim.Native.Nat.{ℕ, _+_, _*_, _-_, _/_, _%_}
-use mathlib.Core.Bool.{Bool, true, _&&_, _||_}
-use mathlib.Core.List.{List, [], _∷_}
+use mathlib.Core.Bool.{Bool, _||_}
 use lib.Dec.{eqb, ltb}
 use Rattle.answer.specs.Choice.{pick}
 
@@ -26,8 +25,3 @@ unfoldable pub oldCode : ℕ → ℕ
 oldCode code =
     pick (ltb code 2) code
     (pick (ltb code 202) (pick (eqb (code % 2) 0) (2 + (code - 2) / 2) (102 + (code - 3) / 2)) 255)
-
--- A test passes on each element.
-abbrev pub allOf : (ℕ → Bool) → List ℕ → Bool
-allOf test [] = true
-allOf test (x ∷ xs) = test x && allOf test xs

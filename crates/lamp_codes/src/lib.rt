@@ -11,9 +11,10 @@ ghost use Prim.Native.Nat.{_≤_};
 ghost use lib.ListN.{length};
 ghost use Rattle.answer.specs.Outcome.{andThen};
 ghost use Rattle.answer.specs.Lent.{heldIn, Filled};
+ghost use Rattle.answer.specs.Tests.{allOf};
 ghost use Rattle.answer.specs.Refusals.{countOutcome};
 ghost use Rattle.text.specs.Writing.{Wrote};
-ghost use Rattle.lamp_codes.specs.Codes.{isOld, wideCode, isConverted, oldCode, allOf};
+ghost use Rattle.lamp_codes.specs.Codes.{isOld, wideCode, isConverted, oldCode};
 ghost use Rattle.lamp_codes.specs.Answers.{getWidened, getNarrowed};
 
 // ---- from one byte to two

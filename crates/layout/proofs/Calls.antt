@@ -7,21 +7,24 @@ use lib.ListN.{length}
 use Rattle.answer.specs.Outcome.{Outcome, given, refused, andThen}
 use Rattle.answer.specs.Lent.{heldIn, inRoom, counted, Filled}
 use Rattle.genchain.specs.declared.rows.ChainRow.{ChainRow}
-use Rattle.genchain.specs.Chains.{chainOf, rowOf, TableRow, lettersIn}
-use Rattle.genchain.proofs.TableRows.{table-row, row-letters}
+use Rattle.genchain.specs.Chains.{chainOf, rowOf}
 use Rattle.math.specs.Division.{remainder}
 use Rattle.notes.specs.Names.{nameText}
-use Rattle.notes.specs.Parts.{planText, Planned, Measured}
+use Rattle.notes.specs.Parts.{planText, Measured}
 use Rattle.notes.specs.declared.plans.NamePlan.{NamePlan}
 use Rattle.pergen.specs.declared.Accidentals.{Accidentals}
+use Rattle.pergen.specs.declared.stepping.Key.{Key}
+use Rattle.pergen.specs.Parts.{At}
 use Rattle.pergen.proofs.Keys.{key-round}
 use Rattle.layout.specs.Layouts.{Layout, layoutOutcome, accidentalsIn, sharpFirst}
 use Rattle.layout.specs.ScaleNames.{scaleName}
 use Rattle.layout.specs.Names.{nameIn}
 use Rattle.layout.specs.Answers.{ofLayout, createOutcome, getGenchain, getPergen, getMos, getAccidentals, getScaleName, getNoteName}
-use Rattle.layout.specs.Parts.{Laid}
+use Rattle.layout.specs.Parts.{layoutOf, Laid, layoutIn, Ready, PlannedIn}
 use Rattle.layout.specs.declared.IsomorphicLayout.{IsomorphicLayout}
-use Rattle.layout.proofs.Finding.{Parts, accepted, laid, chain-is}
+use Rattle.layout.specs.declared.parts.Found.{Found}
+use Rattle.layout.specs.declared.prepared.Prepared.{Prepared}
+use Rattle.layout.proofs.Finding.{Parts, accepted, chain-is}
 
 module _ {A : Type 0} (r : IsomorphicLayout) (next : Layout → Outcome A) where
   pub of-refused : (n : ℕ) → refused n ≡ layoutOutcome r → refused n ≡ ofLayout r next
@@ -41,6 +44,21 @@ module _ (r : IsomorphicLayout) (l : Layout) (e : given l ≡ layoutOutcome r) w
   -- the row that was read for the search is that of its chain
   pub row-found : (row : ChainRow) → row ≡ rowOf (chainOf (r .genchain)) → row ≡ rowOf (chainOf (l .chain))
   row-found row is = is ∙ ap (λ (code : ℕ). rowOf (chainOf code)) (sym (chain-is r l (sym e)))
+
+-- a planned name is the key's
+pub text-planned : (l : Layout) (key : ℤ) (plan : NamePlan) → PlannedIn l key plan → planText plan ≡ nameIn l key
+unfolding nameIn
+text-planned l key plan q = q .text
+
+-- the layout that was found, made ready
+module _ (r : IsomorphicLayout) (f : Found) (e : given (layoutOf f) ≡ layoutOutcome r) (p : Prepared) where
+  pub ready-given : p .found ≡ f → given (layoutIn p) ≡ layoutOutcome r
+  ready-given is = ap (λ (x : Found). given (layoutOf x)) is ∙ e
+
+  -- what the plan of a key's name asks
+  pub plan-asks : (row : ChainRow) → row ≡ rowOf (chainOf (r .genchain)) → Ready p × (p .found ≡ f) → (k : Key) → At (p .solved) k
+      → (row ≡ rowOf (chainOf (p .found .chain))) × Ready p × At (p .solved) k
+  plan-asks row is made k at = (row-found r (layoutIn p) (ready-given (made .1)) row is, made .0, at)
 
 -- ---- each call
 
@@ -113,34 +131,11 @@ module _ (r : IsomorphicLayout) (l : Layout) (e : given l ≡ layoutOutcome r) w
   name-given key = of-given r _ l e
 
   module _ (key : ℤ) (i : ℕ) (round : i ≡ remainder key (l .octave)) where
-    pub name-in-room : (room : ℕ) → heldIn room (nameIn l (pos i)) ≡ inRoom room (getNoteName r key)
-    name-in-room room =
-        ap (heldIn room) (same-name key i round) ∙ ap (λ (o : Outcome (List ℕ)). andThen o (heldIn room)) (name-given key)
+    pub name-held : (room : ℕ) → heldIn room (nameIn l (pos i)) ≡ inRoom room (getNoteName r key)
+    name-held room = ap (heldIn room) (same-name key i round) ∙ ap (inRoom room) (name-given key)
 
-    pub name-count : (n : ℕ) → n ≡ length (nameIn l (pos i)) → given n ≡ counted (getNoteName r key)
-    name-count n q = ap given (q ∙ ap length (same-name key i round)) ∙ ap counted (name-given key)
-
--- ---- names along the letters of the chain's row
-
-module _ (l : Layout) (h : Laid l) (row : ChainRow) (is : row ≡ rowOf (chainOf (l .chain))) where
-  pub row-of-layout : TableRow row
-  row-of-layout = table-row (l .chain) row (laid l h .chain) is
-
-  -- the plan of a key's spellings is that of the layout's
-  pub plan-of-layout : (key : ℤ) (a : Accidentals) → a ≡ accidentalsIn l key → (p : NamePlan) → Planned (lettersIn row) (sharpFirst l) a p
-      → Planned (chainOf (l .chain) .letters) (sharpFirst l) (accidentalsIn l key) p
-  plan-of-layout key a q p planned =
-      subst (λ (x : List ℕ). Planned x (sharpFirst l) (accidentalsIn l key) p) (row-letters row (table-row (l .chain) row (laid l h .chain) is))
-      (subst (λ (x : Accidentals). Planned (lettersIn row) (sharpFirst l) x p) q planned)
-
--- a planned name is the key's, and has the length that was measured
-module _ (l : Layout) (key : ℤ) (p : NamePlan) (q : Planned (chainOf (l .chain) .letters) (sharpFirst l) (accidentalsIn l key) p) where
-  pub planned-text : planText p ≡ nameIn l key
-  unfolding nameIn
-  planned-text = q .text
-
-  pub planned-length : (n : ℕ) → Measured p n → n ≡ length (nameIn l key)
-  planned-length n m = m .length-is ∙ ap length planned-text
+    pub name-measured : (n : ℕ) → n ≡ length (nameIn l (pos i)) → given n ≡ counted (getNoteName r key)
+    name-measured n q = ap given (q ∙ ap length (same-name key i round)) ∙ ap counted (name-given key)
 
 -- a text that is held, said otherwise
 pub filled-as : {o p : Outcome (List ℕ)} {a : Outcome ℕ} {xs ys : List ℕ} → o ≡ p → Filled o a xs ys → Filled p a xs ys

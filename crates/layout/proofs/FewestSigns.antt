@@ -218,38 +218,34 @@ module _ (l : Layout) (a : Parts l) (key : ℤ) where
 
   -- ---- two names
 
-  -- the sharp spelling has the least number of sharps, the flat one of flats, and there is one least number
+  -- of one kind of sign, a spelling with the fewest has the least number, and there is one least number
+  module _ (kind : ℕ → Signs) (x : Spelling) (n : ℕ) (h : Sounding l key x) (is : x .signs ≡ kind n)
+      (few : (i k s : ℕ) → Sounding l key (spelt i (kind k) s) → n ≤ k) where
+    few-of : (y : Spelling) (k : ℕ) → Sounding l key y → y .signs ≡ kind k → n ≤ k
+    few-of y k s q = few (y .index) k (y .stars) (subst (λ (z : Signs). Sounding l key (spelt (y .index) z (y .stars))) q s)
+
+    least-of : (k : ℕ) → k ≡ n → Least l key kind k
+    least-of k e = record { some = (x, h, is ∙ ap kind (sym e)); least = λ y m s q. omega (arith, few-of y m s q) }
+
+    least-is : (k : ℕ) → Least l key kind k → k ≡ n
+    least-is k t = le-antisymm (t .least x n h is) (few-of (t .some .0) k (t .some .1) (t .some .2))
+
+  -- the sharp spelling has the least number of sharps, the flat one of flats
   least-sharps : (k : ℕ) → k ≡ sharps → Least l key Sharps k
   unfolding sharpSpelling
-  least-sharps k e =
-      record {
-        some = (sharpSpelling both, sharp-sounding, ap Sharps (sym e));
-        least = λ x m h q. omega (arith, by (x .index) (x .signs) (x .stars) h m q);
-      }
-    where
-      by : (i : ℕ) (g : Signs) (s : ℕ) → Sounding l key (spelt i g s) → (m : ℕ) → g ≡ Sharps m → sharps ≤ m
-      by i g s h m q = sharps-least i m s (subst (λ (z : Signs). Sounding l key (spelt i z s)) q h)
+  least-sharps = least-of Sharps (sharpSpelling both) sharps sharp-sounding refl sharps-least
 
   least-flats : (k : ℕ) → k ≡ flats → Least l key Flats k
   unfolding flatSpelling
-  least-flats k e =
-      record {
-        some = (flatSpelling both, flat-sounding, ap Flats (sym e));
-        least = λ x m h q. omega (arith, by (x .index) (x .signs) (x .stars) h m q);
-      }
-    where
-      by : (i : ℕ) (g : Signs) (s : ℕ) → Sounding l key (spelt i g s) → (m : ℕ) → g ≡ Flats m → flats ≤ m
-      by i g s h m q = flats-least i m s (subst (λ (z : Signs). Sounding l key (spelt i z s)) q h)
+  least-flats = least-of Flats (flatSpelling both) flats flat-sounding refl flats-least
 
   sharps-are : (k : ℕ) → Least l key Sharps k → k ≡ sharps
   unfolding sharpSpelling
-  sharps-are k h =
-      le-antisymm (h .least _ _ sharp-sounding refl) (least-sharps sharps refl .least (h .some .0) k (h .some .1) (h .some .2))
+  sharps-are = least-is Sharps (sharpSpelling both) sharps sharp-sounding refl sharps-least
 
   flats-are : (k : ℕ) → Least l key Flats k → k ≡ flats
   unfolding flatSpelling
-  flats-are k h =
-      le-antisymm (h .least _ _ flat-sounding refl) (least-flats flats refl .least (h .some .0) k (h .some .1) (h .some .2))
+  flats-are = least-is Flats (flatSpelling both) flats flat-sounding refl flats-least
 
   equally-many : sharps ≡ flats → 0 < sharps → EquallyMany l key
   equally-many p q = (sharps, omega arith, least-sharps sharps refl, least-flats sharps p)

@@ -13,9 +13,9 @@ use borrow.Author.Tests.{eqb-true}
 use Rattle.math.specs.Gcd.{gcd}
 use Rattle.math.proofs.Gcd.{gcd-is}
 use Rattle.mos.specs.declared.Mos.{Mos}
-use Rattle.mos.specs.Patterns.{primary, secondary, countOf, sizeOf, genesis}
+use Rattle.mos.specs.Patterns.{primaries, secondaries, primary, secondary, countOf, sizeOf, genesis}
 use Rattle.mos.specs.Walks.{children, firstWith}
-use Rattle.mos.proofs.Descent.{child-at, child-steps, child-keeps-size}
+use Rattle.mos.proofs.Descent.{child-at, child-counts, child-steps, child-keeps-size}
 use Rattle.mos.proofs.Theorems.{walk-keeps, child-keeps, letters-fit, genesis-size}
 use Rattle.pergen.specs.Pergen.{cycles, reduced}
 use Rattle.pergen.proofs.Inverse.{cycles-positive}
@@ -43,6 +43,13 @@ steps-above P G k m e h =
     ⊎-elim (λ (s : countOf m ≤ 2). absurd (let z : ⊥ = omega arith in z)) (λ (s : (0 < primary m) × (0 < secondary m)). s)
     (walk-keeps (λ x. (countOf x ≤ 2) ⊎ ((0 < primary x) × (0 < secondary x))) (λ x c f h. inr (child-steps (child-at f))) k (genesis P G) m e
     (inl (le-refl 2)))
+
+-- counts never fall, so both are above 0
+pub counts-above : (P G k : ℕ) (m : Mos) → getElem? (children (genesis P G)) k ≡ some m → (0 < primaries m) × (0 < secondaries m)
+counts-above P G k m e =
+    walk-keeps (λ x. (0 < primaries x) × (0 < secondaries x))
+    (λ x c f h. (omega (arith, h .0, child-counts (child-at f)), omega (arith, h .1, child-counts (child-at f))))
+    k (genesis P G) m e (omega arith, omega arith)
 
 pub walk-size : (P G k : ℕ) (m : Mos) → 0 < P → getElem? (children (genesis P G)) k ≡ some m → sizeOf m ≡ P
 walk-size P G k m h e =

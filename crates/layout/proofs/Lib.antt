@@ -5,6 +5,7 @@ pub mod Steps
 pub mod Calls
 pub mod Naming
 pub mod FewestSigns
+pub mod Readiness
 pub mod SoundedKeys
 pub mod Examples
 pub mod KeyZero

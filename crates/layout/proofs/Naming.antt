@@ -1,6 +1,6 @@
 -- Which keys spellings and names mean, in an accepted layout: pergen's theorems for its period and generator, and the reading of names.
 use Prim.Native.Nat.{ℕ, _<_}
-use mathlib.Core.Path.{_≡_, sym, ap, ap₂, _∙_, subst}
+use mathlib.Core.Path.{_≡_, refl, sym, ap, ap₂, _∙_, subst}
 use mathlib.Core.Logic.{_⊎_, inl, inr}
 use mathlib.Core.List.{List, [], _∷_, List·Memᴰ, List·Memᴰ·not-nil}
 use native.Mathlib.Omega.{arith}
@@ -51,34 +51,30 @@ module _ (l : Layout) (a : Parts l) (i : ℤ) where
   unfolding accidentalsIn keyAccidentals
   cycle-is = cycle-kept (reducedIn l) (l .letters) (l .start) (keyDegree (l .octave) (l .generator) i) (cycleIn l i)
 
-  -- both spellings of the key: letters of the chain, its stars, and they sound it
+  -- a spelling with that cycle as stars is the key's, where it has a letter of the chain and sounds the key
+  sound : (x : Spelling) → x .stars ≡ starsOf ((accidentalsIn l i) .cycle) → x .index < l .letters → keyOf l x ≡ remainder i (l .octave)
+      → SoundsKey l i x
+  unfolding accidentalsIn
+  sound x s letter sounds =
+      let key-stars = stars-are (l .octave) (l .generator) (l .letters) (l .start) i (a .positive) (a .start-below) in
+      record {
+        spelling = record { letter = letter; stars = stars-below (x .stars) (s ∙ key-stars) };
+        stars = s ∙ ap starsOf cycle-is;
+        sounds = sounds;
+      }
+
+  -- both spellings of the key are such
   pub sharp-sound : SoundsKey l i (sharpSpelling (accidentalsIn l i))
   unfolding keyOf accidentalsIn sharpSpelling
   sharp-sound =
       let t = accidentals-sound-their-key (l .octave) (l .generator) (l .letters) (l .start) i (a .positive) (a .start-below) in
-      record {
-        spelling =
-            record {
-              letter = t .2 .0;
-              stars = stars-below _ (stars-are (l .octave) (l .generator) (l .letters) (l .start) i (a .positive) (a .start-below));
-            };
-        stars = ap starsOf cycle-is;
-        sounds = t .1 .0;
-      }
+      sound (sharpSpelling (accidentalsIn l i)) refl (t .2 .0) (t .1 .0)
 
   pub flat-sound : SoundsKey l i (flatSpelling (accidentalsIn l i))
   unfolding keyOf accidentalsIn flatSpelling
   flat-sound =
       let t = accidentals-sound-their-key (l .octave) (l .generator) (l .letters) (l .start) i (a .positive) (a .start-below) in
-      record {
-        spelling =
-            record {
-              letter = t .2 .1;
-              stars = stars-below _ (stars-are (l .octave) (l .generator) (l .letters) (l .start) i (a .positive) (a .start-below));
-            };
-        stars = ap starsOf cycle-is;
-        sounds = t .1 .1;
-      }
+      sound (flatSpelling (accidentalsIn l i)) refl (t .2 .1) (t .1 .1)
 
   printed-sound : (x : Spelling) → List·Memᴰ x (printed (sharpFirst l) (accidentalsIn l i)) → SoundsKey l i x
   printed-sound x m = by (spellings-in-a-name-are-the-keys (sharpFirst l) (accidentalsIn l i) .each x m)

@@ -1,18 +1,21 @@
--- What is known of an accepted layout's pattern: its N steps are above 0 and fill the octave, and their divisor is the number of cycles.
+-- What is known of an accepted layout's pattern: its N steps, some of each kind, are above 0 and fill the octave, and their divisor is the
+-- number of cycles.
 use Prim.Native.Nat.{ℕ, _/_, _<_, _≤_}
 use mathlib.Core.Path.{_≡_, sym, ap₂, _∙_, subst}
 use native.Mathlib.Omega.{arith}
 use Rattle.math.proofs.Gcd.{gcd-positive, gcd-or-one}
 use Rattle.genchain.proofs.GoodChains.{chains-are-good}
-use Rattle.mos.specs.Patterns.{primary, secondary, countOf, sizeOf, genesis, cyclesOf, reducedSizeOf}
+use Rattle.mos.specs.Patterns.{primaries, secondaries, primary, secondary, countOf, sizeOf, genesis, cyclesOf, reducedSizeOf}
 use Rattle.mos.specs.Walks.{children}
 use Rattle.pergen.specs.Pergen.{cycles, reduced}
 use Rattle.layout.specs.Layouts.{Layout, cyclesIn, reducedIn}
 use Rattle.layout.proofs.Finding.{Parts}
-use Rattle.layout.proofs.Keys.{first-at, steps-above, walk-size, walk-divisor, genesis-divisor, enough}
+use Rattle.layout.proofs.Keys.{first-at, counts-above, steps-above, walk-size, walk-divisor, genesis-divisor, enough}
 
 pub record PatternShape (l : Layout) : Type 0 where
   pub letters : countOf (l .pattern) ≡ l .letters
+  pub some-primaries : 0 < primaries (l .pattern)
+  pub some-secondaries : 0 < secondaries (l .pattern)
   pub primary-above : 0 < primary (l .pattern)
   pub secondary-above : 0 < secondary (l .pattern)
   pub size : sizeOf (l .pattern) ≡ l .octave
@@ -40,6 +43,8 @@ pattern-shape l a =
     ∙ genesis-divisor P G (a .positive) in
     record {
       letters = at .2;
+      some-primaries = counts-above P G (at .0) m (at .1) .0;
+      some-secondaries = counts-above P G (at .0) m (at .1) .1;
       primary-above = above .0;
       secondary-above = above .1;
       size = whole;

@@ -1,11 +1,13 @@
 // Layouts of the six chains, after `IsomorphicLayout` and `Genchain::create_layout` in src/layout.rs of the original.
 //
-// Holds making a layout from chain code, octave, tritave and start, its pergen and pattern, a spelling's key, and spellings and names of its
-// keys (document 01, "The six chains", "Pergen and spelling", "Step patterns"). `layout_scale_names` has the name of its scale.
+// Holds making a layout from chain code, octave, tritave and start, its pergen and pattern, a spelling's key, and spellings and names of
+// its keys (document 01, "The six chains", "Pergen and spelling", "Step patterns"). `layout_scale_names` has the name of its scale.
 // specs/: Layouts, ScaleNames and Names define, Answers says what each call answers, in `layout_scale_names` too, Theorems what a reader
-// of key names may rely on, FewestSigns that no spelling is simpler. A layout holds only the four numbers that a caller chose; each call asks questions 1 to 4 and 18 of them again.
+// of key names may rely on, FewestSigns that no spelling is simpler. A layout holds only the four numbers that a caller chose; each call
+// asks questions 1 to 4 and 18 of them again.
 // Every entry point answers every input; the modules of parts ask for more, as their heads say. Nothing is assumed.
 pub mod parts;
+pub mod prepared;
 
 use answer::CountAnswer;
 use answer::NumberAnswer;
@@ -138,7 +140,7 @@ impl IsomorphicLayout {
                 // from the beginning: nothing then waits for the walk to the pattern
                 let solved = euclid::solve(found.octave, found.generator);
                 let index = math::parts::rem_u16(key, found.octave);
-                AccidentalsAnswer::Given(parts::spelled(
+                AccidentalsAnswer::Given(prepared::spelled(
                     solved,
                     found.num_letters,
                     found.start,
@@ -157,7 +159,7 @@ impl IsomorphicLayout {
             FoundAnswer::Refused(q) => CountAnswer::Refused(q),
             FoundAnswer::Given(found) => {
                 let index = math::parts::rem_u16(key, found.octave);
-                CountAnswer::Given(parts::name_length(row, found, index))
+                CountAnswer::Given(prepared::name_length(row, found, index))
             }
         }
     }
@@ -171,7 +173,7 @@ impl IsomorphicLayout {
             FoundAnswer::Refused(q) => CountAnswer::Refused(q),
             FoundAnswer::Given(found) => {
                 let index = math::parts::rem_u16(key, found.octave);
-                parts::write_name(row, found, index, out)
+                prepared::write_name(row, found, index, out)
             }
         }
     }

@@ -1,3 +1,12 @@
+pub mod NameBounds
+pub mod ReadyNumbers
+pub mod Turning
+pub mod Rounds
+pub mod BareNames
+pub mod LettersRead
+pub mod BareLengths
+pub mod PlacesAlong
+pub mod NamesLength
 pub mod Reciprocal
 pub mod SpelledPlaces
 pub mod Due

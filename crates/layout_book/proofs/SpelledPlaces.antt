@@ -6,7 +6,7 @@ use native.Mathlib.Nat.{mod-lt, mod-eq-of-lt, div-eq-of-lt, div-add-mod', mul-co
 use native.Mathlib.Omega.{arith}
 use Rattle.pergen.specs.declared.Cycle.{Cycle}
 use Rattle.pergen.specs.Spelling.{byCoordinates}
-use Rattle.layout_speller.specs.Parts.{flatBeside}
+use Rattle.layout_book.specs.Parts.{flatBeside}
 
 pub rounds-below : (N x : ℕ) {q : ℕ} → q ≡ x / N → N * q ≤ x
 rounds-below N x {q} e = omega (arith, ap (λ (y : ℕ). N * y) e, mul-comm N (x / N), div-add-mod' x N)

@@ -3,15 +3,16 @@
 // Holds how long the book of an octave's key names is, and its writing into a lent slice; the crate `book` reads it.
 // specs/: LayoutBooks defines the book and what each call answers, Theorems says that every offset and length fits 32 bits
 // and that a written book is read back, name for name.
-// `parts` plans each degree's name once; the crate `layout_speller` measures the names. Every entry point answers every input.
-// Nothing is assumed.
+// `parts` plans each degree's name once; `lengths` measures an octave's names together, for the book and for the key table. Every entry
+// point answers every input. Nothing is assumed.
+pub mod lengths;
 pub mod parts;
 
 use answer::CountAnswer;
 use genchain::rows;
 use layout::IsomorphicLayout;
 use layout::parts::FoundAnswer;
-use layout_speller::speller;
+use layout::prepared;
 ghost use mathlib.Core.Path.{_≡_};
 ghost use lib.ListN.{length};
 ghost use Rattle.answer.specs.Lent.{inRoom, counted, Filled};
@@ -25,10 +26,9 @@ pub fn book_len(layout: IsomorphicLayout) -> CountAnswer
     let row = rows::row(layout.genchain);
     match layout::parts::ask_with_row(layout, row) {
         FoundAnswer::Refused(q) => CountAnswer::Refused(q),
-        FoundAnswer::Given(found) => CountAnswer::Given(parts::book_length(
-            speller::speller_of(row, found),
-            found.octave,
-        )),
+        FoundAnswer::Given(found) => {
+            CountAnswer::Given(parts::book_length(prepared::prepare(found), row))
+        }
     }
 }
 
@@ -39,10 +39,6 @@ pub fn write_book(layout: IsomorphicLayout, out: &mut [u8]) -> CountAnswer
     let row = rows::row(layout.genchain);
     match layout::parts::ask_with_row(layout, row) {
         FoundAnswer::Refused(q) => CountAnswer::Refused(q),
-        FoundAnswer::Given(found) => parts::write_names(
-            speller::speller_of(row, found),
-            found.octave,
-            out,
-        ),
+        FoundAnswer::Given(found) => parts::write_names(prepared::prepare(found), row, out),
     }
 }

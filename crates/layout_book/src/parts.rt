@@ -1,12 +1,12 @@
-// A layout's book: parts, and no entry points. Callers have asked questions 1 to 4 and 18, and 10 before they write.
+// A layout's book: parts, and no entry points. Callers have an accepted layout, made ready, and the row of its chain; they have asked
+// question 10 before they write.
 //
 // The names are written turn by turn, each degree's planned once for all cycles.
+use crate::lengths;
 use answer::CountAnswer;
 use answer::Refusal;
-use layout_speller::lengths;
-use layout_speller::speller::Speller;
-use layout_speller::speller::cycle_at;
-use notes::plans;
+use genchain::rows::ChainRow;
+use layout::prepared::Prepared;
 use notes::plans::NamePlan;
 use notes::texts;
 use pergen::Accidentals;
@@ -15,29 +15,31 @@ use pergen::stepping;
 use text::little_endian::put_u32;
 ghost use mathlib.Core.Path.{_≡_};
 ghost use Prim.Native.Nat.{_+_, _*_, _/_, _<_, _≤_};
-ghost use mathlib.Core.List.{_++_};
 ghost use lib.ListN.{length};
 ghost use Rattle.answer.specs.Lent.{heldIn, Filled};
 ghost use Rattle.answer.specs.Refusals.{countOutcome};
 ghost use Rattle.text.specs.Writing.{Room, Wrote, joined};
-ghost use Rattle.book.specs.Books.{pairText, bookText};
+ghost use Rattle.genchain.specs.Chains.{chainOf, rowOf};
+ghost use Rattle.layout.specs.Parts.{layoutIn, Ready};
 ghost use Rattle.notes.specs.Parts.{starredText, ShortLetters};
 ghost use Rattle.pergen.specs.Spelling.{byCoordinates};
-ghost use Rattle.layout_speller.specs.Parts.{Sound, nameOf, flatBeside};
+ghost use Rattle.layout_book.specs.LayoutBooks.{bookIn};
 ghost use Rattle.layout_book.specs.Parts.{
-  Reciprocal,
+  flatBeside,
   numbersText,
+  entriesIn,
+  Reciprocal,
   starredPair,
   CyclesFit,
   Beside,
 };
 
 // How many bytes the book of an octave's keys has.
-pub(crate) fn book_length(speller: Speller, keys: u16) -> usize
-    requires { ⌜ Sound speller × (keys ≡ speller .solved .«reduced_period» * speller .solved .«num_cycles») ⌝ }
-    ensures { λ r. ⌜ r ≡ length (bookText (nameOf speller) keys) ⌝ }
+pub(crate) fn book_length(prepared: Prepared, row: ChainRow) -> usize
+    requires { ⌜ (row ≡ rowOf (chainOf (prepared .found .chain))) × Ready prepared ⌝ }
+    ensures { λ r. ⌜ r ≡ length (bookIn (layoutIn prepared)) ⌝ }
 {
-    4 + 8 * (keys as usize) + lengths::names_length(speller)
+    4 + 8 * (prepared.found.octave as usize) + lengths::names_length(prepared, row)
 }
 
 // An offset and a length; the place after them.
@@ -109,27 +111,24 @@ fn spelled_place(
 
 // The pairs and the names of an octave's keys, side by side. A degree's name is planned once for all cycles; its place along the
 // chain is carried from turn to turn. The place after the last name.
-fn put_entries(out: &mut [u8], speller: Speller, keys: u16) -> usize
-    requires { ⌜ Sound speller × (keys ≡ speller .solved .«reduced_period» * speller .solved .«num_cycles») × Room (now out) 4 (joined (pairText (nameOf speller) keys) keys ++ joined (nameOf speller) keys) ⌝ }
-    ensures { λ r. ⌜ Wrote (now (out .entry)) 4 (joined (pairText (nameOf speller) keys) keys ++ joined (nameOf speller) keys) (now (out .exit)) r ⌝ }
+fn put_entries(out: &mut [u8], prepared: Prepared, row: ChainRow) -> usize
+    requires { ⌜ (row ≡ rowOf (chainOf (prepared .found .chain))) × Ready prepared × Room (now out) 4 (entriesIn (layoutIn prepared)) ⌝ }
+    ensures { λ r. ⌜ Wrote (now (out .entry)) 4 (entriesIn (layoutIn prepared)) (now (out .exit)) r ⌝ }
 {
-    let row = speller.row;
-    let code_points = row.letters;
-    let letters = row.num_letters;
+    let found = prepared.found;
+    let solved = prepared.solved;
+    let letters = found.num_letters;
     let reciprocal = 2147483648 / (letters as u32) + 1;
-    let solved = speller.solved;
     let cycles = solved.num_cycles;
     let degrees = solved.reduced_period;
-    let cycle = cycle_at(cycles, 0);
+    let cycle = lengths::first_cycle(solved);
     let mut pair: usize = 4;
-    let mut text = 4 + 8 * (keys as usize);
-    let mut place = speller.start;
+    let mut text = 4 + 8 * (found.octave as usize);
+    let mut place = found.start;
     let mut turn: u16 = 0;
     while turn < degrees {
         let spelled = spelled_place(cycle, letters, reciprocal, degrees, place);
-        let sharp = code_points[spelled.sharp_index as usize];
-        let flat = code_points[spelled.flat_index as usize];
-        let plan = plans::plan_letters(sharp, flat, spelled, speller.sharp_first);
+        let plan = lengths::plan_spelled(prepared, row, spelled);
         text = put_cycles(out, plan, cycles, pair, text);
         pair += 8 * (cycles as usize);
         place = stepping::next_degree(solved, place);
@@ -139,23 +138,23 @@ fn put_entries(out: &mut [u8], speller: Speller, keys: u16) -> usize
 }
 
 // The count, the pairs and the names of an octave's keys; the place after them.
-fn put_book(out: &mut [u8], speller: Speller, keys: u16) -> usize
-    requires { ⌜ Sound speller × (keys ≡ speller .solved .«reduced_period» * speller .solved .«num_cycles») × Room (now out) 0 (bookText (nameOf speller) keys) ⌝ }
-    ensures { λ r. ⌜ Wrote (now (out .entry)) 0 (bookText (nameOf speller) keys) (now (out .exit)) r ⌝ }
+fn put_book(out: &mut [u8], prepared: Prepared, row: ChainRow) -> usize
+    requires { ⌜ (row ≡ rowOf (chainOf (prepared .found .chain))) × Ready prepared × Room (now out) 0 (bookIn (layoutIn prepared)) ⌝ }
+    ensures { λ r. ⌜ Wrote (now (out .entry)) 0 (bookIn (layoutIn prepared)) (now (out .exit)) r ⌝ }
 {
-    put_u32(out, 0, keys as u32);
-    put_entries(out, speller, keys)
+    put_u32(out, 0, prepared.found.octave as u32);
+    put_entries(out, prepared, row)
 }
 
 // The book of an octave's keys at the front of a slice that holds it (10).
-pub(crate) fn write_names(speller: Speller, keys: u16, out: &mut [u8]) -> CountAnswer
-    requires { ⌜ Sound speller × (keys ≡ speller .solved .«reduced_period» * speller .solved .«num_cycles») ⌝ }
-    ensures { λ r. ⌜ Filled (heldIn (length (now (out .entry))) (bookText (nameOf speller) keys)) (countOutcome r) (now (out .entry)) (now (out .exit)) ⌝ }
+pub(crate) fn write_names(prepared: Prepared, row: ChainRow, out: &mut [u8]) -> CountAnswer
+    requires { ⌜ (row ≡ rowOf (chainOf (prepared .found .chain))) × Ready prepared ⌝ }
+    ensures { λ r. ⌜ Filled (heldIn (length (now (out .entry))) (bookIn (layoutIn prepared))) (countOutcome r) (now (out .entry)) (now (out .exit)) ⌝ }
 {
-    let bytes = book_length(speller, keys);
+    let bytes = book_length(prepared, row);
     if out.len() < bytes {
         return CountAnswer::Refused(Refusal::Room);
     }
-    put_book(out, speller, keys);
+    put_book(out, prepared, row);
     CountAnswer::Given(bytes)
 }

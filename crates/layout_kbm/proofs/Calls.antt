@@ -1,5 +1,5 @@
--- From what was asked to what the calls answer: the file of a layout's plan is its mapping, and one law for each way in which a call ends.
-use Prim.Native.Nat.{ℕ, _+_, _*_, _/_, _%_, _≤_}
+-- From what was asked to what the calls answer: the parts of a mapping, and one law for each way in which a call ends.
+use Prim.Native.Nat.{ℕ, _+_, _*_, _≤_}
 use native.Mathlib.Omega.{arith}
 use mathlib.Core.Bool.{Bool, true}
 use mathlib.Core.Path.{_≡_, refl, sym, ap, _∙_}
@@ -11,25 +11,16 @@ use Rattle.answer.specs.Outcome.{Outcome, given, refused, andThen}
 use Rattle.answer.specs.Lent.{heldIn, inRoom, counted}
 use Rattle.text.specs.Writing.{joined}
 use Rattle.text.proofs.Joined.{joined-none, joined-same, length-joined-more}
-use Rattle.pergen.specs.Parts.{solvedOf, At}
-use Rattle.pergen.specs.declared.euclid.Solved.{Solved}
-use Rattle.pergen.specs.declared.stepping.Step.{Step}
-use Rattle.pergen.proofs.CarriedWalk.{walkable}
 use Rattle.layout.specs.declared.IsomorphicLayout.{IsomorphicLayout}
 use Rattle.layout.specs.Layouts.{Layout, layoutOutcome}
-use Rattle.layout.specs.Parts.{Laid}
 use Rattle.layout.proofs.Calls.{of-refused, of-given}
-use Rattle.layout.proofs.Finding.{laid}
-use Rattle.layout_layers.specs.declared.parts.Plan.{Plan}
-use Rattle.layout_layers.specs.Parts.{inverseOf, planNumber, PlanOf}
-use Rattle.layout_layers.proofs.PlanLaws.{number-is}
+use Rattle.layout_layers.specs.KeyLayers.{numberIn}
 use Rattle.kbm_text.specs.Reading.{readOutcome, readIn}
 use Rattle.kbm_text.specs.Written.{headText, entryLine, kbmText}
 use Rattle.kbm_text.specs.Parts.{LengthUpTo}
 use Rattle.kbm_text.proofs.LineByLine.{mappings-fit}
-use Rattle.layout_kbm.specs.declared.parts.Mapping.{Mapping}
 use Rattle.layout_kbm.specs.Mappings.{natural, mappingIn, getKbm, getMappedKeys}
-use Rattle.layout_kbm.specs.Parts.{Sound, isMapped, entryOf, fileOf, MappingOf}
+use Rattle.layout_kbm.specs.Parts.{entryIn}
 
 -- ---- the file of a mapping
 
@@ -40,60 +31,25 @@ same-choice octave f g e =
     ap (λ (t : List ℕ). headText octave ++ t)
     (joined-same (λ key. entryLine key (f key)) (λ key. entryLine key (g key)) octave (λ key h. ap (entryLine key) (e key)))
 
-module _ (m : Mapping) where
-  pub file-parts : fileOf m ≡ headText (m .keys) ++ joined (entryOf m) (m .keys)
-  unfolding fileOf kbmText entryOf
+module _ (l : Layout) where
+  pub file-parts : mappingIn l ≡ headText (l .octave) ++ joined (entryIn l) (l .octave)
+  unfolding mappingIn kbmText entryIn
   file-parts = refl
 
-  pub file-length : length (fileOf m) ≡ length (headText (m .keys)) + length (joined (entryOf m) (m .keys))
-  file-length = ap length file-parts ∙ length-append (headText (m .keys)) (joined (entryOf m) (m .keys))
+  pub file-length : length (mappingIn l) ≡ length (headText (l .octave)) + length (joined (entryIn l) (l .octave))
+  file-length = ap length file-parts ∙ length-append (headText (l .octave)) (joined (entryIn l) (l .octave))
 
-  pub entry-is : (key : ℕ) (b : Bool) → b ≡ isMapped m key → entryLine key b ≡ entryOf m key
-  unfolding entryOf
+  pub entry-is : (key : ℕ) (b : Bool) → b ≡ natural l key → entryLine key b ≡ entryIn l key
+  unfolding entryIn
   entry-is key b e = ap (entryLine key) e
 
-  pub mapped-by : (key number : ℕ) → number ≡ planNumber (m .plan) key → eqb number 0 ≡ isMapped m key
-  unfolding isMapped
-  mapped-by key number e = ap (λ (n : ℕ). eqb n 0) e
+  pub natural-by : (key number : ℕ) → number ≡ numberIn l key → eqb number 0 ≡ natural l key
+  unfolding natural
+  natural-by key number e = ap (λ (n : ℕ). eqb n 0) e
 
-  pub surely-held : (room : ℕ) → m .keys ≤ 65535 → 6 * m .keys + 35 ≤ room → true ≡ leb (length (fileOf m)) room
-  unfolding fileOf
-  surely-held room few h = sym (le-leb (length (fileOf m)) room (omega (arith, mappings-fit (m .keys) (isMapped m) few, h)))
-
--- ---- the mapping of a layout
-
-module _ (l : Layout) (ok : Laid l) (s : Solved) (is : s ≡ solvedOf (l .octave) (l .generator)) (p : Plan) (w : PlanOf l p) where
-  abbrev made : Mapping
-  made = record { plan = p; solved = s; keys = l .octave }
-
-  sound : Sound made
-  unfolding solvedOf
-  sound =
-      record {
-        layers = w .sound;
-        walkable = walkable (l .octave) (l .generator) (laid l ok .positive) s is;
-        cycles-agree = w .cycles-are ∙ sym (ap (λ (x : Solved). x .«num_cycles») is);
-        periods-agree = w .period-is ∙ sym (ap (λ (x : Solved). x .«reduced_period») is);
-        inverses-agree = w .inverse-is ∙ sym (ap (λ (x : Solved). x .«generator_inverse») is);
-      }
-
-  natural-is : (key : ℕ) → isMapped made key ≡ natural l key
-  unfolding isMapped natural
-  natural-is key = ap (λ (n : ℕ). eqb n 0) (number-is l p w key)
-
-  pub mapping-made : MappingOf l made
-  unfolding fileOf mappingIn
-  mapping-made = record { sound = sound; octave-is = refl; file-is = same-choice (l .octave) (isMapped made) (natural l) natural-is }
-
--- ---- where the walk stands
-
-pub step-for-layers : (m : Mapping) → Sound m → (key : ℕ) (step : Step) → At (m .solved) key step
-    → (step .degree ≡ inverseOf (m .plan .chain) * (key / m .plan .chain .«num_cycles») % m .plan .chain .«reduced_period»)
-    × (step .cycle ≡ key % m .plan .chain .«num_cycles»)
-step-for-layers m sound key step at = (
-  rw (sound .inverses-agree, sound .cycles-agree, sound .periods-agree) (at .degree-is),
-  rw (sound .cycles-agree) (at .cycle-is),
-)
+  pub surely-held : (room : ℕ) → l .octave ≤ 65535 → 6 * l .octave + 35 ≤ room → true ≡ leb (length (mappingIn l)) room
+  unfolding mappingIn
+  surely-held room few h = sym (le-leb (length (mappingIn l)) room (omega (arith, mappings-fit (l .octave) (natural l) few, h)))
 
 -- ---- measuring the entries
 
@@ -128,9 +84,8 @@ module _ (r : IsomorphicLayout) (l : Layout) (e : given l ≡ layoutOutcome r) w
   pub keys-in-room : (text : List ℕ) (room : ℕ) → readIn (l .octave) text room ≡ inRoom room (getMappedKeys r text)
   keys-in-room text room = ap (λ (o : Outcome (List ℕ)). andThen o (heldIn room)) (keys-given text)
 
-  module _ (m : Mapping) (w : MappingOf l m) where
-    pub kbm-counted : (n : ℕ) → n ≡ length (fileOf m) → given n ≡ counted (getKbm r)
-    kbm-counted n q = ap given (q ∙ ap length (w .file-is)) ∙ ap counted kbm-given
+  pub kbm-counted : (n : ℕ) → n ≡ length (mappingIn l) → given n ≡ counted (getKbm r)
+  kbm-counted n q = ap given q ∙ ap counted kbm-given
 
-    pub kbm-in-room : (room : ℕ) → heldIn room (fileOf m) ≡ inRoom room (getKbm r)
-    kbm-in-room room = ap (heldIn room) (w .file-is) ∙ ap (λ (o : Outcome (List ℕ)). andThen o (heldIn room)) kbm-given
+  pub kbm-in-room : (room : ℕ) → heldIn room (mappingIn l) ≡ inRoom room (getKbm r)
+  kbm-in-room room = ap (λ (o : Outcome (List ℕ)). andThen o (heldIn room)) kbm-given

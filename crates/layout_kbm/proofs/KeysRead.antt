@@ -14,9 +14,8 @@ use Rattle.answer.specs.Outcome.{Outcome, given, refused, andThen}
 use Rattle.answer.proofs.Asked.{given-same, asked-yes, asked-rest, and-left, and-right}
 use Rattle.layout.specs.Layouts.{Layout, layoutOutcome}
 use Rattle.layout.proofs.Finding.{octave-is}
-use Rattle.layout_reach.specs.Reach.{passing}
-use Rattle.layout_reach.specs.Theorems.{RisingFrom}
-use Rattle.layout_reach.proofs.Passing.{passes-iff, passing-rise}
+use Rattle.math.specs.Passing.{passing, RisingFrom}
+use Rattle.math.proofs.Passing.{passes-iff, passing-rise}
 use Rattle.kbm_text.specs.Lines.{lines, isClosed}
 use Rattle.kbm_text.specs.Kinds.{isNumberKind}
 use Rattle.kbm_text.specs.Reading.{due, agreesAt, keyAt, said, allFit, allAgree, keysFrom, hasLines, hasNumbers, keysIn, readOutcome}

@@ -17,8 +17,8 @@ use Rattle.layout_layers.specs.KeyLayers.{kindOf, numberIn, countIn}
 use Rattle.layout_layers.specs.declared.Layer.{Layer}
 use Rattle.layout_layers.specs.declared.Layer.the-variants.{Natural, Sharp, Enharmonic, Flat}
 use Rattle.layout_layers.proofs.PlanLaws.{kind-natural}
-use Rattle.layout_reach.specs.Reach.{passing}
-use Rattle.layout_reach.proofs.Passing.{passes-iff, passing-rise}
+use Rattle.math.specs.Passing.{passing}
+use Rattle.math.proofs.Passing.{passes-iff, passing-rise}
 use Rattle.kbm_text.specs.Written.{mappedKeys}
 use Rattle.kbm_text.proofs.LineByLine.{mappings-fit}
 use Rattle.kbm_text.proofs.ReadBack.{reads-back}

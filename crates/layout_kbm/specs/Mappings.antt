@@ -9,7 +9,7 @@ use Rattle.layout.specs.declared.IsomorphicLayout.{IsomorphicLayout}
 use Rattle.layout.specs.Layouts.{Layout, layoutOutcome}
 use Rattle.layout.specs.Answers.{ofLayout}
 use Rattle.layout_layers.specs.KeyLayers.{layerNumber, numberIn}
-use Rattle.layout_reach.specs.Reach.{passing}
+use Rattle.math.specs.Passing.{passing}
 use Rattle.kbm_text.specs.Reading.{readOutcome}
 use Rattle.kbm_text.specs.Written.{kbmText}
 

@@ -10,7 +10,7 @@ use Rattle.layout.specs.declared.IsomorphicLayout.{IsomorphicLayout}
 use Rattle.layout.specs.Layouts.{Layout, Accepted}
 use Rattle.layout_layers.specs.KeyLayers.{kindOf, numberIn, countIn}
 use Rattle.layout_layers.specs.declared.Layer.the-variants.{Natural}
-use Rattle.layout_reach.specs.Theorems.{RisingFrom}
+use Rattle.math.specs.Passing.{RisingFrom}
 use Rattle.kbm_text.specs.Lines.{lines}
 use Rattle.kbm_text.specs.Reading.{said}
 use Rattle.kbm_text.specs.declared.kinds.Kind.{Kind}

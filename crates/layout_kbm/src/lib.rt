@@ -9,6 +9,7 @@ pub mod parts;
 use answer::CountAnswer;
 use layout::IsomorphicLayout;
 use layout::parts::FoundAnswer;
+use layout::prepared;
 ghost use mathlib.Core.Path.{_≡_};
 ghost use lib.ListN.{length};
 ghost use Rattle.answer.specs.Lent.{inRoom, counted, Filled};
@@ -22,7 +23,7 @@ pub fn kbm_len(layout: IsomorphicLayout) -> CountAnswer
     match layout::parts::ask(layout) {
         FoundAnswer::Refused(q) => CountAnswer::Refused(q),
         FoundAnswer::Given(found) => {
-            CountAnswer::Given(parts::file_len(parts::mapping_of(found)))
+            CountAnswer::Given(parts::file_len(prepared::prepare(found)))
         }
     }
 }
@@ -33,7 +34,7 @@ pub fn write_kbm(layout: IsomorphicLayout, out: &mut [u8]) -> CountAnswer
 {
     match layout::parts::ask(layout) {
         FoundAnswer::Refused(q) => CountAnswer::Refused(q),
-        FoundAnswer::Given(found) => parts::write_file(parts::mapping_of(found), out),
+        FoundAnswer::Given(found) => parts::write_file(prepared::prepare(found), out),
     }
 }
 

@@ -1,11 +1,9 @@
 -- From the plan to what the calls answer: one law for each way in which a call ends.
-use Prim.Native.Nat.{ℕ, _*_, _%_}
+use Prim.Native.Nat.{ℕ}
 use mathlib.Core.Path.{_≡_, refl, sym, ap, _∙_}
-use mathlib.Core.Bool.{Bool}
 use mathlib.Core.List.{List}
 use lib.IntN.{ℤ}
 use lib.ListN.{length}
-use Rattle.answer.specs.Choice.{pick}
 use Rattle.answer.specs.Outcome.{Outcome, given, refused, andThen}
 use Rattle.answer.specs.Lent.{heldIn, inRoom, counted, Filled}
 use Rattle.answer.proofs.Lent.{filled-refused}
@@ -14,14 +12,14 @@ use Rattle.layout.specs.declared.IsomorphicLayout.{IsomorphicLayout}
 use Rattle.layout.specs.Layouts.{Layout, layoutOutcome}
 use Rattle.layout.proofs.Calls.{of-refused, of-given, parts-of, filled-as, refused-in-room}
 use Rattle.layout_layers.specs.declared.parts.Plan.{Plan}
-use Rattle.layout_layers.specs.Parts.{PlanOf, planNumber, totalOf, planLayers}
+use Rattle.layout_layers.specs.KeyLayers.{entryCount}
+use Rattle.layout_layers.specs.Parts.{PlanOf, totalOf, planLayers}
 use Rattle.layout_layers.proofs.PlanLaws.{count-is, layers-are}
 use Rattle.layout_layers.proofs.Theorems.{entries-are-counted}
-use Rattle.layout_lamps.specs.Lamps.{lampIn, stripLengthIn, stripIn}
+use Rattle.layout_lamps.specs.Lamps.{lampOf, lampIn, stripIn}
 use Rattle.layout_lamps.specs.Answers.{getStrip, getLamp}
-use Rattle.layout_layers.specs.LampCodes.{codeOf}
 use Rattle.layout_lamps.specs.Parts.{planStrip}
-use Rattle.layout_lamps.proofs.StripLaws.{strip-is, lamp-is, lamp-home}
+use Rattle.layout_lamps.proofs.StripLaws.{strip-is}
 use Rattle.layout_lamps.proofs.Theorems.{strips-are-whole}
 
 module _ (r : IsomorphicLayout) (n : ℕ) (e : refused n ≡ layoutOutcome r) where
@@ -56,22 +54,9 @@ module _ (r : IsomorphicLayout) (l : Layout) (e : given l ≡ layoutOutcome r) (
       → Filled (inRoom (length xs) (getStrip r)) a xs ys
   strip-written {xs = xs} f = filled-as (ap (λ (o : Outcome (List ℕ)). andThen o (heldIn (length xs))) strip-given) f
 
-  lamp-of-layout : (key : ℤ) → given (lampIn l (remainder key (stripLengthIn l))) ≡ getLamp r key
-  unfolding getLamp
-  lamp-of-layout key = of-given r _ l e
-
-  module _ (key : ℤ) (place count : ℕ) (counted : count ≡ pick (p .equalized) (2 * l .octave) (l .octave)) (at : place ≡ remainder key count) where
-    round : place ≡ remainder key (stripLengthIn l)
-    round = at ∙ ap (remainder key) (counted ∙ ap (λ (b : Bool). pick b (2 * l .octave) (l .octave)) (k .equalized-is))
-
-    pub lamp-at-home : place % l .octave ≡ 0 → given 0 ≡ getLamp r key
-    lamp-at-home h = ap given (lamp-home l place h ∙ ap (lampIn l) round) ∙ lamp-of-layout key
-
-    pub lamp-given : (T j c : ℕ) → T ≡ totalOf p → (place % l .octave ≡ 0 → ⊥) → j ≡ planNumber p place → c ≡ codeOf T j → given c ≡ getLamp r key
-    lamp-given T j c is h number q =
-        ap given
-        (q
-        ∙ ap (codeOf T) number
-        ∙ lamp-is l p k (parts-of r l e .positive) T (is ∙ count-is l p k) place h
-        ∙ ap (lampIn l) round)
-        ∙ lamp-of-layout key
+-- a key that was brought round the strip
+pub lamp-answered : (r : IsomorphicLayout) (l : Layout) → given l ≡ layoutOutcome r → (key : ℤ) (count place number c : ℕ)
+    → count ≡ entryCount (l .octave) (l .pattern) → place ≡ remainder key count → number ≡ place → c ≡ lampIn l number → given c ≡ getLamp r key
+unfolding getLamp
+lamp-answered r l e key count place number c many at same q =
+    ap given (q ∙ ap (lampIn l) (same ∙ at ∙ ap (remainder key) many)) ∙ of-given r _ l e

@@ -7,13 +7,15 @@ use native.Mathlib.Nat.{mod-eq-of-lt}
 use native.Mathlib.Omega.{arith}
 use lib.Dec.{eqb}
 use lib.ListN.{take}
-use borrow.Author.Tests.{eqb-true, eqb-false, ne-eqb, leb-false, ltb-true}
+use borrow.Author.Tests.{ne-eqb, leb-false, ltb-true}
 use Rattle.answer.specs.Choice.{pick}
+use Rattle.answer.specs.Tests.{allOf}
 use Rattle.answer.specs.Outcome.{given, refused, ask}
-use Rattle.answer.proofs.Asked.{and-left, and-right}
+use Rattle.math.specs.Passing.{allBelow}
+use Rattle.math.proofs.Passing.{all-each}
 use Rattle.text.specs.Writing.{joined}
 use Rattle.text.proofs.Joined.{joined-same}
-use Rattle.lamp_codes.specs.Codes.{isOld, wideCode, isConverted, oldCode, allOf}
+use Rattle.lamp_codes.specs.Codes.{isOld, wideCode, isConverted, oldCode}
 use Rattle.lamp_codes.specs.Answers.{getWidened, getNarrowed}
 use Rattle.lamp_codes.proofs.Strips.{all-pass, one-fails}
 use Rattle.lamp_codes.proofs.Partners.{round-trips}
@@ -28,7 +30,7 @@ use Rattle.layout_layers.proofs.SpreadLaws.{length-listed, listed-at}
 use Rattle.layout_layers.proofs.PlanLaws.{kind-sharp}
 use Rattle.layout_layers.proofs.Theorems.{key-zero-is-natural}
 use Rattle.layout_layers.specs.LampCodes.{lampCode}
-use Rattle.layout_lamps.specs.Lamps.{lampOf, codesOf, stripOf, lampable, every, lampIn, stripLengthIn, stripIn, kindAt, kindIn, byteCode, byteLampIn, byteStripIn, hadLampsIn, firstStripIn, firstHadLampsIn}
+use Rattle.layout_lamps.specs.Lamps.{lampOf, codesOf, stripOf, lampable, lampIn, stripLengthIn, stripIn, kindAt, kindIn, byteCode, byteLampIn, byteStripIn, hadLampsIn, firstStripIn, firstHadLampsIn}
 use Rattle.layout_lamps.specs.Theorems.{OldStripsConvert, FirstStripsConvert}
 use Rattle.layout_lamps.proofs.StripLaws.{lamps-by-count-at, first-lamps-by-count, met-at, in-the-strip-at}
 use Rattle.layout_lamps.proofs.Theorems.{first-octave}
@@ -53,14 +55,6 @@ code-widens (Flat k) e =
 
 -- ---- a listed strip
 
-each-of : (test : ℕ → Bool) (count : ℕ) → every test count ≡ true → (i : ℕ) → i < count → test i ≡ true
-each-of test zero e i h = absurd (let z : ⊥ = omega (arith, h) in z)
-each-of test (suc count) e i h = by (eqb i count) refl (each-of test count (and-right (test count) (every test count) e) i)
-  where
-    by : (b : Bool) → eqb i count ≡ b → (i < count → test i ≡ true) → test i ≡ true
-    by true t ih = ap test (eqb-true i count t) ∙ and-left (test count) (every test count) e
-    by false t ih = ih (omega (arith, h, eqb-false i count t))
-
 all-listed : (test : ℕ → Bool) (f : ℕ → ℕ) (count : ℕ) → ((i : ℕ) → i < count → test (f i) ≡ true) → allOf test (listed f count) ≡ true
 all-listed test f count h =
     sym (all-pass test (listed f count)
@@ -81,9 +75,9 @@ returns false old wide there none = none refl
 
 module _ (r : IsomorphicLayout) (l : Layout) (ok : Accepted r l) where
   -- the first entries, where question 9 said yes to them
-  module _ (count : ℕ) (had : every (λ i. lampable (kindIn l i)) count ≡ true) where
+  module _ (count : ℕ) (had : allBelow (λ i. lampable (kindIn l i)) count ≡ true) where
     each : (i : ℕ) → i < count → lampable (kindIn l i) ≡ true
-    each i h = each-of (λ k. lampable (kindIn l k)) count had i h
+    each i h = all-each (λ k. lampable (kindIn l k)) i count h had
 
     old-code : (i : ℕ) → i < count → isOld (byteLampIn l i) ≡ true
     old-code i h = by (eqb (i % l .octave) 0)

@@ -1,8 +1,8 @@
 -- Codes and strips: a plan's layers, turned into codes, with home, are the strip; and where there was a strip of one-byte codes: T at most
 -- 202 leaves sharp and flat layers below 100, T above 202 has a key in sharp layer 100.
-use Prim.Native.Nat.{ℕ, zero, suc, _+_, _*_, _-_, _/_, _%_, _≤_, _<_}
+use Prim.Native.Nat.{ℕ, _+_, _*_, _-_, _/_, _%_, _≤_, _<_}
 use mathlib.Core.Path.{_≡_, refl, sym, ap, ap₂, subst, _∙_}
-use mathlib.Core.Bool.{Bool, true, false, _&&_, and-false}
+use mathlib.Core.Bool.{Bool, true, false}
 use mathlib.Core.List.{List, [], _∷_, _++_}
 use native.Mathlib.Nat.{mod-lt, mod-eq-of-lt, mod-eq-sub-mod, mod-self, zero-mod, div-eq-of-lt, mul-pos}
 use native.Mathlib.Decide.{decLt}
@@ -12,6 +12,8 @@ use lib.Seq.{set-append-left, set-out, getD-set-same, getD-set-other, ext-getD}
 use lib.Dec.{eqb, ltb, leb}
 use borrow.Author.Tests.{eq-eqb, ne-eqb, eqb-true, eqb-false, lt-ltb, ltb-true, ltb-false, leb-true, leb-false}
 use Rattle.answer.specs.Choice.{pick}
+use Rattle.math.specs.Passing.{allBelow}
+use Rattle.math.proofs.Passing.{all-of, all-fails}
 use Rattle.text.specs.Writing.{joined}
 use Rattle.text.proofs.Joined.{joined-same}
 use Rattle.pergen.specs.Pergen.{cycle}
@@ -29,8 +31,8 @@ use Rattle.layout_layers.proofs.LampCodeLaws.{limit-coded, codes-written}
 use Rattle.layout_layers.proofs.PlanLaws.{number-is, keys-are, turns-fill, kind-sharp, turn-below}
 use Rattle.layout_layers.proofs.Theorems.{counts-fit, each-number-is-met, first-keys}
 use Rattle.layout_layers.specs.LampCodes.{lampCode, codeOf}
-use Rattle.layout_lamps.specs.Lamps.{kindAt, lampOf, codesOf, stripOf, lampable, every, lampIn, stripLengthIn, stripIn, hadLampsIn, firstHadLampsIn, kindIn}
-use Rattle.layout_lamps.specs.Parts.{planCodes, homed, planStrip, planLamp}
+use Rattle.layout_lamps.specs.Lamps.{kindAt, lampOf, codesOf, stripOf, lampable, lampIn, stripLengthIn, stripIn, hadLampsIn, firstHadLampsIn, kindIn}
+use Rattle.layout_lamps.specs.Parts.{planCodes, homed, planStrip}
 
 pub equal-or-not : (i j : ℕ) → Dec (i ≡ j)
 equal-or-not i j = by (eqb i j) refl
@@ -67,16 +69,6 @@ pub number-below : (p : Plan) → Sound p → (i j T : ℕ) → j ≡ planNumber
 number-below p sound i j T e is =
     let n = p .chain .«num_cycles» in
     omega (arith, turn-below p sound (i / n), mod-lt i (sound .unbroken .some-cycles))
-
--- one key of the octave
-module _ (p : Plan) (T key : ℕ) where
-  pub plan-home : key ≡ 0 → 0 ≡ planLamp p T key
-  unfolding planLamp
-  plan-home e = simp (eq-eqb key 0 e)
-
-  pub plan-other : (key ≡ 0 → ⊥) → (j c : ℕ) → j ≡ planNumber p key → c ≡ codeOf T j → c ≡ planLamp p T key
-  unfolding planLamp
-  plan-other h j c e q = simp (ne-eqb key 0 h) (q ∙ ap (codeOf T) e)
 
 -- ---- the codes of all entries
 
@@ -154,18 +146,6 @@ module _ (p : Plan) (T : ℕ) (sound : Sound p) (xs ys : List ℕ) (codes : Fron
 
 -- ---- question 9
 
-every-true : (test : ℕ → Bool) (count : ℕ) → ((i : ℕ) → test i ≡ true) → every test count ≡ true
-every-true test zero h = refl
-every-true test (suc count) h = ap₂ (λ (a b : Bool). a && b) (h count) (every-true test count h)
-
-every-false : (test : ℕ → Bool) (count i : ℕ) → i < count → test i ≡ false → every test count ≡ false
-every-false test zero i h e = absurd (let z : ⊥ = omega arith in z)
-every-false test (suc count) i h e = by (eqb i count) refl (every-false test count i)
-  where
-    by : (t : Bool) → eqb i count ≡ t → (i < count → test i ≡ false → every test count ≡ false) → (test count && every test count) ≡ false
-    by true t ih = ap (λ (b : Bool). b && every test count) (ap test (sym (eqb-true i count t)) ∙ e)
-    by false t ih = ap (λ (b : Bool). test count && b) (ih (omega (arith, eqb-false i count t)) e) ∙ and-false (test count)
-
 module _ (r : IsomorphicLayout) (l : Layout) (ok : Accepted r l) where
   abbrev P : ℕ
   P = l .octave
@@ -177,9 +157,9 @@ module _ (r : IsomorphicLayout) (l : Layout) (ok : Accepted r l) where
   unfolding kindAt
   kind-in i = refl
 
-  all-lamps : (count : ℕ) → T ≤ 202 → every (λ i. lampable (kindIn l i)) count ≡ true
+  all-lamps : (count : ℕ) → T ≤ 202 → allBelow (λ i. lampable (kindIn l i)) count ≡ true
   all-lamps count h =
-      every-true (λ i. lampable (kindIn l i)) count (λ i. ap lampable (kind-in i) ∙ few-layers T (numberIn l i) h)
+      all-of (λ i. lampable (kindIn l i)) count (λ i _. ap lampable (kind-in i) ∙ few-layers T (numberIn l i) h)
 
   -- a key of layer 101, which is sharp layer 100
   pub met-at : 202 < T → (key : ℕ) × (key < P) × (numberIn l key ≡ 101)
@@ -205,19 +185,19 @@ module _ (r : IsomorphicLayout) (l : Layout) (ok : Accepted r l) where
       by false = h
 
   -- in any entries that hold the octave's keys
-  some-lamp-missing : (count : ℕ) → ((i : ℕ) → i < P → i < count) → 202 < T → every (λ i. lampable (kindIn l i)) count ≡ false
+  some-lamp-missing : (count : ℕ) → ((i : ℕ) → i < P → i < count) → 202 < T → allBelow (λ i. lampable (kindIn l i)) count ≡ false
   some-lamp-missing count inside h =
       let key = met-at h in
-      every-false (λ i. lampable (kindIn l i)) count (key .0) (inside (key .0) (key .1))
+      all-fails (λ i. lampable (kindIn l i)) (key .0) count (inside (key .0) (key .1))
       (ap lampable
       (kind-in (key .0)
       ∙ ap (kindOf T) (key .2)
       ∙ sym (kind-sharp T 101 (λ e. omega arith) (omega arith))))
 
-  lamps-by-count-to : (count : ℕ) → ((i : ℕ) → i < P → i < count) → every (λ i. lampable (kindIn l i)) count ≡ leb (countIn l) 202
+  lamps-by-count-to : (count : ℕ) → ((i : ℕ) → i < P → i < count) → allBelow (λ i. lampable (kindIn l i)) count ≡ leb (countIn l) 202
   lamps-by-count-to count inside = by (leb (countIn l) 202) refl
     where
-      by : (b : Bool) → leb (countIn l) 202 ≡ b → every (λ i. lampable (kindIn l i)) count ≡ b
+      by : (b : Bool) → leb (countIn l) 202 ≡ b → allBelow (λ i. lampable (kindIn l i)) count ≡ b
       by true t = all-lamps count (leb-true (countIn l) 202 t)
       by false t = some-lamp-missing count inside (leb-false (countIn l) 202 t)
 
@@ -302,19 +282,27 @@ module _ (l : Layout) (p : Plan) (k : PlanOf l p) (some : 0 < l .octave) (T : �
       ∙ ap (joined (λ i. f i ∷ [])) (turns-fill l p k some))
       ∙ homes f (l .octave) (stripLengthIn l) some strip-few
 
-  -- below the octave, only key 0 is home
-  pub octave-lamp-is : (key : ℕ) → key < l .octave → planLamp p T key ≡ lampIn l key
-  unfolding planLamp lampOf
-  octave-lamp-is key h =
-      ap₂ (λ (i c : ℕ). pick (eqb i 0) 0 c) (sym (mod-eq-of-lt h)) (code-at key)
-
-  pub lamp-is : (i : ℕ) → (i % l .octave ≡ 0 → ⊥) → codeOf T (planNumber p i) ≡ lampIn l i
-  unfolding lampOf
-  lamp-is i h =
-      code-at i
-      ∙ ap (λ (b : Bool). pick b 0 (lampCode (kindIn l i))) (sym (ne-eqb (i % l .octave) 0 h))
-
 pub lamp-home : (l : Layout) (i : ℕ) → i % l .octave ≡ 0 → 0 ≡ lampIn l i
 unfolding lampOf
 lamp-home l i e =
     ap (λ (b : Bool). pick b 0 (lampCode (kindIn l i))) (sym (eq-eqb (i % l .octave) 0 e))
+
+-- any other key has the code of its layer
+pub lamp-other : (l : Layout) (i T j c : ℕ) → (i % l .octave ≡ 0 → ⊥) → T ≡ countIn l → j ≡ numberIn l i → c ≡ codeOf T j → c ≡ lampIn l i
+unfolding lampOf codeOf kindAt
+lamp-other l i T j c h is number q =
+    q
+    ∙ ap₂ (λ (t k : ℕ). lampCode (kindOf t k)) is number
+    ∙ ap (λ (b : Bool). pick b 0 (lampCode (kindIn l i))) (sym (ne-eqb (i % l .octave) 0 h))
+
+-- a key of two octaves is home, or it is not
+module _ (P i : ℕ) (below : i < 2 * P) where
+  pub home-first : i ≡ 0 → true ≡ eqb (i % P) 0
+  home-first e = sym (eq-eqb (i % P) 0 (ap (λ (k : ℕ). k % P) e ∙ zero-mod P))
+
+  pub home-second : (i ≡ 0 → ⊥) → eqb i P ≡ eqb (i % P) 0
+  home-second z = by (equal-or-not i P)
+    where
+      by : Dec (i ≡ P) → eqb i P ≡ eqb (i % P) 0
+      by (yes e) = eq-eqb i P e ∙ sym (eq-eqb (i % P) 0 (ap (λ (k : ℕ). k % P) e ∙ mod-self P))
+      by (no e) = ne-eqb i P e ∙ sym (ne-eqb (i % P) 0 (between P i below e z))

@@ -1,9 +1,10 @@
 -- The lamp strip of a layout (document 01, "Lamps and book", as document 02 amends it: W-204, W-206, W-207).
-use Prim.Native.Nat.{ℕ, zero, suc, _+_, _%_}
-use mathlib.Core.Bool.{Bool, true, _&&_}
+use Prim.Native.Nat.{ℕ, _+_, _%_}
+use mathlib.Core.Bool.{Bool, true}
 use mathlib.Core.List.{List, [], _∷_}
 use lib.Dec.{eqb, ltb}
 use Rattle.answer.specs.Choice.{pick}
+use Rattle.math.specs.Passing.{allBelow}
 use Rattle.text.specs.Writing.{joined}
 use Rattle.mos.specs.declared.Mos.{Mos}
 use Rattle.layout.specs.Layouts.{Layout}
@@ -88,15 +89,10 @@ lampable (Sharp k) = ltb k 100
 lampable (Enharmonic k) = true
 lampable (Flat k) = ltb k 100
 
--- A test passes on all numbers below count.
-abbrev pub every : (ℕ → Bool) → ℕ → Bool
-every test zero = true
-every test (suc count) = test count && every test count
-
 -- 9, of that strip, so of all its entries: "Is every sharp and flat layer number of the lamp strip below 100?" Where not, there was none.
 unfoldable pub hadLampsIn : Layout → Bool
-unfolding kindAt
-hadLampsIn l = every (λ i. lampable (kindIn l i)) (stripLengthIn l)
+unfolding allBelow kindAt
+hadLampsIn l = allBelow (λ i. lampable (kindIn l i)) (stripLengthIn l)
 
 -- Document 01's own strip, before W-204, W-206 and W-207: "A lamp strip holds P one-byte codes: key 0 is 0, home. Other keys, from the
 -- first P layer entries: natural 1, sharp k 2 + k, flat k 102 + k, enharmonic 255."
@@ -106,5 +102,5 @@ firstStripIn l = joined (λ i. pick (eqb i 0) home (byteCode (kindIn l i)) ∷ [
 
 -- 9, of document 01's own strip, so of the first P entries.
 unfoldable pub firstHadLampsIn : Layout → Bool
-unfolding kindAt
-firstHadLampsIn l = every (λ i. lampable (kindIn l i)) (l .octave)
+unfolding allBelow kindAt
+firstHadLampsIn l = allBelow (λ i. lampable (kindIn l i)) (l .octave)

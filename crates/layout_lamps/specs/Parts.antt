@@ -2,8 +2,6 @@
 use Prim.Native.Nat.{ℕ, _*_}
 use mathlib.Core.List.{List}
 use lib.ListN.{set}
-use lib.Dec.{eqb}
-use Rattle.answer.specs.Choice.{pick}
 use Rattle.layout_layers.specs.declared.parts.Plan.{Plan}
 use Rattle.layout_layers.specs.LampCodes.{codeOf}
 use Rattle.layout_layers.specs.Parts.{keysOf, planNumber, turnsOf, listed}
@@ -19,8 +17,3 @@ homed keys codes = set (set codes 0 0) keys 0
 -- The strip.
 abbrev pub planStrip : Plan → (T : ℕ) → List ℕ
 planStrip p T = homed (keysOf (p .chain)) (planCodes p T)
-
--- The code of one key of the octave.
-unfoldable pub planLamp : Plan → (T key : ℕ) → ℕ
-unfolding codeOf
-planLamp p T key = pick (eqb key 0) 0 (codeOf T (planNumber p key))

@@ -11,6 +11,8 @@ use answer::CountAnswer;
 use answer::NumberAnswer;
 use layout::IsomorphicLayout;
 use layout::parts::FoundAnswer;
+use layout::prepared;
+use pergen::stepping;
 ghost use mathlib.Core.Path.{_≡_};
 ghost use lib.ListN.{length};
 ghost use Rattle.answer.specs.Lent.{inRoom, counted, Filled};
@@ -48,18 +50,11 @@ pub fn lamp(layout: IsomorphicLayout, key: i32) -> NumberAnswer
     match layout::parts::ask(layout) {
         FoundAnswer::Refused(q) => NumberAnswer::Refused(q),
         FoundAnswer::Given(found) => {
-            let solved = layout::parts::solve(found);
-            let plan = layout_layers::parts::plan_with(found, solved.num_cycles);
-            let entries = layout_layers::parts::entry_count(plan, found.octave);
-            let place = math::parts::rem_u32(key, entries);
-            if place % (found.octave as u32) == 0 {
-                return NumberAnswer::Given(0);
-            }
-            let number = layout_layers::parts::number_of(plan, solved.generator_inverse, place);
-            NumberAnswer::Given(layout_layers::parts::code(
-                layout_layers::parts::total_of(plan),
-                number,
-            ))
+            let prepared = prepared::prepare(found);
+            let place = math::parts::rem_u32(key, layout_layers::keys::entry_count(prepared));
+            let asked = stepping::key_at(prepared.solved, place);
+            let total = layout_layers::keys::total_of(prepared);
+            NumberAnswer::Given(parts::lamp_of(prepared, total, asked))
         }
     }
 }

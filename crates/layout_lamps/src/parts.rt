@@ -1,28 +1,42 @@
 // How codes are found and a strip is written: parts, and no entry points. Callers have asked questions 1 to 4 and 18, and 10 before they write.
 use answer::CountAnswer;
 use answer::Refusal;
+use layout::prepared::Prepared;
 use layout_layers::parts::Plan;
-use pergen::stepping::Step;
+use pergen::stepping::Key;
 ghost use mathlib.Core.Path.{_≡_};
-ghost use Prim.Native.Nat.{_*_, _/_, _%_, _≤_, _<_};
+ghost use Prim.Native.Nat.{_*_, _%_, _≤_, _<_};
+ghost use lib.Dec.{eqb};
 ghost use lib.ListN.{length};
 ghost use Rattle.answer.specs.Lent.{heldIn, Filled};
 ghost use Rattle.answer.specs.Refusals.{countOutcome};
-ghost use Rattle.layout_layers.specs.Parts.{inverseOf, totalOf, Sound, Fronted, planLayers};
-ghost use Rattle.layout_lamps.specs.Parts.{planStrip, planLamp};
+ghost use Rattle.pergen.specs.Parts.{At};
+ghost use Rattle.layout.specs.Parts.{layoutIn, Ready};
+ghost use Rattle.layout_layers.specs.KeyLayers.{countIn};
+ghost use Rattle.layout_layers.specs.Parts.{totalOf, Sound, Fronted, planLayers};
+ghost use Rattle.layout_lamps.specs.Lamps.{lampIn};
+ghost use Rattle.layout_lamps.specs.Parts.{planStrip};
 
-// The code of a key of the octave, for a walk from key to key that carries its degree and its cycle: key 0 is home.
-pub fn code_at(plan: Plan, total: u16, key: u16, step: Step) -> u16
-    requires { ⌜ Sound plan × (total ≡ totalOf plan) × (step .degree ≡ inverseOf (plan .chain) * (key / plan .chain .«num_cycles») % plan .chain .«reduced_period») × (step .cycle ≡ key % plan .chain .«num_cycles») ⌝ }
-    ensures { λ r. ⌜ r ≡ planLamp plan total key ⌝ }
+// Is a key whole octaves from key 0? It is one of two octaves.
+fn is_home(octave: u16, number: u32) -> bool
+    requires { ⌜ (0 < octave) × (number < 2 * octave) ⌝ }
+    ensures { λ r. ⌜ r ≡ eqb (number % octave) 0 ⌝ }
 {
-    if key == 0 {
+    if number == 0 {
+        return true;
+    }
+    number == octave as u32
+}
+
+// The lamp code of a key, of as many layers as `total` says: home, or the code of its layer.
+pub fn lamp_of(prepared: Prepared, total: u16, key: Key) -> u16
+    requires { ⌜ Ready prepared × (total ≡ countIn (layoutIn prepared)) × At (prepared .solved) key × (key .number < 2 * prepared .found .octave) ⌝ }
+    ensures { λ r. ⌜ r ≡ lampIn (layoutIn prepared) (key .number) ⌝ }
+{
+    if is_home(prepared.found.octave, key.number) {
         return 0;
     }
-    layout_layers::parts::code(
-        total,
-        layout_layers::parts::number_at(plan, key, step.degree, step.cycle),
-    )
+    layout_layers::parts::code(total, layout_layers::keys::number_of(prepared, key))
 }
 
 // The strip at the front of a slice that is known to hold it: key 0 is home, and so is the octave where a second one follows.

@@ -1,10 +1,13 @@
 pub mod RunPlaces
+pub mod LayerPlaces
+pub mod LayerSizes
 pub mod SpreadLaws
 pub mod ChainLaws
 pub mod Advance
 pub mod PlanLaws
+pub mod PreparedPlans
+pub mod PreparedLayers
 pub mod LampCodeLaws
-pub mod Rulers
 pub mod Calls
 pub mod Theorems
 pub mod Counts

@@ -68,6 +68,9 @@ kindOf T j =
 
 -- ---- in a layout "P is the octave, G the chain's generator, N its number of letters and the origin the start"
 
+abbrev pub layerIn : Layout → ℕ → ℕ
+layerIn l i = layerOf (l .octave) (l .generator) (l .letters) (l .start) (l .pattern) i
+
 abbrev pub numberIn : Layout → ℕ → ℕ
 numberIn l i = layerNumber (l .octave) (l .generator) (l .letters) (l .start) (l .pattern) i
 

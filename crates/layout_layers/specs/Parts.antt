@@ -2,23 +2,61 @@
 use Prim.Native.Nat.{ℕ, _+_, _*_, _-_, _/_, _%_, _≤_, _<_}
 use mathlib.Core.Path.{_≡_}
 use mathlib.Core.List.{List, [], _∷_, _++_}
-use lib.ListN.{length, getD, drop}
+use lib.ListN.{length, getD, drop, replicate}
 use lib.Dec.{eqb}
 use Rattle.answer.specs.Choice.{pick}
 use Rattle.text.specs.Writing.{joined}
 use Rattle.mos.specs.Patterns.{primaries, secondaries, primary, secondary, cyclesOf}
 use Rattle.pergen.specs.Pergen.{inverse}
 use Rattle.mos_layers.specs.declared.Runs.{Runs}
-use Rattle.mos_layers.specs.Layers.{allSizes, dropEmpty, numbered}
-use Rattle.mos_layers.specs.Parts.{runAt, runSizes}
+use Rattle.mos_layers.specs.Layers.{allSizes, dropEmpty, numbered, layerSizes}
+use Rattle.mos_layers.specs.Parts.{runSizes}
 use Rattle.mos_layers.specs.Theorems.{sum}
 use Rattle.layout.specs.Layouts.{Layout, cyclesIn, reducedIn}
+use Rattle.layout_layers.specs.declared.keys.Sizes.{Sizes}
 use Rattle.layout_layers.specs.declared.chain.Chain.{Chain}
 use Rattle.layout_layers.specs.declared.chain.Spot.{Spot}
 use Rattle.layout_layers.specs.declared.parts.Plan.{Plan}
-use Rattle.layout_layers.specs.declared.ruler.Ruler.{Ruler}
 use Rattle.layout_layers.specs.KeyLayers.{equalized, alternating}
 use Rattle.layout_layers.specs.LampCodes.{codeOf}
+
+-- ---- the sizes of layers, by five numbers
+
+-- How many places are natural or sharp.
+abbrev pub sharpPlaces : Sizes → ℕ
+sharpPlaces s = s .letters * s .full + s .rest * s .partial
+
+-- The enharmonic layer has the places that are left: flat are as many as sharp, so all of those but the natural ones.
+abbrev pub enharmonicIn : Sizes → ℕ
+enharmonicIn s = s .places - sharpPlaces s - (sharpPlaces s - s .letters)
+
+-- The sizes of all layers in their order. The enharmonic one is 0 where there is none.
+abbrev pub sizesIn : Sizes → List ℕ
+sizesIn s =
+    (replicate (s .full) (s .letters) ++ replicate (s .partial) (s .rest))
+    ++ (enharmonicIn s ∷ (replicate (s .partial) (s .rest) ++ replicate (s .full - 1) (s .letters)))
+
+-- Sizes that places are counted by: only the enharmonic layer may be empty, the others leave it what there is, and places fit 16 bits.
+pub record Countable (s : Sizes) : Type 0 where
+  pub some-full : 0 < s .full
+  pub some-letters : 0 < s .letters
+  pub some-rest : 0 < s .rest
+  pub within : sharpPlaces s + (sharpPlaces s - s .letters) ≤ s .places
+  pub places-fit : s .places ≤ 65535
+
+-- The sizes of a layout's layers.
+pub record SizesOf (l : Layout) (s : Sizes) : Type 0 where
+  pub countable : Countable s
+  pub sizes-are : dropEmpty (sizesIn s) ≡ layerSizes (l .pattern)
+  pub places-are : s .places ≡ reducedIn l
+
+-- The layer at a place of the chain.
+unfoldable pub layerAt : Sizes → ℕ → ℕ
+layerAt s place = getD (numbered 0 (dropEmpty (sizesIn s))) place 0
+
+-- The layer of a group of keys, one of each cycle, in an equalized scale.
+abbrev pub alternateIn : Layout → ℕ → ℕ
+alternateIn l group = alternating (l .letters) (secondaries (l .pattern)) (l .generator * l .start / cyclesIn l) group
 
 -- ---- the chain
 
@@ -165,16 +203,3 @@ limit T = pick (eqb T 0) 65535 T
 -- All entries as they are written.
 abbrev pub planEntries : Plan → (T : ℕ) → List ℕ
 planEntries p T = listed (λ i. shownAs T (planNumber p i)) (turnsOf p * p .chain .«num_cycles»)
-
--- ---- a ruler of the runs
-
--- A ruler says of each of its runs where it begins in the list of layers, and how many layers there are before it.
-pub record Marked (r : Ruler) : Type 0 where
-  pub begins-are : (i : ℕ) → i < 8 → getD (r .begins) i 0 ≡ sum (joined (runAt (r .runs .sizes) (r .runs .times)) i)
-  pub firsts-are : (i : ℕ) → i < 8 → getD (r .firsts) i 0 ≡ length (dropEmpty (joined (runAt (r .runs .sizes) (r .runs .times)) i))
-  pub places-fit : sum (runSizes (r .runs)) ≤ 65535
-
--- The ruler of a plan's runs.
-pub record RulerOf (p : Plan) (r : Ruler) : Type 0 where
-  pub runs-are : r .runs ≡ p .runs
-  pub marked : Marked r

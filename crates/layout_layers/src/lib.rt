@@ -3,16 +3,18 @@
 // Holds the layer number of each key, how many numbers there are, and what a number means: natural, sharp, enharmonic or
 // flat (document 01, "Step patterns", the last paragraph). A player colours the keys by them.
 // specs/: KeyLayers defines, LampCodes too, Answers says what each call answers, Theorems and Examples state what holds.
-// `parts` holds the plan that whole-octave work goes by, `chain` the walk that it goes along, `ruler` what a table finds layers by.
+// `parts` holds the plan that whole-octave work goes by, `chain` the walk that it goes along.
 // Every entry point answers every input. Nothing is assumed.
 pub mod chain;
+pub mod keys;
 pub mod parts;
-pub mod ruler;
 
 use answer::CountAnswer;
 use answer::NumberAnswer;
 use layout::IsomorphicLayout;
 use layout::parts::FoundAnswer;
+use layout::prepared;
+use pergen::stepping;
 ghost use mathlib.Core.Path.{_≡_};
 ghost use lib.ListN.{length};
 ghost use Rattle.answer.specs.Lent.{inRoom, counted, Filled};
@@ -65,10 +67,10 @@ pub fn get_layer(layout: IsomorphicLayout, key: i32) -> NumberAnswer
     match layout::parts::ask(layout) {
         FoundAnswer::Refused(q) => NumberAnswer::Refused(q),
         FoundAnswer::Given(found) => {
-            let solved = layout::parts::solve(found);
-            let plan = parts::plan_with(found, solved.num_cycles);
-            let entry = math::parts::rem_u32(key, parts::entry_count(plan, found.octave));
-            NumberAnswer::Given(parts::number_of(plan, solved.generator_inverse, entry))
+            let prepared = prepared::prepare(found);
+            let entry = math::parts::rem_u32(key, keys::entry_count(prepared));
+            let asked = stepping::key_at(prepared.solved, entry);
+            NumberAnswer::Given(keys::number_of(prepared, asked))
         }
     }
 }

@@ -5,6 +5,9 @@
 use crate::chain;
 use crate::chain::Chain;
 use crate::chain::Spot;
+use crate::keys::alternate;
+use crate::keys::chain_place;
+use crate::keys::offset_of;
 use answer::CountAnswer;
 use answer::Refusal;
 use layout::parts::Found;
@@ -23,7 +26,6 @@ ghost use Rattle.mos_layers.specs.Theorems.{sum};
 ghost use Rattle.mos_layers.specs.Layers.{dropEmpty};
 ghost use Rattle.layout.specs.Layouts.{cyclesIn};
 ghost use Rattle.layout.specs.Parts.{layoutOf, Laid};
-ghost use Rattle.layout_layers.specs.KeyLayers.{alternating};
 ghost use Rattle.layout_layers.specs.LampCodes.{codeOf};
 ghost use Rattle.layout_layers.specs.Parts.{
   inverseOf,
@@ -57,18 +59,6 @@ pub struct Plan {
     pub letters: u16,
     pub secondaries: u16,
     pub equalized: bool,
-}
-
-// h: how many scale degrees key 0's letter lies above the chain's first letter, not brought round the octave.
-fn offset_of(generator: u16, start: u16, cycles: u16) -> u32
-    requires { ⌜ (0 < cycles) × (start ≤ 8) ⌝ }
-    ensures { λ r. ⌜ (r ≡ generator * start / cycles) × (r ≤ 524280) ⌝ }
-{
-    let product = (generator as u32) * (start as u32);
-    if cycles == 1 {
-        return product;
-    }
-    product / (cycles as u32)
 }
 
 // The plan of an accepted layout with so many cycles.
@@ -116,94 +106,6 @@ pub fn layers_in(size: u16, times: u16) -> u16
     0
 }
 
-// Which of two layers a scale degree has, in an equalized scale.
-pub fn alternate(letters: u16, secondaries: u16, offset: u32, turn: u32) -> u16
-    requires { ⌜ (0 < letters) × (secondaries ≤ 9) × (offset ≤ 524280) × (turn ≤ 131070) ⌝ }
-    ensures { λ r. ⌜ r ≡ alternating letters secondaries offset turn ⌝ }
-{
-    let steps = secondaries as u32;
-    let whole = letters as u32;
-    let here = offset * steps / whole % 2;
-    let there = (turn + offset) * steps / whole % 2;
-    if here == there {
-        return 0;
-    }
-    1
-}
-
-// The layer at a place of the list: the place among the layers of its run.
-fn layer_at(runs: Runs, place: u16) -> u16
-    requires { ⌜ (place < sum (runSizes runs)) × (sum (runSizes runs) ≤ 65535) ⌝ }
-    ensures { λ r. ⌜ r ≡ runLayer runs place ⌝ }
-{
-    let sizes = runs.sizes;
-    let times = runs.times;
-    let mut left = place;
-    let mut first: u16 = 0;
-    let mut i: usize = 0;
-    while i < 8 {
-        let size = sizes[i];
-        let count = times[i];
-        let span = size * count;
-        if left < span {
-            return first + left / size;
-        }
-        left -= span;
-        first += layers_in(size, count);
-        i += 1;
-    }
-    first
-}
-
-// The place on the chain that a degree has, `start` places behind the first letter.
-pub(crate) fn chain_place(start: u16, degree: u16, reduced_period: u16) -> u16
-    requires { ⌜ (start < «reduced_period») × (degree < «reduced_period») ⌝ }
-    ensures { λ r. ⌜ r ≡ (start + degree) % «reduced_period» ⌝ }
-{
-    let left = reduced_period - start;
-    if degree < left {
-        return degree + start;
-    }
-    degree - left
-}
-
-// The layer of an entry that has this degree on the chain. Its scale degree is found by a division only where the layers alternate.
-fn layer_by(plan: Plan, entry: u32, degree: u16) -> u16
-    requires { ⌜ Sound plan × (degree ≡ inverseOf (plan .chain) * (entry / plan .chain .«num_cycles») % plan .chain .«reduced_period») × (entry ≤ 131070) ⌝ }
-    ensures { λ r. ⌜ r ≡ turnLayer plan (entry / plan .chain .«num_cycles») ⌝ }
-{
-    let chain = plan.chain;
-    if plan.equalized {
-        let turn = entry / (chain.num_cycles as u32);
-        return alternate(plan.letters, plan.secondaries, plan.offset, turn);
-    }
-    let runs = plan.runs;
-    layer_at(runs, chain_place(chain.start, degree, chain.reduced_period))
-}
-
-// An entry's number, with the inverse that no whole-octave work needs.
-pub fn number_of(plan: Plan, inverse: u16, entry: u32) -> u16
-    requires { ⌜ Sound plan × (inverse ≡ inverseOf (plan .chain)) × (entry ≤ 131070) ⌝ }
-    ensures { λ r. ⌜ r ≡ planNumber plan entry ⌝ }
-{
-    let chain = plan.chain;
-    let cycles = chain.num_cycles as u32;
-    let turn = entry / cycles;
-    let degree = (inverse as u64) * (turn as u64) % (chain.reduced_period as u64);
-    let layer = layer_by(plan, entry, degree as u16);
-    layer * chain.num_cycles + (entry % cycles) as u16
-}
-
-// The number of a key of the octave, for a walk from key to key that carries its degree and its cycle.
-pub fn number_at(plan: Plan, key: u16, degree: u16, cycle: u16) -> u16
-    requires { ⌜ Sound plan × (degree ≡ inverseOf (plan .chain) * (key / plan .chain .«num_cycles») % plan .chain .«reduced_period») × (cycle ≡ key % plan .chain .«num_cycles») ⌝ }
-    ensures { λ r. ⌜ r ≡ planNumber plan key ⌝ }
-{
-    let chain = plan.chain;
-    let layer = layer_by(plan, key as u32, degree);
-    layer * chain.num_cycles + cycle
-}
-
 // How many numbers there are.
 pub fn total_of(plan: Plan) -> u16
     requires { ⌜ Sound plan ⌝ }
@@ -226,16 +128,6 @@ pub fn turns_of(plan: Plan) -> u32
         return 2 * (chain.reduced_period as u32);
     }
     chain.reduced_period as u32
-}
-
-// How many entries there are, by the octave.
-pub fn entry_count(plan: Plan, octave: u16) -> u32
-    ensures { λ r. ⌜ (r ≡ pick (plan .equalized) (2 * octave) octave) × (r ≤ 131070) ⌝ }
-{
-    if plan.equalized {
-        return 2 * (octave as u32);
-    }
-    octave as u32
 }
 
 // How many entries there are.

@@ -1,59 +1,97 @@
--- The walk from key to key: the step at hand stands at the key, so its place is the key's, and the entries before it are placed.
+-- The walk from key to key: the entries of the keys before the one at hand are placed.
 use Prim.Native.Nat.{ℕ, _+_, _*_, _≤_, _<_}
-use mathlib.Core.Path.{_≡_, sym, ap, _∙_, subst}
+use mathlib.Core.Bool.{Bool, true, false, not}
+use mathlib.Core.Path.{_≡_, refl, sym, ap, ap₂, _∙_}
 use mathlib.Core.List.{List}
 use native.Mathlib.Nat.{le-antisymm}
 use native.Mathlib.Omega.{arith}
 use lib.ListN.{length, getD, set}
-use Rattle.pergen.specs.Parts.{solvedOf, Walkable, At, nextStep}
+use mir.Syntax.{w64}
+use mir.Val.{Fits}
+use Rattle.mos.proofs.Sizes.{product-fits}
+use Rattle.pergen.specs.Parts.{solvedOf, At}
+use Rattle.pergen.specs.Pergen.{degree, cycle}
 use Rattle.pergen.specs.declared.euclid.Solved.{Solved}
-use Rattle.pergen.specs.declared.stepping.Step.{Step}
-use Rattle.pergen.proofs.CarriedWalk.{walkable, at-next, at-degree-below, at-cycle-below}
-use Rattle.layout_order.specs.Order.{chainPlace, placed}
-use Rattle.layout_order.proofs.Places.{place-below, step-place}
-use Rattle.layout_order.proofs.Placing.{placed-length, placed-none, placed-more}
+use Rattle.pergen.specs.declared.stepping.Key.{Key}
+use Rattle.layout.specs.Parts.{Ready}
+use Rattle.layout.specs.declared.prepared.Prepared.{Prepared}
+use Rattle.layout.proofs.Readiness.{parts-ready, key-degree, key-cycle}
+use Rattle.layout_order.specs.Parts.{positionIn, rearranged}
+use Rattle.layout_order.proofs.Places.{place-is}
+use Rattle.layout_order.proofs.Placing.{placed-length, placed-none, placed-more, order-permutes}
 
-pub record Carrying (from to : ℕ → ℕ) (P G : ℕ) (entries before after : List ℕ) (s : Solved) (step : Step) (key : ℕ) : Type 0 where
-  pub positive : 0 < P
-  pub solved : s ≡ solvedOf P G
-  pub at : At s key step
-  pub upto : key ≤ P
-  pub content : after ≡ placed from to entries key before
+-- a place fits 64 bits
+pub product-held : (a b : ℕ) → a < 65536 → b < 65536 → Fits w64 (a * b)
+product-held a b ha hb = omega (arith, product-fits a b ha hb)
 
-module _ (from to : ℕ → ℕ) (P G : ℕ) (entries before : List ℕ) (s : Solved) where
-  pub carry-start : 0 < P → s ≡ solvedOf P G → (step : Step) → At s 0 step → Carrying from to P G entries before before s step 0
-  carry-start h is step at =
-      record { positive = h; solved = is; at = at; upto = omega (arith, h); content = placed-none from to entries before }
+pub sum-held : (a b c : ℕ) → a < 65536 → b < 65536 → c < 65536 → Fits w64 (a * b + c)
+sum-held a b c ha hb hc = omega (arith, product-fits a b ha hb)
 
-  module _ {after : List ℕ} {step : Step} {key : ℕ} (c : Carrying from to P G entries before after s step key) where
-    -- the place that the code computes
-    pub carry-place : {p : ℕ} → p ≡ step .cycle * s .«reduced_period» + step .degree → p ≡ chainPlace P G key
-    carry-place e = e ∙ step-place P G (c .positive) s (c .solved) key step (c .at)
+-- a key tells its position in either order
+module _ (p : Prepared) (h : Ready p) (k : Key) (at : At (p .solved) k) where
+  pub chain-position : {chain : Bool} → chain ≡ true
+      → k .cycle * p .solved .«reduced_period» + k .degree ≡ positionIn chain (p .found .octave) (p .found .generator) (k .number)
+  unfolding solvedOf positionIn
+  chain-position t =
+      let P = p .found .octave in
+      let G = p .found .generator in
+      ap₂ (λ (c d : ℕ). c * p .solved .«reduced_period» + d) (key-cycle p h k at) (key-degree p h k at)
+      ∙ ap (λ (s : Solved). cycle P G (k .number) * s .«reduced_period» + degree P G (k .number)) (h .solved-is)
+      ∙ sym (place-is P G (parts-ready p h .positive) (k .number))
+      ∙ ap (λ (b : Bool). positionIn b P G (k .number)) (sym t)
 
-    pub carry-below : {p : ℕ} → p ≡ step .cycle * s .«reduced_period» + step .degree → p < P
-    carry-below e = subst (λ (j : ℕ). j < P) (sym (carry-place e)) (place-below P G (c .positive) key)
+  pub number-position : {chain : Bool} → chain ≡ false → k .number ≡ positionIn chain (p .found .octave) (p .found .generator) (k .number)
+  unfolding positionIn
+  number-position t = rw t refl
 
+-- a key of the octave has its entry among so many
+pub position-below : (p : Prepared) → Ready p → (chain : Bool) (number : ℕ) → number < p .found .octave → {i : ℕ}
+    → i ≡ positionIn chain (p .found .octave) (p .found .generator) number → i < p .found .octave
+position-below p h chain number l e =
+    rw e (order-permutes chain (p .found .octave) (p .found .generator) (parts-ready p h .positive) .within number l)
+
+-- ---- the walk
+
+-- The entries of the keys before k are where the order has them.
+pub record Carrying (chain : Bool) (p : Prepared) (entries before after : List ℕ) (k : Key) : Type 0 where
+  pub at : At (p .solved) k
+  pub upto : k .number ≤ p .found .octave
+  pub content : after ≡ rearranged chain (p .found .octave) (p .found .generator) entries (k .number) before
+
+module _ (chain : Bool) (p : Prepared) (entries before : List ℕ) where
+  abbrev P : ℕ
+  P = p .found .octave
+
+  abbrev G : ℕ
+  G = p .found .generator
+
+  abbrev from : ℕ → ℕ
+  from = positionIn (not chain) P G
+
+  abbrev to : ℕ → ℕ
+  to = positionIn chain P G
+
+  pub carry-start : (k : Key) → At (p .solved) k × (k .number ≡ 0) → Carrying chain p entries before before k
+  carry-start k (at, zeroth) =
+      record {
+        at = at;
+        upto = omega (arith, zeroth);
+        content = placed-none from to entries before ∙ ap (λ (n : ℕ). rearranged chain P G entries n before) (sym zeroth);
+      }
+
+  module _ {after : List ℕ} {k : Key} (c : Carrying chain p entries before after k) where
     pub carry-length : length after ≡ length before
-    carry-length = ap length (c .content) ∙ placed-length from to entries key before
+    carry-length = ap length (c .content) ∙ placed-length from to entries (k .number) before
 
-    -- what the next step asks
-    pub carry-asks : Walkable s × (step .degree < s .«reduced_period») × (step .cycle < s .«num_cycles»)
-    carry-asks =
-        let w = walkable P G (c .positive) s (c .solved) in
-        (w, at-degree-below s w key step (c .at), at-cycle-below s w key step (c .at))
-
-    pub carry-on : key < P → {p e : ℕ} → p ≡ to key → e ≡ getD entries (from key) 0 → {next : Step} → next ≡ nextStep s step
-        → Carrying from to P G entries before (set after p e) s next (key + 1)
-    carry-on l at entry {next} is =
+    pub carry-on : k .number < P → {i e : ℕ} → i ≡ to (k .number) → e ≡ getD entries (from (k .number)) 0
+        → {next : Key} → At (p .solved) next × (next .number ≡ k .number + 1) → Carrying chain p entries before (set after i e) next
+    carry-on l there entry (at, on) =
         record {
-          positive = c .positive;
-          solved = c .solved;
-          at =
-              subst (λ (x : Step). At s (key + 1) x) (sym is)
-              (at-next s (walkable P G (c .positive) s (c .solved)) key step (c .at));
-          upto = omega (arith, l);
-          content = placed-more from to entries key before (c .content) at entry;
+          at = at;
+          upto = omega (arith, l, on);
+          content = placed-more from to entries (k .number) before (c .content) there entry
+              ∙ ap (λ (n : ℕ). rearranged chain P G entries n before) (sym on);
         }
 
-    pub carry-end : P ≤ key → after ≡ placed from to entries P before
-    carry-end l = c .content ∙ ap (λ (k : ℕ). placed from to entries k before) (le-antisymm (c .upto) l)
+    pub carry-end : P ≤ k .number → after ≡ rearranged chain P G entries P before
+    carry-end l = c .content ∙ ap (λ (n : ℕ). rearranged chain P G entries n before) (le-antisymm (c .upto) l)

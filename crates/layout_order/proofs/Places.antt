@@ -2,30 +2,16 @@
 use Prim.Native.Nat.{ℕ, _+_, _*_, _/_, _%_, _<_}
 use mathlib.Core.Path.{_≡_, sym, ap, ap₂, _∙_, subst}
 use native.Mathlib.Nat.{mul-comm, mod-lt, mod-eq-of-lt, div-add-mod', div-lt-iff-lt-mul}
-use native.Mathlib.Omega.{arith}
 use lib.Arith.{digits-div, digits-mod, digits-lt}
 use lib.IntN.{pos}
-use mir.Syntax.{w64}
-use mir.Val.{Fits}
 use Rattle.math.proofs.Division.{apart→remainder}
-use Rattle.mos.proofs.Sizes.{product-fits}
 use Rattle.pergen.specs.Pergen.{cycles, reduced, degree, cycle}
-use Rattle.pergen.specs.Parts.{solvedOf, At}
-use Rattle.pergen.specs.declared.euclid.Solved.{Solved}
-use Rattle.pergen.specs.declared.stepping.Step.{Step}
 use Rattle.pergen.proofs.Inverse.{period-is, reduced-positive}
 use Rattle.pergen.proofs.Keys.{degree-below, cycle-below, keys-from-zero-on, degree-and-cycle-tell-keys-apart}
 use Rattle.pergen.proofs.DegreePlaces.{stars-of-key}
-use Rattle.pergen.proofs.CarriedWalk.{keyWith, key-with-below, key-with-cycle, key-with-degree, at-degree, at-cycle}
+use Rattle.pergen.proofs.CarriedWalk.{keyWith, key-with-below, key-with-cycle, key-with-degree}
 use Rattle.layout_order.specs.Order.{chainPlace}
 use Rattle.layout_order.specs.Theorems.{ChainOrderIsAPermutation}
-
--- a place fits 64 bits
-pub product-held : (a b : ℕ) → a < 65536 → b < 65536 → Fits w64 (a * b)
-product-held a b ha hb = omega (arith, product-fits a b ha hb)
-
-pub sum-held : (a b c : ℕ) → a < 65536 → b < 65536 → c < 65536 → Fits w64 (a * b + c)
-sum-held a b c ha hb hc = omega (arith, product-fits a b ha hb)
 
 module _ (P G : ℕ) (h : 0 < P) where
   -- by the formulas of degree and cycle
@@ -82,15 +68,6 @@ module _ (P G : ℕ) (h : 0 < P) where
         (key-with-cycle P G h (j % reduced P G) (j / reduced P G) low high)
         (key-with-degree P G h (j % reduced P G) (j / reduced P G) low high)
         ∙ div-add-mod' j (reduced P G)
-
-  -- a step that stands at a key tells its place
-  pub step-place : (s : Solved) → s ≡ solvedOf P G → (i : ℕ) (step : Step) → At s i step
-      → step .cycle * s .«reduced_period» + step .degree ≡ chainPlace P G i
-  unfolding solvedOf
-  step-place s is i step at =
-      ap₂ (λ (c d : ℕ). c * s .«reduced_period» + d) (at-cycle P G h s is i step at) (at-degree P G h s is i step at)
-      ∙ ap (λ (t : Solved). cycle P G i * t .«reduced_period» + degree P G i) is
-      ∙ sym (place-is i)
 
 pub chain-order-is-a-permutation : ChainOrderIsAPermutation
 chain-order-is-a-permutation P G h =

@@ -1,7 +1,7 @@
 -- Entries that go to the places of a permutation: each place holds the entry that went there, and what lies past them stays.
 use Prim.Native.Nat.{ℕ, zero, suc, _+_, _-_, _≤_, _<_}
 use mathlib.Core.Path.{_≡_, refl, sym, ap, ap₂, _∙_}
-use mathlib.Core.Bool.{Bool, true, false}
+use mathlib.Core.Bool.{Bool, true, false, not}
 use mathlib.Core.List.{List, _++_}
 use native.Mathlib.Numerals.{add-one}
 use native.Mathlib.Decide.{decLt}
@@ -10,8 +10,8 @@ use lib.Dec.{eqb}
 use lib.ListN.{length, getD, set, take, drop, replicate, length-set, length-append, length-drop, length-replicate, List·getD-append}
 use lib.Seq.{getD-set-same, getD-set-other, getD-append-add, getD-drop, getD-take, length-take-le, ext-getD}
 use borrow.Author.Tests.{eqb-true, eqb-false}
-use Rattle.layout_order.specs.Order.{chainPlace, placed, inChainOrder, inKeyOrder}
-use Rattle.layout_order.specs.Parts.{self}
+use Rattle.layout_order.specs.Order.{placed, inChainOrder, inKeyOrder}
+use Rattle.layout_order.specs.Parts.{positionIn, rearranged, orderOf}
 use Rattle.layout_order.specs.Theorems.{EntriesGoToTheirPlaces, EachUndoesTheOther}
 use Rattle.layout_order.proofs.Places.{place-below, places-apart, keyThere, key-there-below, key-there}
 
@@ -27,15 +27,16 @@ module _ (from to : ℕ → ℕ) (entries : List ℕ) where
   pub placed-length : (count : ℕ) (xs : List ℕ) → length (placed from to entries count xs) ≡ length xs
   unfolding placed
   placed-length zero xs = refl
-  placed-length (suc count) xs = length-set (placed from to entries count xs) (to count) (getD entries (from count) 0) ∙ placed-length count xs
+  placed-length (suc count) xs =
+      length-set (placed from to entries count xs) (to count) (getD entries (from count) 0) ∙ placed-length count xs
 
   pub placed-none : (xs : List ℕ) → xs ≡ placed from to entries 0 xs
   unfolding placed
   placed-none xs = refl
 
   -- one entry more, as the code stores it
-  pub placed-more : (k : ℕ) (xs : List ℕ) {ys : List ℕ} {p e : ℕ} → ys ≡ placed from to entries k xs → p ≡ to k → e ≡ getD entries (from k) 0
-      → set ys p e ≡ placed from to entries (k + 1) xs
+  pub placed-more : (k : ℕ) (xs : List ℕ) {ys : List ℕ} {p e : ℕ} → ys ≡ placed from to entries k xs → p ≡ to k
+      → e ≡ getD entries (from k) 0 → set ys p e ≡ placed from to entries (k + 1) xs
   unfolding placed
   placed-more k xs {ys} {p} {e} is at entry =
       ap (λ (l : List ℕ). set l p e) is
@@ -43,11 +44,13 @@ module _ (from to : ℕ → ℕ) (entries : List ℕ) where
       ∙ sym (ap (λ (n : ℕ). placed from to entries n xs) (add-one k))
 
   -- what lies past all places stays
-  pub placed-past : (count : ℕ) (xs : List ℕ) (j : ℕ) → ((i : ℕ) → i < count → to i < j) → getD (placed from to entries count xs) j 0 ≡ getD xs j 0
+  pub placed-past : (count : ℕ) (xs : List ℕ) (j : ℕ) → ((i : ℕ) → i < count → to i < j)
+      → getD (placed from to entries count xs) j 0 ≡ getD xs j 0
   unfolding placed
   placed-past zero xs j h = refl
   placed-past (suc count) xs j h =
-      getD-set-other (placed from to entries count xs) (to count) j (getD entries (from count) 0) 0 (λ e. let z : ⊥ = omega (arith, e, h count (omega arith)) in z)
+      getD-set-other (placed from to entries count xs) (to count) j (getD entries (from count) 0) 0
+      (λ e. let z : ⊥ = omega (arith, e, h count (omega arith)) in z)
       ∙ placed-past count xs j (λ i l. h i (omega (arith, l)))
 
   -- the entry of i stands at its place
@@ -115,11 +118,9 @@ module _ (from to : ℕ → ℕ) (entries : List ℕ) where
 
 -- ---- the two orders
 
-pub self-permutes : (P : ℕ) → Permutes self P
-self-permutes P = record { within = λ i h. h; apart = λ i j hi hj e. e; back = λ j h. j; back-below = λ j h. h; back-is = λ j h. refl }
-
-pub chain-permutes : (P G : ℕ) → 0 < P → Permutes (chainPlace P G) P
-chain-permutes P G h =
+pub order-permutes : (chain : Bool) (P G : ℕ) → 0 < P → Permutes (positionIn chain P G) P
+unfolding positionIn
+order-permutes true P G h =
     record {
       within = λ i l. place-below P G h i;
       apart = places-apart P G h;
@@ -127,63 +128,73 @@ chain-permutes P G h =
       back-below = key-there-below P G h;
       back-is = key-there P G h;
     }
+order-permutes false P G h =
+    record { within = λ i l. l; apart = λ i j li lj e. e; back = λ j l. j; back-below = λ j l. l; back-is = λ j l. refl }
 
-module _ (P G : ℕ) (h : 0 < P) (entries : List ℕ) where
-  pub chain-is : inChainOrder P G entries ≡ placed self (chainPlace P G) entries P (replicate P 0)
-  unfolding inChainOrder
-  chain-is = refl
+pub order-is : (chain : Bool) (P G : ℕ) (entries : List ℕ)
+    → orderOf chain P G entries ≡ rearranged chain P G entries P (replicate P 0)
+unfolding orderOf positionIn inChainOrder inKeyOrder
+order-is true P G entries = refl
+order-is false P G entries = refl
 
-  pub key-is : inKeyOrder P G entries ≡ placed (chainPlace P G) self entries P (replicate P 0)
-  unfolding inKeyOrder
-  key-is = refl
+module _ (chain : Bool) (P G : ℕ) (h : 0 < P) (entries : List ℕ) where
+  pub order-length : length (orderOf chain P G entries) ≡ P
+  order-length =
+      ap length (order-is chain P G entries)
+      ∙ whole-length (positionIn (not chain) P G) (positionIn chain P G) entries P (order-permutes chain P G h)
 
-  pub chain-length : length (inChainOrder P G entries) ≡ P
-  chain-length = ap length chain-is ∙ whole-length self (chainPlace P G) entries P (chain-permutes P G h)
+  -- what the walk leaves is the list at the front
+  pub order-front : (xs : List ℕ) → P ≤ length xs
+      → rearranged chain P G entries P xs ≡ orderOf chain P G entries ++ drop (length (orderOf chain P G entries)) xs
+  order-front xs room =
+      placed-front (positionIn (not chain) P G) (positionIn chain P G) entries P (order-permutes chain P G h) xs room
+      ∙ ap (λ (l : List ℕ). l ++ drop (length l) xs) (sym (order-is chain P G entries))
 
-  pub key-length : length (inKeyOrder P G entries) ≡ P
-  key-length = ap length key-is ∙ whole-length (chainPlace P G) self entries P (self-permutes P)
-
-  goes-there : (i : ℕ) → i < P → getD (inChainOrder P G entries) (chainPlace P G i) 0 ≡ getD entries i 0
-  goes-there i l =
-      ap (λ (x : List ℕ). getD x (chainPlace P G i) 0) chain-is
-      ∙ placed-at self (chainPlace P G) entries P (replicate P 0) (places-apart P G h) i l
-      (omega (arith, length-replicate {A = ℕ} P 0, place-below P G h i))
-
-  comes-back : (i : ℕ) → i < P → getD (inKeyOrder P G entries) i 0 ≡ getD entries (chainPlace P G i) 0
-  comes-back i l =
-      ap (λ (x : List ℕ). getD x i 0) key-is
-      ∙ placed-at (chainPlace P G) self entries P (replicate P 0) (λ a b la lb e. e) i l (omega (arith, length-replicate {A = ℕ} P 0))
+  -- the entry of key i goes from where the other order has it to where this one has
+  pub entry-goes : (i : ℕ) → i < P
+      → getD (orderOf chain P G entries) (positionIn chain P G i) 0 ≡ getD entries (positionIn (not chain) P G i) 0
+  entry-goes i l =
+      ap (λ (x : List ℕ). getD x (positionIn chain P G i) 0) (order-is chain P G entries)
+      ∙ placed-at (positionIn (not chain) P G) (positionIn chain P G) entries P (replicate P 0) (order-permutes chain P G h .apart) i l
+      (omega (arith, length-replicate {A = ℕ} P 0, order-permutes chain P G h .within i l))
 
 pub entries-go-to-their-places : EntriesGoToTheirPlaces
+unfolding orderOf positionIn
 entries-go-to-their-places P G h entries =
     record {
-      there = goes-there P G h entries;
-      back = comes-back P G h entries;
-      there-many = chain-length P G h entries;
-      back-many = key-length P G h entries;
+      there = entry-goes true P G h entries;
+      back = entry-goes false P G h entries;
+      there-many = order-length true P G h entries;
+      back-many = order-length false P G h entries;
     }
 
+-- ---- each undoes the other
+
+position-not-not : (chain : Bool) (P G i : ℕ) → positionIn (not (not chain)) P G i ≡ positionIn chain P G i
+unfolding positionIn
+position-not-not true P G i = refl
+position-not-not false P G i = refl
+
+pub order-undone : (chain : Bool) (P G : ℕ) → 0 < P → (entries : List ℕ) → P ≤ length entries
+    → orderOf (not chain) P G (orderOf chain P G entries) ≡ take P entries
+order-undone chain P G h entries room =
+    let other = orderOf chain P G entries in
+    let back = order-permutes (not chain) P G h in
+    let many = order-length (not chain) P G h other in
+    ext-getD 0 (orderOf (not chain) P G other) (take P entries) (many ∙ sym (length-take-le P entries room))
+    (λ j l.
+    let below : j < P = omega (arith, l, many) in
+    let i = back .back j below in
+    let there = back .back-is j below in
+    let within = back .back-below j below in
+    ap (λ (k : ℕ). getD (orderOf (not chain) P G other) k 0) (sym there)
+    ∙ entry-goes (not chain) P G h other i within
+    ∙ ap (λ (k : ℕ). getD other k 0) (position-not-not chain P G i)
+    ∙ entry-goes chain P G h entries i within
+    ∙ ap (λ (k : ℕ). getD entries k 0) there
+    ∙ sym (getD-take P entries j 0 below))
+
 pub each-undoes-the-other : EachUndoesTheOther
+unfolding orderOf
 each-undoes-the-other P G h entries room =
-    let chain = inChainOrder P G entries in
-    let keys = inKeyOrder P G entries in
-    let taken = length-take-le P entries room in
-    record {
-      there-and-back =
-          ext-getD 0 (inKeyOrder P G chain) (take P entries) (key-length P G h chain ∙ sym taken)
-          (λ i l.
-          let below : i < P = omega (arith, l, key-length P G h chain) in
-          comes-back P G h chain i below ∙ goes-there P G h entries i below ∙ sym (getD-take P entries i 0 below));
-      back-and-there =
-          ext-getD 0 (inChainOrder P G keys) (take P entries) (chain-length P G h keys ∙ sym taken)
-          (λ j l.
-          let below : j < P = omega (arith, l, chain-length P G h keys) in
-          let i = keyThere P G h j below in
-          let there : chainPlace P G i ≡ j = key-there P G h j below in
-          let within : i < P = key-there-below P G h j below in
-          ap (λ (k : ℕ). getD (inChainOrder P G keys) k 0) (sym there)
-          ∙ goes-there P G h keys i within
-          ∙ comes-back P G h entries i within
-          ∙ ap (λ (k : ℕ). getD entries k 0) there
-          ∙ sym (getD-take P entries j 0 below));
-    }
+    record { there-and-back = order-undone true P G h entries room; back-and-there = order-undone false P G h entries room }

@@ -1,5 +1,5 @@
 pub mod Order
-pub mod Parts
 pub mod Answers
+pub mod Parts
 pub mod Theorems
 pub mod Examples

@@ -8,7 +8,6 @@ mod parts;
 
 use answer::CountAnswer;
 use layout::IsomorphicLayout;
-use layout::parts::FoundAnswer;
 ghost use lib.ListN.{length};
 ghost use Rattle.answer.specs.Lent.{inRoom, Filled};
 ghost use Rattle.answer.specs.Refusals.{countOutcome};
@@ -16,31 +15,15 @@ ghost use Rattle.layout_order.specs.Answers.{getChainOrder, getKeyOrder}
 
 // The entry of each key at its place in the chain: one cycle after the other, and in each the keys as the chain meets them
 // (1, 2, 3, 4, 18, 10). A list that is shorter than the octave is refused with 10, whichever it is.
-pub fn to_chain_order(layout: IsomorphicLayout, keys: &[u16], out: &mut [u16]) -> CountAnswer
-    ensures { λ r. ⌜ Filled (inRoom (length (now (out .entry))) (getChainOrder layout (now (keys .entry)))) (countOutcome r) (now (out .entry)) (now (out .exit)) ⌝ }
+pub fn to_chain_order(layout: IsomorphicLayout, entries: &[u16], out: &mut [u16]) -> CountAnswer
+    ensures { λ r. ⌜ Filled (inRoom (length (now (out .entry))) (getChainOrder layout (now (entries .entry)))) (countOutcome r) (now (out .entry)) (now (out .exit)) ⌝ }
 {
-    match layout::parts::ask(layout) {
-        FoundAnswer::Refused(q) => CountAnswer::Refused(q),
-        FoundAnswer::Given(found) => parts::write_chain_order(
-            found.octave,
-            found.generator,
-            keys,
-            out,
-        ),
-    }
+    parts::order(layout, true, entries, out)
 }
 
 // The same entries back in the order of the keys (1, 2, 3, 4, 18, 10).
-pub fn to_key_order(layout: IsomorphicLayout, keys: &[u16], out: &mut [u16]) -> CountAnswer
-    ensures { λ r. ⌜ Filled (inRoom (length (now (out .entry))) (getKeyOrder layout (now (keys .entry)))) (countOutcome r) (now (out .entry)) (now (out .exit)) ⌝ }
+pub fn to_key_order(layout: IsomorphicLayout, entries: &[u16], out: &mut [u16]) -> CountAnswer
+    ensures { λ r. ⌜ Filled (inRoom (length (now (out .entry))) (getKeyOrder layout (now (entries .entry)))) (countOutcome r) (now (out .entry)) (now (out .exit)) ⌝ }
 {
-    match layout::parts::ask(layout) {
-        FoundAnswer::Refused(q) => CountAnswer::Refused(q),
-        FoundAnswer::Given(found) => parts::write_key_order(
-            found.octave,
-            found.generator,
-            keys,
-            out,
-        ),
-    }
+    parts::order(layout, false, entries, out)
 }

@@ -11,19 +11,6 @@ use Rattle.layout_reach.specs.Reach.{distance}
 use Rattle.layout_reach.specs.Parts.{Block, NearerEnd, NearestIn}
 use Rattle.layout_reach.proofs.Distances.{gap, distance-is}
 
--- ---- along a block that the key is not in, one way round grows and the other shrinks
-
-module _ (P gb cb gj cj gl cl db dj dl : ℕ) (sb : gb + cb ≡ P) (sj : gj + cj ≡ P) (sl : gl + cl ≡ P)
-    (eb : db ≡ min gb cb) (ej : dj ≡ min gj cj) (el : dl ≡ min gl cl) (before : gb ≤ gj) (behind : gj ≤ gl) where
-  no-nearer-than-last : dl < db → dl ≤ dj
-  no-nearer-than-last h = omega arith
-
-  only-last : dl < db → dl ≡ dj → gl ≤ gj
-  only-last h e = omega arith
-
-  no-nearer-than-base : db ≤ dl → db ≤ dj
-  no-nearer-than-base h = omega arith
-
 above : (P j key : ℕ) → key ≤ j → j < P → distance P (pos j) (pos key) ≡ min (j - key) (P - (j - key))
 above P j key h l =
     distance-is P j key l (omega arith) ∙ ap (λ (g : ℕ). min g (P - g)) (let z : gap j key ≡ j - key = omega arith in z)
@@ -57,57 +44,81 @@ module _ (P base n key : ℕ) (b : Block P base n) (hk : key < P) where
   abbrev pub Outside : Type 0
   Outside = (key < base) ⊎ (base + n ≤ key)
 
+  -- along a block that the key is not in one way round grows and the other shrinks; the smaller is the distance
+  record Ways : Type 0 where
+    growing : ℕ → ℕ
+    shrinking : ℕ → ℕ
+    round : (i : ℕ) → base ≤ i → i < base + n → growing i + shrinking i ≡ P
+    smaller : (i : ℕ) → base ≤ i → i < base + n → distance P (pos i) (pos key) ≡ min (growing i) (shrinking i)
+    grows : (i j : ℕ) → base ≤ i → i ≤ j → j < base + n → growing i ≤ growing j
+    stays-behind : (i j : ℕ) → base ≤ i → i < base + n → j < base + n → growing i ≤ growing j → i ≤ j
+
+  ways : Outside → Ways
+  ways (inl o) =
+      record {
+        growing = λ i. i - key;
+        shrinking = λ i. P - (i - key);
+        round = λ i f t. omega (arith, b .fits);
+        smaller = λ i f t. above P i key (omega arith) (omega (arith, b .fits));
+        grows = λ i j f h t. omega arith;
+        stays-behind = λ i j f t u h. omega arith;
+      }
+  ways (inr o) =
+      record {
+        growing = λ i. P - (key - i);
+        shrinking = λ i. key - i;
+        round = λ i f t. omega arith;
+        smaller = λ i f t. below P i key (omega arith) hk;
+        grows = λ i j f h t. omega arith;
+        stays-behind = λ i j f t u h. omega arith;
+      }
+
   module _ (last : ℕ) (e : last + 1 ≡ base + n) where
-    least-last : Outside → distance P (pos last) (pos key) < distance P (pos base) (pos key) → (j : ℕ) → base ≤ j → j < base + n
-        → distance P (pos last) (pos key) ≤ distance P (pos j) (pos key)
-    least-last (inl o) h j f t =
-        no-nearer-than-last P (base - key) (P - (base - key)) (j - key) (P - (j - key)) (last - key) (P - (last - key)) _ _ _
-        (omega (arith, b .fits)) (omega (arith, b .fits)) (omega (arith, b .fits))
-        (above P base key (omega arith) (omega (arith, b .fits))) (above P j key (omega arith) (omega (arith, b .fits)))
-        (above P last key (omega arith) (omega (arith, b .fits))) (omega arith) (omega arith) h
-    least-last (inr o) h j f t =
-        no-nearer-than-last P (P - (key - base)) (key - base) (P - (key - j)) (key - j) (P - (key - last)) (key - last) _ _ _
-        (omega arith) (omega arith) (omega arith)
-        (below P base key (omega arith) hk) (below P j key (omega arith) hk) (below P last key (omega arith) hk)
-        (omega arith) (omega arith) h
+    -- both ways round, of the block's ends and of a key in it
+    record Three (j db dj dl : ℕ) : Type 0 where
+      no-nearer-than-last : dl < db → dl ≤ dj
+      only-last : dl < db → dl ≡ dj → last ≤ j
+      no-nearer-than-base : db ≤ dl → db ≤ dj
 
-    lower-last : Outside → distance P (pos last) (pos key) < distance P (pos base) (pos key) → (j : ℕ) → base ≤ j → j < base + n
-        → distance P (pos last) (pos key) ≡ distance P (pos j) (pos key) → last ≤ j
-    lower-last (inl o) h j f t q =
-        let z : last - key ≤ j - key
-        = only-last P (base - key) (P - (base - key)) (j - key) (P - (j - key)) (last - key) (P - (last - key)) _ _ _
-        (omega (arith, b .fits)) (omega (arith, b .fits)) (omega (arith, b .fits))
-        (above P base key (omega arith) (omega (arith, b .fits))) (above P j key (omega arith) (omega (arith, b .fits)))
-        (above P last key (omega arith) (omega (arith, b .fits))) (omega arith) (omega arith) h q in
-        omega arith
-    lower-last (inr o) h j f t q =
-        let z : P - (key - last) ≤ P - (key - j)
-        = only-last P (P - (key - base)) (key - base) (P - (key - j)) (key - j) (P - (key - last)) (key - last) _ _ _
-        (omega arith) (omega arith) (omega arith)
-        (below P base key (omega arith) hk) (below P j key (omega arith) hk) (below P last key (omega arith) hk)
-        (omega arith) (omega arith) h q in
-        omega arith
-
-    least-base : Outside → distance P (pos base) (pos key) ≤ distance P (pos last) (pos key) → (j : ℕ) → base ≤ j → j < base + n
-        → distance P (pos base) (pos key) ≤ distance P (pos j) (pos key)
-    least-base (inl o) h j f t =
-        no-nearer-than-base P (base - key) (P - (base - key)) (j - key) (P - (j - key)) (last - key) (P - (last - key)) _ _ _
-        (omega (arith, b .fits)) (omega (arith, b .fits)) (omega (arith, b .fits))
-        (above P base key (omega arith) (omega (arith, b .fits))) (above P j key (omega arith) (omega (arith, b .fits)))
-        (above P last key (omega arith) (omega (arith, b .fits))) (omega arith) (omega arith) h
-    least-base (inr o) h j f t =
-        no-nearer-than-base P (P - (key - base)) (key - base) (P - (key - j)) (key - j) (P - (key - last)) (key - last) _ _ _
-        (omega arith) (omega arith) (omega arith)
-        (below P base key (omega arith) hk) (below P j key (omega arith) hk) (below P last key (omega arith) hk)
-        (omega arith) (omega arith) h
+    three : Outside → (j : ℕ) → base ≤ j → j < base + n
+        → Three j (distance P (pos base) (pos key)) (distance P (pos j) (pos key)) (distance P (pos last) (pos key))
+    three o j f t =
+        let w = ways o in
+        let from : base ≤ base = omega arith in
+        let some : base < base + n = omega (arith, b .some) in
+        let end : base ≤ last = omega (arith, b .some) in
+        let ends : last < base + n = omega arith in
+        let r₁ = w .round base from some in
+        let r₂ = w .round j f t in
+        let r₃ = w .round last end ends in
+        let s₁ = w .smaller base from some in
+        let s₂ = w .smaller j f t in
+        let s₃ = w .smaller last end ends in
+        let g₁ = w .grows base j from f t in
+        let g₂ = w .grows j last f (omega arith) ends in
+        record {
+          no-nearer-than-last = λ h. omega arith;
+          only-last = λ h q. w .stays-behind last j end ends t (omega arith);
+          no-nearer-than-base = λ h. omega arith;
+        }
 
     last-is : Outside → distance P (pos last) (pos key) < distance P (pos base) (pos key) → NearestIn P base n key last
     last-is o h =
-        record { from = omega (arith, b .some); below = omega arith; least = least-last o h; lower = lower-last o h }
+        record {
+          from = omega (arith, b .some);
+          below = omega arith;
+          least = λ j f t. three o j f t .no-nearer-than-last h;
+          lower = λ j f t q. three o j f t .only-last h q;
+        }
 
     base-is : Outside → distance P (pos base) (pos key) ≤ distance P (pos last) (pos key) → NearestIn P base n key base
     base-is o h =
-        record { from = omega arith; below = omega (arith, b .some); least = least-base o h; lower = λ j f t q. f }
+        record {
+          from = omega arith;
+          below = omega (arith, b .some);
+          least = λ j f t. three o j f t .no-nearer-than-base h;
+          lower = λ j f t q. f;
+        }
 
     pub end-is : Outside → (r : ℕ) → NearerEnd P base last key r → NearestIn P base n key r
     end-is o r w = by (w .which)

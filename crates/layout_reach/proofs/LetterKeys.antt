@@ -11,12 +11,14 @@ use lib.ListN.{length, replicate}
 use borrow.Author.Tests.{eqb-true, eq-eqb}
 use native.Mathlib.Nat.{mod-eq-of-lt, mod-lt, div-eq-of-lt, add-mul, one-mul, mul-comm, mul-assoc, mul-le-mul, le-refl, add-zero, mul-zero, add-sub-of-le}
 use native.Mathlib.Omega.{arith}
-use Rattle.answer.proofs.Asked.{and-left, and-right}
+use Rattle.answer.proofs.Asked.{and-left, and-right, never-true}
 use Rattle.genchain.specs.Chains.{chainOf}
 use Rattle.math.specs.Division.{remainder, Apart}
+use Rattle.math.specs.Passing.{run, passing}
 use Rattle.math.proofs.Congruence.{add-cong, two-digits}
 use Rattle.math.proofs.Integers.{rep-pos, rep-minus, rep-agree}
 use Rattle.math.proofs.Division.{remainder-rep, remainders-agree, apart-iff, apart→remainder}
+use Rattle.math.proofs.Passing.{length-run, kept-to, left-out-to, none-passes}
 use Rattle.notes.specs.Names.{letterText, letterAt, spellingText, letterAlone, printed, firstPrinted, printedText, nameText}
 use Rattle.notes.specs.Answers.{chainName}
 use Rattle.notes.specs.Theorems.{SameSpelling}
@@ -39,9 +41,8 @@ use Rattle.layout.specs.Names.{placeIn, keyOf, printedIn, nameIn}
 use Rattle.layout.specs.Theorems.{SoundsKey}
 use Rattle.layout.proofs.Finding.{Parts, accepted}
 use Rattle.layout.proofs.Naming.{enough-keys, lettered, names-sound-their-key}
-use Rattle.layout_reach.specs.Reach.{run, passing, starred, bears, keysOf}
+use Rattle.layout_reach.specs.Reach.{starred, bears, keysOf}
 use Rattle.layout_reach.specs.Theorems.{BearsIsTheName, bare, BareLettersSoundTheirKeys, LettersHaveKeys}
-use Rattle.layout_reach.proofs.Passing.{length-run, kept-to, left-out-to, none-passes, not-true}
 
 -- ---- the test on the name's bytes
 
@@ -253,7 +254,7 @@ module _ (r : IsomorphicLayout) (l : Layout) (e : Accepted r l) (letter : ℕ) (
       (sounds-from P G letter (l .start) some (k - base) below ∙ add-sub-of-le f ∙ sym (mod-eq-of-lt (omega (arith, within))))
 
   outside-not : (k : ℕ) → k < P → (k < base) ⊎ (base + cycles P G ≤ k) → bears l letter (pos k) ≡ false
-  outside-not k h o = not-true (bears l letter (pos k)) (λ t. by o (bears-inside k h t))
+  outside-not k h o = never-true (bears l letter (pos k)) (λ t. by o (bears-inside k h t))
     where
       by : (k < base) ⊎ (base + cycles P G ≤ k) → (base ≤ k) × (k < base + cycles P G) → ⊥
       by (inl b) i = let z : ⊥ = omega (arith, i .0) in z

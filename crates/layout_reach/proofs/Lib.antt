@@ -1,5 +1,4 @@
 pub mod Distances
-pub mod Passing
 pub mod Blocks
 pub mod LetterKeys
 pub mod Nearest

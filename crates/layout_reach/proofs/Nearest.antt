@@ -1,16 +1,23 @@
 -- The nearest key of a letter: what is nearest among its neighbouring keys is what the definition's search finds; and what the call answers.
 use Prim.Native.Nat.{ℕ, _≤_, _<_}
+use mathlib.Core.Bool.{Bool, true, false, _&&_}
+use mathlib.Core.List.{List, [], _∷_, List·Memᴰ, List·Memᴰ·not-nil}
+use mathlib.Core.Logic.{_⊎_, inl, inr}
 use mathlib.Core.Path.{_≡_, refl, sym, ap, _∙_, subst}
-use lib.Dec.{ltb}
+use lib.Dec.{eqb, ltb}
 use lib.IntN.{ℤ, pos, _-ℤ_}
-use borrow.Author.Tests.{ltb-true}
+use lib.ListN.{length}
+use borrow.Author.Tests.{eq-eqb, eqb-true, lt-ltb, ltb-true}
+use native.Mathlib.Nat.{eq-or-lt-of-le}
 use native.Mathlib.Omega.{arith}
 use Rattle.answer.specs.Outcome.{Outcome, given, refused, andThen}
-use Rattle.answer.proofs.Asked.{given-same, asked-yes, asked-rest}
+use Rattle.answer.proofs.Asked.{given-same, asked-yes, asked-rest, and-left, and-right, and-both, never-true}
 use Rattle.answer.proofs.Questions.{ask-above, ask-below}
 use Rattle.math.specs.Division.{remainder}
 use Rattle.math.specs.Gcd.{GcdOf}
+use Rattle.math.specs.Passing.{first, passing}
 use Rattle.math.proofs.Division.{remainder-below}
+use Rattle.math.proofs.Passing.{none-passes, passes-iff, first-is}
 use Rattle.pergen.specs.Pergen.{cycles}
 use Rattle.pergen.specs.Spelling.{sounds}
 use Rattle.pergen.proofs.Calls.{cycles-found}
@@ -25,9 +32,54 @@ use Rattle.layout_reach.specs.Answers.{nearestIn, getNearest}
 use Rattle.layout_reach.specs.Parts.{Block, NearestIn, NearestFrom}
 use Rattle.layout_reach.specs.Theorems.{IsNearest, NearestIsAnswered, SomeNearest}
 use Rattle.layout_reach.proofs.Distances.{distance-key}
-use Rattle.layout_reach.proofs.Passing.{nearest-of}
 use Rattle.layout_reach.proofs.Blocks.{some-nearest}
 use Rattle.layout_reach.proofs.LetterKeys.{sounds-fit, base, within, bears-inside, inside-bears}
+
+-- ---- of the numbers that pass a test, the first than which none is nearer
+
+module _ (test : ℕ → Bool) (away : ℕ → ℕ) (count : ℕ) where
+  abbrev nearerTo : ℕ → ℕ → Bool
+  nearerTo k j = test j && ltb (away j) (away k)
+
+  abbrev noneNearer : ℕ → Bool
+  noneNearer k = eqb (length (passing (nearerTo k) count 0)) 0
+
+  empty : (ks : List ℕ) → length ks ≡ 0 → ks ≡ []
+  empty [] e = refl
+  empty (k ∷ ks) e = absurd (let z : ⊥ = omega arith in z)
+
+  module _ (r : ℕ) (below : r < count) (passes : test r ≡ true)
+      (least : (j : ℕ) → j < count → test j ≡ true → away r ≤ away j)
+      (lower : (j : ℕ) → j < count → test j ≡ true → away r ≡ away j → r ≤ j) where
+    none-nearer : noneNearer r ≡ true
+    none-nearer =
+        eq-eqb _ 0
+        (ap length
+        (none-passes (nearerTo r) count 0
+        (λ j u v. never-true (nearerTo r j)
+        (λ t. let z : ⊥ = omega (arith, ltb-true (away j) (away r) (and-right (test j) _ t), least j (omega arith) (and-left (test j) _ t)) in z))))
+
+    -- a lower one that passes is farther, and so has r nearer than itself
+    lower-fails : (k : ℕ) → k < r → (test k && noneNearer k) ≡ false
+    lower-fails k l =
+        never-true (test k && noneNearer k)
+        (λ t.
+        let passed = and-left (test k) _ t in
+        let farther : away r < away k = farther-by passed (eq-or-lt-of-le (least k (omega arith) passed)) in
+        let in-it = passes-iff (nearerTo k) count r .1 (below, and-both (test r) (ltb (away r) (away k)) passes (lt-ltb (away r) (away k) farther)) in
+        let none : passing (nearerTo k) count 0 ≡ [] = empty _ (eqb-true _ 0 (and-right (test k) _ t)) in
+        List·Memᴰ·not-nil (subst (List·Memᴰ r) none in-it))
+      where
+        farther-by : test k ≡ true → (away r ≡ away k) ⊎ (away r < away k) → away r < away k
+        farther-by p (inl e) = absurd (let z : ⊥ = omega (arith, lower k (omega arith) p e) in z)
+        farther-by p (inr m) = m
+
+    nearest-of : first (λ k. test k && noneNearer k) count 0 ≡ r
+    nearest-of =
+        first-is (λ k. test k && noneNearer k) count 0 r (omega arith) (omega arith) (and-both (test r) (noneNearer r) passes none-nearer)
+        (λ k u v. lower-fails k v)
+
+-- ---- the nearest key of a letter
 
 -- there is only one nearest key
 only-nearest : (l : Layout) (key : ℤ) (letter k : ℕ) → IsNearest l key letter k → nearest l key letter ≡ k

@@ -14,19 +14,20 @@ use Rattle.answer.specs.Outcome.{Outcome, given, refused, andThen}
 use Rattle.answer.specs.Lent.{heldIn, inRoom, counted, Filled}
 use Rattle.answer.proofs.Lent.{held, not-held, filled-refused}
 use Rattle.math.specs.Division.{remainder}
+use Rattle.math.specs.Passing.{run, passing}
 use Rattle.math.proofs.Division.{remainder-below}
+use Rattle.math.proofs.Passing.{length-run, run-more, kept-to, left-out-to, none-passes, passes-iff, passing-rise}
 use Rattle.text.specs.Writing.{Room, Wrote}
 use Rattle.text.proofs.Writing.{wrote-none, wrote-one, then, wrote-as, room-first, filled-given}
 use Rattle.layout.specs.declared.IsomorphicLayout.{IsomorphicLayout}
 use Rattle.layout.specs.Layouts.{Layout, layoutOutcome}
 use Rattle.layout.proofs.Calls.{of-refused, of-given, parts-of, filled-as, refused-in-room}
-use Rattle.layout_reach.specs.Reach.{distance, run, passing, inReach}
+use Rattle.layout_reach.specs.Reach.{distance, inReach}
 use Rattle.layout_reach.specs.Answers.{getReach, CountsReach}
 use Rattle.layout_reach.specs.Parts.{SpanOf}
 use Rattle.layout_reach.specs.Theorems.{ReachIs, ReachIsExact}
 use Rattle.layout_reach.specs.declared.parts.Span.{Span}
 use Rattle.layout_reach.proofs.Distances.{gap, distance-is, distance-key}
-use Rattle.layout_reach.proofs.Passing.{length-run, run-more, kept-to, left-out-to, none-passes, passes-iff, passing-rise}
 
 -- ---- near and far, by the gap of two keys of the octave
 

@@ -1,5 +1,5 @@
 -- Distances round the octave, the keys of a letter, the nearest of them, and the keys in reach (document 02, W-203).
-use Prim.Native.Nat.{ℕ, zero, suc, min}
+use Prim.Native.Nat.{ℕ, min}
 use mathlib.Core.Bool.{Bool, true, false, _&&_}
 use mathlib.Core.List.{List, [], _∷_}
 use lib.Dec.{eqb, ltb, leb}
@@ -7,8 +7,8 @@ use lib.IntN.{ℤ, pos, _-ℤ_}
 use lib.ListN.{length}
 use Rattle.genchain.specs.Chains.{chainOf}
 use Rattle.math.specs.Division.{remainder}
+use Rattle.math.specs.Passing.{first, passing}
 use Rattle.notes.specs.Names.{letterText, letterAt}
-use Rattle.pergen.specs.Pergen.{first}
 use Rattle.layout.specs.Layouts.{Layout}
 use Rattle.layout.specs.Names.{nameIn}
 
@@ -16,16 +16,6 @@ use Rattle.layout.specs.Names.{nameIn}
 -- remainders that are never negative.
 unfoldable pub distance : ℕ → ℤ → ℤ → ℕ
 distance octave x y = min (remainder (x -ℤ y) octave) (remainder (y -ℤ x) octave)
-
--- The numbers from `from` on, so many.
-unfoldable pub run : ℕ → ℕ → List ℕ
-run from zero = []
-run from (suc count) = from ∷ run (suc from) count
-
--- The numbers from `from` on, `count` of them, that pass a test: "each once, rising".
-unfoldable pub passing : (ℕ → Bool) → ℕ → ℕ → List ℕ
-passing test zero from = []
-passing test (suc count) from = elim (test from) [ true ↦ from ∷ passing test count (suc from) | false ↦ passing test count (suc from) ]
 
 -- ---- "whose name is that bare letter, with any stars"
 

@@ -1,8 +1,8 @@
 -- What holds of distances, of every accepted layout's letters, and of the keys in reach. `Apart d x y` says that x and y differ by a
 -- multiple of d. Proofs: proofs/.
-use Prim.Native.Nat.{ℕ, suc, _+_, _*_, _<_, _≤_, min}
+use Prim.Native.Nat.{ℕ, _+_, _*_, _<_, _≤_, min}
 use mathlib.Core.Bool.{true}
-use mathlib.Core.List.{List, [], _∷_, _++_, List·Memᴰ}
+use mathlib.Core.List.{_++_, List·Memᴰ}
 use mathlib.Core.Logic.{_↔_}
 use mathlib.Core.Path.{_≡_}
 use lib.IntN.{ℤ, pos}
@@ -10,13 +10,14 @@ use lib.ListN.{length, replicate}
 use Rattle.answer.specs.Outcome.{given}
 use Rattle.genchain.specs.Chains.{chainOf}
 use Rattle.math.specs.Division.{remainder, Apart}
+use Rattle.math.specs.Passing.{run, RisingFrom}
 use Rattle.notes.specs.Names.{letterText, letterAt}
 use Rattle.pergen.specs.declared.Signs.the-variants.{Sharps}
 use Rattle.pergen.specs.declared.Spelling.{Spelling}
 use Rattle.layout.specs.declared.IsomorphicLayout.{IsomorphicLayout}
 use Rattle.layout.specs.Layouts.{Layout, Accepted, cyclesIn}
 use Rattle.layout.specs.Names.{IsSpelling, keyOf, nameIn}
-use Rattle.layout_reach.specs.Reach.{distance, run, bears, keysOf, inReach}
+use Rattle.layout_reach.specs.Reach.{distance, bears, keysOf, inReach}
 use Rattle.layout_reach.specs.Answers.{getNearest}
 
 -- ---- distances
@@ -87,11 +88,6 @@ SomeNearest =
     → (letter : ℕ) → letter < l .letters → (key : ℤ) → (k : ℕ) × (getNearest r key letter ≡ given k)
 
 -- ---- the keys in reach
-
--- Each number is above the one before it, the first at least `least`: so none stands there twice.
-abbrev pub RisingFrom : ℕ → List ℕ → Type 0
-RisingFrom least [] = Unit {0}
-RisingFrom least (k ∷ ks) = (least ≤ k) × RisingFrom (suc k) ks
 
 pub record ReachIs (octave : ℕ) (key : ℤ) (d : ℕ) : Type 0 where
   pub rising : RisingFrom 0 (inReach octave key d)

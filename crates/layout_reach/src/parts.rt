@@ -15,7 +15,8 @@ ghost use Rattle.answer.specs.Refusals.{numberOutcome, countOutcome};
 ghost use Rattle.text.specs.Writing.{Room, Wrote};
 ghost use Rattle.layout.specs.Parts.{layoutOf, Laid};
 ghost use Rattle.layout_reach.specs.Answers.{nearestIn};
-ghost use Rattle.layout_reach.specs.Reach.{distance, run, inReach};
+ghost use Rattle.math.specs.Passing.{run};
+ghost use Rattle.layout_reach.specs.Reach.{distance, inReach};
 ghost use Rattle.layout_reach.specs.Parts.{Block, NearerEnd, NearestIn, NearestFrom, SpanOf};
 
 // The shorter way round, where the one way is `gap` steps.

@@ -17,7 +17,7 @@ use Rattle.pergen.specs.declared.Spelling.{Spelling}
 use Rattle.layout.specs.Layouts.{Layout, Accepted}
 use Rattle.layout_retuning.specs.Retunings.{firstOf, secondOf, moveTable, largest}
 use Rattle.layout_retuning.specs.Answers.{movedIn, getMoved, getMoveTable, getLargestMove}
-use Rattle.layout_retuning.specs.Parts.{getTunings, countOf, tableBy}
+use Rattle.layout_retuning.specs.Parts.{getTunings, tableLength, tableBy}
 use Rattle.layout_retuning.specs.Theorems.{IsLargest, LargestIsTheLargest, back, BackIsAsFar}
 use Rattle.layout_retuning.specs.declared.Retuning.{Retuning}
 use Rattle.layout_retuning.specs.declared.parts.Tunings.{Tunings}
@@ -81,25 +81,25 @@ module _ (k : Tunings) where
       ∙ ap₂ (λ (u v : ℕ). max u v) h e
       ∙ sym (ap largest (joined-more (λ j. entry k j ∷ []) i) ∙ largest-more (joined (λ j. entry k j ∷ []) i) (entry k i))
 
-  pub largest-end : (i count most : ℕ) → count ≤ i → i ≤ count → count ≡ countOf k → most ≡ largest (tableBy k i)
-      → most ≡ largest (tableBy k (countOf k))
+  pub largest-end : (i count most : ℕ) → count ≤ i → i ≤ count → count ≡ tableLength k → most ≡ largest (tableBy k i)
+      → most ≡ largest (tableBy k (tableLength k))
   largest-end i count most h j e q = q ∙ ap (λ (c : ℕ). largest (tableBy k c)) (le-antisymm j h ∙ e)
 
 -- ---- the call
 
 module _ (t : Retuning) where
-  largest-from : andThen (getTunings t) (λ (k : Tunings). given (largest (tableBy k (countOf k)))) ≡ getLargestMove t
+  largest-from : andThen (getTunings t) (λ (k : Tunings). given (largest (tableBy k (tableLength k)))) ≡ getLargestMove t
   unfolding getLargestMove
   largest-from =
-      by-numbers t (λ (l m : Layout). given (largest (moveTable l m))) (λ (k : Tunings). given (largest (tableBy k (countOf k))))
+      by-numbers t (λ (l m : Layout). given (largest (moveTable l m))) (λ (k : Tunings). given (largest (tableBy k (tableLength k))))
       (λ l m e f. ap (λ (xs : List ℕ). given (largest xs)) (table-by-numbers l m (shared t l m e f)))
 
   pub largest-refused : (n : ℕ) → refused n ≡ getTunings t → refused n ≡ getLargestMove t
-  largest-refused n e = ap (λ (o : Outcome Tunings). andThen o (λ (k : Tunings). given (largest (tableBy k (countOf k))))) e ∙ largest-from
+  largest-refused n e = ap (λ (o : Outcome Tunings). andThen o (λ (k : Tunings). given (largest (tableBy k (tableLength k))))) e ∙ largest-from
 
-  pub largest-given : (k : Tunings) → given k ≡ getTunings t → (n : ℕ) → n ≡ largest (tableBy k (countOf k)) → given n ≡ getLargestMove t
+  pub largest-given : (k : Tunings) → given k ≡ getTunings t → (n : ℕ) → n ≡ largest (tableBy k (tableLength k)) → given n ≡ getLargestMove t
   largest-given k e n q =
-      ap given q ∙ ap (λ (o : Outcome Tunings). andThen o (λ (j : Tunings). given (largest (tableBy j (countOf j))))) e ∙ largest-from
+      ap given q ∙ ap (λ (o : Outcome Tunings). andThen o (λ (j : Tunings). given (largest (tableBy j (tableLength j))))) e ∙ largest-from
 
 -- ---- the theorem
 

@@ -19,8 +19,8 @@ use Rattle.pergen.proofs.Inverse.{cycles-positive}
 use Rattle.layout.specs.Layouts.{Layout, Accepted}
 use Rattle.layout_retuning.specs.Retunings.{firstOf, secondOf, moved, tableSpelling, letterMoves, moveTable}
 use Rattle.layout_retuning.specs.Answers.{movedIn, getMoved, getMoveTable}
-use Rattle.layout_retuning.specs.Parts.{tuningsOf, getTunings, stepsBy, countOf, tableBy}
-use Rattle.layout_retuning.specs.Theorems.{Tabled, TableIsOfSingleCalls}
+use Rattle.layout_retuning.specs.Parts.{tuningsOf, getTunings, stepsBy, tableLength, tableBy}
+use Rattle.layout_retuning.specs.Theorems.{OfSingleCalls, TableIsOfSingleCalls}
 use Rattle.layout_retuning.specs.declared.Retuning.{Retuning}
 use Rattle.layout_retuning.specs.declared.parts.Tunings.{Tunings}
 use Rattle.layout_retuning.proofs.BothLayouts.{Shared, shared, letters-shared, moved-by-numbers, of-both, both-accepted, by-numbers}
@@ -68,22 +68,22 @@ module _ (k : Tunings) where
   table-step {ys = ys} i n e w = joined-step (λ j. entry j ∷ []) i w (wrote-as (ap (λ (v : ℕ). v ∷ []) e) (wrote-one ys i n))
 
   -- question 10, and the table
-  pub table-no-room : (count : ℕ) (xs : List ℕ) → count ≡ countOf k → length xs < count
-      → Filled (heldIn (length xs) (tableBy k (countOf k))) (refused 10) xs xs
+  pub table-no-room : (count : ℕ) (xs : List ℕ) → count ≡ tableLength k → length xs < count
+      → Filled (heldIn (length xs) (tableBy k (tableLength k))) (refused 10) xs xs
   table-no-room count xs e h =
-      filled-refused 10 xs (not-held (length xs) (tableBy k (countOf k)) (omega (arith, e, length-table (countOf k)))) refl
+      filled-refused 10 xs (not-held (length xs) (tableBy k (tableLength k)) (omega (arith, e, length-table (tableLength k)))) refl
 
-  pub table-written : (count : ℕ) {xs ys : List ℕ} → count ≡ countOf k → count ≤ length xs → Wrote xs 0 (tableBy k count) ys count
-      → Filled (heldIn (length xs) (tableBy k (countOf k))) (given count) xs ys
+  pub table-written : (count : ℕ) {xs ys : List ℕ} → count ≡ tableLength k → count ≤ length xs → Wrote xs 0 (tableBy k count) ys count
+      → Filled (heldIn (length xs) (tableBy k (tableLength k))) (given count) xs ys
   table-written count {xs} {ys} e h w =
-      let room : length (tableBy k (countOf k)) ≤ length xs = omega (arith, e, length-table (countOf k)) in
-      filled-given (held (length xs) (tableBy k (countOf k)) room) (ap given (e ∙ sym (length-table (countOf k)))) room
+      let room : length (tableBy k (tableLength k)) ≤ length xs = omega (arith, e, length-table (tableLength k)) in
+      filled-given (held (length xs) (tableBy k (tableLength k)) room) (ap given (e ∙ sym (length-table (tableLength k)))) room
       (subst (λ (c : ℕ). Wrote xs 0 (tableBy k c) ys count) e w)
 
 -- ---- the definition's table
 
 module _ (l m : Layout) (s : Shared l m) where
-  pub table-by-numbers : tableBy (tuningsOf l m) (countOf (tuningsOf l m)) ≡ moveTable l m
+  pub table-by-numbers : tableBy (tuningsOf l m) (tableLength (tuningsOf l m)) ≡ moveTable l m
   unfolding tableBy moveTable letterMoves
   table-by-numbers =
       sym (joined-blocks one 17 (l .letters))
@@ -107,44 +107,44 @@ module _ (l m : Layout) (s : Shared l m) where
       (λ j i. ap (λ (n : ℕ). n ∷ []) (there-and-back l m s (tableSpelling letter j))))
 
   pub length-move-table : length (moveTable l m) ≡ l .letters * 17
-  length-move-table = sym (ap length table-by-numbers) ∙ length-table (tuningsOf l m) (countOf (tuningsOf l m))
+  length-move-table = sym (ap length table-by-numbers) ∙ length-table (tuningsOf l m) (tableLength (tuningsOf l m))
 
   move-at : (letter j : ℕ) → letter < l .letters → j < 17 → getD (moveTable l m) (letter * 17 + j) 0 ≡ moved l m (tableSpelling letter j)
   unfolding tableBy
   move-at letter j h i =
       sym (ap (λ (xs : List ℕ). getD xs (letter * 17 + j) 0) table-by-numbers)
-      ∙ number-at (entry (tuningsOf l m)) (countOf (tuningsOf l m)) (letter * 17 + j) (omega arith)
+      ∙ number-at (entry (tuningsOf l m)) (tableLength (tuningsOf l m)) (letter * 17 + j) (omega arith)
       ∙ ap₂ (λ (a b : ℕ). stepsBy (tuningsOf l m) (tableSpelling a b)) (digits-div letter i) (digits-mod letter i)
       ∙ moved-by-numbers l m s (tableSpelling letter j)
 
 -- ---- the call
 
 module _ (t : Retuning) where
-  table-from : andThen (getTunings t) (λ (k : Tunings). given (tableBy k (countOf k))) ≡ getMoveTable t
+  table-from : andThen (getTunings t) (λ (k : Tunings). given (tableBy k (tableLength k))) ≡ getMoveTable t
   unfolding getMoveTable
   table-from =
-      by-numbers t (λ (l m : Layout). given (moveTable l m)) (λ (k : Tunings). given (tableBy k (countOf k)))
+      by-numbers t (λ (l m : Layout). given (moveTable l m)) (λ (k : Tunings). given (tableBy k (tableLength k)))
       (λ l m e f. ap given (table-by-numbers l m (shared t l m e f)))
 
   pub table-refused : (n : ℕ) → refused n ≡ getTunings t → refused n ≡ getMoveTable t
-  table-refused n e = ap (λ (o : Outcome Tunings). andThen o (λ (k : Tunings). given (tableBy k (countOf k)))) e ∙ table-from
+  table-refused n e = ap (λ (o : Outcome Tunings). andThen o (λ (k : Tunings). given (tableBy k (tableLength k)))) e ∙ table-from
 
-  pub table-given : (k : Tunings) → given k ≡ getTunings t → given (tableBy k (countOf k)) ≡ getMoveTable t
-  table-given k e = ap (λ (o : Outcome Tunings). andThen o (λ (j : Tunings). given (tableBy j (countOf j)))) e ∙ table-from
+  pub table-given : (k : Tunings) → given k ≡ getTunings t → given (tableBy k (tableLength k)) ≡ getMoveTable t
+  table-given k e = ap (λ (o : Outcome Tunings). andThen o (λ (j : Tunings). given (tableBy j (tableLength j)))) e ∙ table-from
 
   pub not-written : (n : ℕ) → refused n ≡ getTunings t → (xs : List ℕ) → Filled (inRoom (length xs) (getMoveTable t)) (refused n) xs xs
   not-written n e xs = filled-refused n xs (sym (ap (inRoom (length xs)) (table-refused n e))) refl
 
   pub written-given : (k : Tunings) → given k ≡ getTunings t → {a : Outcome ℕ} {xs ys : List ℕ}
-      → Filled (heldIn (length xs) (tableBy k (countOf k))) a xs ys → Filled (inRoom (length xs) (getMoveTable t)) a xs ys
+      → Filled (heldIn (length xs) (tableBy k (tableLength k))) a xs ys → Filled (inRoom (length xs) (getMoveTable t)) a xs ys
   written-given k e {a} {xs} {ys} w =
       subst (λ (o : Outcome (List ℕ)). Filled o a xs ys) (ap (inRoom (length xs)) (table-given k e)) w
 
   pub count-refused : (n : ℕ) → refused n ≡ getTunings t → refused n ≡ counted (getMoveTable t)
   count-refused n e = ap counted (table-refused n e)
 
-  pub count-given : (k : Tunings) → given k ≡ getTunings t → (c : ℕ) → c ≡ countOf k → given c ≡ counted (getMoveTable t)
-  count-given k e c q = ap given (q ∙ sym (length-table k (countOf k))) ∙ ap counted (table-given k e)
+  pub count-given : (k : Tunings) → given k ≡ getTunings t → (c : ℕ) → c ≡ tableLength k → given c ≡ counted (getMoveTable t)
+  count-given k e c q = ap given (q ∙ sym (length-table k (tableLength k))) ∙ ap counted (table-given k e)
 
 -- ---- each entry is a single call's answer
 
@@ -163,7 +163,7 @@ table-is-of-single-calls t table q =
     let found = both-accepted t (λ (l m : Layout). given (moveTable l m)) table q in
     of (found .0) (found .1) (found .2) (found .3) (given-same (found .4))
   where
-    of : (l m : Layout) → Accepted (firstOf t) l → Accepted (secondOf t) m → moveTable l m ≡ table → Tabled t table
+    of : (l m : Layout) → Accepted (firstOf t) l → Accepted (secondOf t) m → moveTable l m ≡ table → OfSingleCalls t table
     of l m e f is =
         let s = shared t l m e f in
         let N = letters-shared t l m e f in

@@ -66,8 +66,8 @@ movedBy k x =
     (ask 21 (ltb (x .stars) (cycles (k .octave) (k .first)) && ltb (x .stars) (cycles (k .octave) (k .second))) (given (stepsBy k x)))
 
 -- How many entries the table has, and its first ones.
-abbrev pub countOf : Tunings → ℕ
-countOf k = k .«num_letters» * 17
+abbrev pub tableLength : Tunings → ℕ
+tableLength k = k .«num_letters» * 17
 
 unfoldable pub tableBy : Tunings → ℕ → List ℕ
 unfolding joined stepsBy

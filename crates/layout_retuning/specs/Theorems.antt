@@ -74,13 +74,13 @@ BackIsAsFar = (t : Retuning) (l m : Layout) → Accepted (firstOf t) l → Accep
 -- ---- the table
 
 -- Its entries are what single calls answer, letter by letter, from eight flats (j is 0) to eight sharps (j is 16), and no others.
-pub record Tabled (t : Retuning) (table : List ℕ) : Type 0 where
+pub record OfSingleCalls (t : Retuning) (table : List ℕ) : Type 0 where
   pub long : length table ≡ lettersOf (t .genchain) * 17
   pub each : (letter j : ℕ) → letter < lettersOf (t .genchain) → j < 17
       → getMoved t (tableSpelling letter j) ≡ given (getD table (letter * 17 + j) 0)
 
 abbrev pub TableIsOfSingleCalls : Type 0
-TableIsOfSingleCalls = (t : Retuning) (table : List ℕ) → getMoveTable t ≡ given table → Tabled t table
+TableIsOfSingleCalls = (t : Retuning) (table : List ℕ) → getMoveTable t ≡ given table → OfSingleCalls t table
 
 -- A number of the list that none passes.
 pub record IsLargest (table : List ℕ) (n : ℕ) : Type 0 where

@@ -30,7 +30,7 @@ ghost use Rattle.layout_retuning.specs.Parts.{
   tableBy,
   tableKeys,
   StridesOf,
-  countOf,
+  tableLength,
 };
 
 // What both layouts' questions find: the octave, the number of letters and the start, which are the same in both, and the two generators.
@@ -141,7 +141,7 @@ pub(crate) fn moved_in(tunings: Tunings, spelling: Spelling) -> NumberAnswer
 // How many moves the table has: seventeen for each letter.
 pub(crate) fn entries(tunings: Tunings) -> u16
     requires { ⌜ Tuned tunings ⌝ }
-    ensures { λ r. ⌜ r ≡ countOf tunings ⌝ }
+    ensures { λ r. ⌜ r ≡ tableLength tunings ⌝ }
 {
     tunings.num_letters * 17
 }
@@ -232,7 +232,7 @@ fn put_moves(out: &mut [u16], tunings: Tunings, count: u16)
 // The table at the front of a slice that holds it (10).
 pub(crate) fn write_table(tunings: Tunings, out: &mut [u16]) -> CountAnswer
     requires { ⌜ Tuned tunings ⌝ }
-    ensures { λ r. ⌜ Filled (heldIn (length (now (out .entry))) (tableBy tunings (countOf tunings))) (countOutcome r) (now (out .entry)) (now (out .exit)) ⌝ }
+    ensures { λ r. ⌜ Filled (heldIn (length (now (out .entry))) (tableBy tunings (tableLength tunings))) (countOutcome r) (now (out .entry)) (now (out .exit)) ⌝ }
 {
     let count = entries(tunings);
     if out.len() < count as usize {
@@ -254,7 +254,7 @@ fn larger(a: u16, b: u16) -> u16
 // The largest move of the table.
 pub(crate) fn largest_in(tunings: Tunings) -> u16
     requires { ⌜ Tuned tunings ⌝ }
-    ensures { λ r. ⌜ r ≡ largest (tableBy tunings (countOf tunings)) ⌝ }
+    ensures { λ r. ⌜ r ≡ largest (tableBy tunings (tableLength tunings)) ⌝ }
 {
     let count = entries(tunings);
     let strides = strides_of(tunings);

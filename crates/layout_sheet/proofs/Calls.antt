@@ -1,5 +1,5 @@
 -- What a sheet comes to: one law for a layout that is refused, one for a layout that is found.
-use Prim.Native.Nat.{ℕ, zero-le}
+use Prim.Native.Nat.{ℕ}
 use mathlib.Core.Path.{_≡_, refl, sym, ap, _∙_}
 use mathlib.Core.List.{List, [], _∷_, _++_, map}
 use native.Mathlib.Nat.{le-refl}
@@ -8,19 +8,19 @@ use lib.ListN.{length, drop, length-map}
 use Rattle.answer.specs.Outcome.{Outcome, given, refused, andThen}
 use Rattle.answer.specs.Lent.{inRoom, counted, written}
 use Rattle.answer.proofs.Lent.{held}
-use Rattle.answer.specs.Refusals.{numberOf}
-use Rattle.answer.specs.declared.Refusal.{Refusal}
-use Rattle.answer.specs.declared.CountAnswer.the-variants as Count
+use Rattle.answer.specs.Refusals.{countOutcome}
+use Rattle.answer.specs.declared.CountAnswer.the-variants.{Given}
+use Rattle.pergen.specs.declared.stepping.Key.{Key}
 use Rattle.layout.specs.declared.IsomorphicLayout.{IsomorphicLayout}
-use Rattle.layout.specs.declared.parts.Found.{Found}
 use Rattle.layout.specs.Layouts.{Layout, layoutOutcome}
-use Rattle.layout.specs.Parts.{layoutOf}
+use Rattle.layout.specs.Parts.{layoutIn}
 use Rattle.layout.proofs.Calls.{of-refused, of-given}
 use Rattle.layout_sheet.specs.declared.Record.{Record}
-use Rattle.layout_sheet.specs.declared.parts.Common.{Common}
+use Rattle.layout_sheet.specs.declared.parts.Sheet.{Sheet}
+use Rattle.layout_sheet.specs.declared.parts.Source.{Source}
 use Rattle.layout_sheet.specs.Sheets.{recordIn, sheetIn}
 use Rattle.layout_sheet.specs.Answers.{getSheet}
-use Rattle.layout_sheet.specs.Parts.{CommonOf, filledTo, PreparedFor}
+use Rattle.layout_sheet.specs.Parts.{Walking, filledTo, PreparedFor}
 use Rattle.layout_sheet.proofs.Changed.{changed-none, changed-all}
 
 pub sheet-refused : (r : IsomorphicLayout) (n : ℕ) → refused n ≡ layoutOutcome r → (records : List Record) → refused n ≡ getSheet r records
@@ -38,36 +38,36 @@ none-past f [] = refl
 none-past f (x ∷ records) = ap (λ (l : List Record). f x ∷ l) (none-past f records)
 
 -- a refused layout: no record is filled
-pub nothing-filled : (r : IsomorphicLayout) (n : ℕ) (q : Refusal) → refused (numberOf q) ≡ layoutOutcome r → (c : Common)
-    → PreparedFor r n (record { answer = Count.Refused q; common = c; count = 0 })
-nothing-filled r n q e c =
+pub nothing-filled : (r : IsomorphicLayout) (n m : ℕ) → refused m ≡ layoutOutcome r → (p : Sheet)
+    → (countOutcome (p .answer) ≡ refused m) × (p .count ≡ 0) → PreparedFor r n p
+nothing-filled r n m e p (refuses, none) =
     record {
-      held = zero-le;
-      ready = λ some. absurd (let z : ⊥ = omega (arith, some) in z);
+      held = omega (arith, none);
+      walking = λ some. absurd (let z : ⊥ = omega (arith, some, none) in z);
       fills = λ records long. record {
-        answered = ap counted (sheet-refused r (numberOf q) e records);
+        answered = refuses ∙ ap counted (sheet-refused r m e records);
         content =
-            changed-none (recordIn (layoutOf (c .found))) records
-            ∙ ap (λ (o : Outcome (List Record)). written o records) (sheet-refused r (numberOf q) e records);
+            ap (λ (k : ℕ). filledTo (p .source) k records) none
+            ∙ changed-none (recordIn (layoutIn (p .source .prepared))) records
+            ∙ ap (λ (o : Outcome (List Record)). written o records) (sheet-refused r m e records);
       };
     }
 
 -- an accepted layout: all are
-pub all-filled : (r : IsomorphicLayout) (n : ℕ) (found : Found) → given (layoutOf found) ≡ layoutOutcome r → (c : Common) → CommonOf found c
-    → PreparedFor r n (record { answer = Count.Given n; common = c; count = n })
-all-filled r n found e c k =
-    let l = layoutOf (c .found) in
-    let ok : given l ≡ layoutOutcome r = ap (λ (f : Found). given (layoutOf f)) (k .found-is) ∙ e in
+pub all-filled : (r : IsomorphicLayout) (n : ℕ) (s : Source) → given (layoutIn (s .prepared)) ≡ layoutOutcome r → (k : Key) → Walking s k
+    → PreparedFor r n (record { answer = Given n; source = s; first = k; count = n })
+all-filled r n s e k walking =
+    let l = layoutIn (s .prepared) in
     record {
       held = le-refl n;
-      ready = λ some. k .ready;
+      walking = λ some. walking;
       fills = λ records long. record {
-        answered = ap given (sym long ∙ sym (length-map records (recordIn l))) ∙ ap counted (sheet-given r l ok records);
+        answered = ap given (sym long ∙ sym (length-map records (recordIn l))) ∙ ap counted (sheet-given r l e records);
         content =
-            ap (λ (m : ℕ). filledTo c m records) (sym long)
+            ap (λ (m : ℕ). filledTo s m records) (sym long)
             ∙ changed-all (recordIn l) records
             ∙ none-past (recordIn l) records
-            ∙ ap (λ (o : Outcome (List Record)). written o records) (sheet-given r l ok records);
+            ∙ ap (λ (o : Outcome (List Record)). written o records) (sheet-given r l e records);
       };
     }
 

@@ -31,11 +31,14 @@ pub fn fill_sheet(layout: IsomorphicLayout, records: &mut [Record]) -> CountAnsw
     ensures { λ r. ⌜ Filled (getSheet layout (now (records .entry))) (countOutcome r) (now (records .entry)) (now (records .exit)) ⌝ }
 {
     let sheet = parts::prepare(layout, records.len());
-    let common = sheet.common;
+    let source = sheet.source;
     let count = sheet.count;
+    let mut key = sheet.first;
     let mut place: usize = 0;
     while place < count {
-        records[place] = parts::filled(common, records[place]);
+        let turn = parts::filled(source, key, records[place]);
+        records[place] = turn.record;
+        key = turn.key;
         place += 1;
     }
     sheet.answer

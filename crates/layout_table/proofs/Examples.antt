@@ -1,7 +1,8 @@
 -- The worked examples hold by computation.
 use mathlib.Core.Path.{refl}
 use Rattle.line.specs.Lines.{lineText}
-use Rattle.layout_table.specs.Tables.{lineIn, refusalLine, output}
+use Rattle.layout_table.specs.Tables.{lineIn, output}
+use Rattle.line.specs.Refusals.{refusalLine}
 use Rattle.layout.specs.Layouts.{layoutOutcome}
 use Rattle.layout_table.specs.Examples.{ExamplesHold}
 

@@ -11,6 +11,7 @@ use native.Mathlib.Omega.{arith}
 use lib.IntN.{ℤ, pos}
 use lib.ListN.{length}
 use lib.Dec.{leb, ltb, eqb}
+use borrow.Author.Tests.{le-leb}
 use Rattle.answer.specs.Outcome.{Outcome, given, refused, ask, andThen}
 use Rattle.answer.proofs.Asked.{given-same}
 use Rattle.genchain.specs.Chains.{chainOf, minus, dividedBy, twice}
@@ -25,19 +26,24 @@ use Rattle.pergen.proofs.DegreePlaces.{stars-are, few-signs}
 use Rattle.layout.specs.declared.IsomorphicLayout.{IsomorphicLayout}
 use Rattle.layout.specs.Layouts.{Layout, lettersOf, withPattern, layoutOutcome, Accepted, accidentalsIn, sharpFirst}
 use Rattle.layout.specs.Names.{nameIn, listedName}
+use Rattle.layout.specs.Parts.{Laid}
 use Rattle.layout.proofs.Finding.{Parts, generatorOf, walked, accepted, octave-is}
 use Rattle.layout.proofs.PatternShape.{PatternShape, pattern-shape}
 use Rattle.layout_layers.proofs.Counts.{sum-by-product}
 use Rattle.layout_lamps.specs.Lamps.{lampIn}
 use Rattle.layout_lamps.proofs.Theorems.{codes-fit}
-use Rattle.layout_speller.proofs.Rounds.{short-texts}
+use Rattle.layout_book.proofs.Rounds.{short-texts}
 use Rattle.text.proofs.Digits.{digits-length}
 use Rattle.line.specs.Lines.{isLine, lineOutcome}
 use Rattle.line.specs.declared.Line.{Line}
-use Rattle.layout_table.specs.Tables.{lineIn, lineRoom, tableIn, getTable, layoutOn, lineLayout, refusalLine, output}
+use Rattle.layout_table.specs.Tables.{lineIn, lineRoom, tableIn, getTable, output}
+use Rattle.line.specs.LineLayouts.{layoutOn, lineLayout}
+use Rattle.line.specs.Refusals.{refusalLine}
 use Rattle.layout_table.specs.Theorems.{TablesFit}
-use Rattle.layout_table.proofs.Lines.{length-line, length-refusal}
-use Rattle.layout_table.proofs.Calls.{line-parts, output-refused, output-given, line-laid}
+use Rattle.layout_table.proofs.Lines.{length-line}
+use Rattle.line.proofs.RefusalLines.{length-refusal}
+use Rattle.layout_table.proofs.Calls.{line-parts, output-refused, output-given}
+use Rattle.line.proofs.AskedLayouts.{line-laid}
 
 -- ---- signs and stars
 
@@ -253,3 +259,9 @@ tables-fit =
       table = table-fits;
       printed = output-fits;
     }
+
+-- a slice that holds the longest table of so many keys holds this one
+pub surely-held : (l : Layout) → Laid l → l .octave ≤ 65535 → (room : ℕ) → lineRoom (l .octave) * l .octave ≤ room
+    → true ≡ leb (length (tableIn l)) room
+surely-held l ok wide room h =
+    sym (le-leb _ room (omega (arith, table-most (ok .caller) l (ok .accepted) wide, mul-comm (l .octave) (lineRoom (l .octave)), h)))

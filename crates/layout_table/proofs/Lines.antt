@@ -8,11 +8,12 @@ use Rattle.text.specs.Writing.{joined}
 use Rattle.text.specs.Decimal.{digits}
 use Rattle.text.proofs.Digits.{digits-length}
 use Rattle.line.specs.Lines.{space, lineFeed}
-use Rattle.layout_speller.specs.Parts.{nameOf}
-use Rattle.layout_table.specs.Tables.{keyLine, refusedWord, refusalLine}
-use Rattle.layout_lamps.specs.Parts.{planLamp}
-use Rattle.layout_table.specs.declared.parts.Table.{Table}
-use Rattle.layout_table.specs.Parts.{lineOf, numbersOf}
+use Rattle.layout.specs.Layouts.{Layout}
+use Rattle.layout.specs.Names.{listedName}
+use Rattle.layout_lamps.specs.Lamps.{lampIn}
+use Rattle.layout_table.specs.Tables.{keyLine, lineIn}
+use Rattle.line.specs.Refusals.{refusedWord, refusalLine}
+use Rattle.layout_table.specs.Parts.{numbersIn}
 
 -- ---- the length of a line
 
@@ -29,43 +30,32 @@ length-line key name lamp =
     )
 
 -- a line by the name that the code planned, and the lamp that it found
-pub line-is : (t : Table) (k : ℕ) (name : List ℕ) (lamp : ℕ) → name ≡ nameOf (t .speller) k → lamp ≡ planLamp (t .plan) (t .total) k
-    → keyLine k name lamp ≡ lineOf t k
-unfolding lineOf
-line-is t k name lamp e f = ap₂ (λ (x : List ℕ) (y : ℕ). keyLine k x y) e f
+pub line-is : (l : Layout) (k : ℕ) (name : List ℕ) (lamp : ℕ) → name ≡ listedName l k → lamp ≡ lampIn l k → keyLine k name lamp ≡ lineIn l k
+unfolding lineIn
+line-is l k name lamp e f = ap₂ (λ (x : List ℕ) (y : ℕ). keyLine k x y) e f
 
 -- ---- the sum of the lengths
 
 -- of a line without its name
-pub length-numbers : (t : Table) (k lamp : ℕ) → lamp ≡ planLamp (t .plan) (t .total) k → length (numbersOf t k) ≡ length (digits k) + length (digits lamp) + 3
-unfolding numbersOf
-length-numbers t k lamp e =
-    omega (arith, length-line k [] (planLamp (t .plan) (t .total) k), ap (λ (x : ℕ). length (digits x)) e)
+pub length-numbers : (l : Layout) (k lamp : ℕ) → lamp ≡ lampIn l k → length (numbersIn l k) ≡ length (digits k) + length (digits lamp) + 3
+unfolding numbersIn
+length-numbers l k lamp e = omega (arith, length-line k [] (lampIn l k), ap (λ (x : ℕ). length (digits x)) e)
 
 -- all names, and all the rest
-pub length-lines : (t : Table) (keys : ℕ)
-    → length (joined (nameOf (t .speller)) keys) + length (joined (numbersOf t) keys) ≡ length (joined (lineOf t) keys)
+pub length-lines : (l : Layout) (keys : ℕ)
+    → length (joined (listedName l) keys) + length (joined (numbersIn l) keys) ≡ length (joined (lineIn l) keys)
 unfolding joined
-length-lines t zero = refl
-length-lines t (suc k) =
-    let lamp = planLamp (t .plan) (t .total) k in
-    let name = nameOf (t .speller) k in
+length-lines l zero = refl
+length-lines l (suc k) =
+    let lamp = lampIn l k in
+    let name = listedName l k in
     omega (
       arith,
-      length-lines t k,
-      length-append (joined (nameOf (t .speller)) k) name,
-      length-append (joined (numbersOf t) k) (numbersOf t k),
-      length-append (joined (lineOf t) k) (lineOf t k),
-      length-numbers t k lamp refl,
+      length-lines l k,
+      length-append (joined (listedName l) k) name,
+      length-append (joined (numbersIn l) k) (numbersIn l k),
+      length-append (joined (lineIn l) k) (lineIn l k),
+      length-numbers l k lamp refl,
       length-line k name lamp,
-      ap length (line-is t k name lamp refl refl),
+      ap length (line-is l k name lamp refl refl),
     )
-
--- ---- a refusal's line
-
-pub length-refusal : (n : ℕ) → length (refusalLine n) ≡ length (digits n) + 9
-unfolding refusalLine
-length-refusal n = omega (arith, length-append refusedWord (digits n), length-append (refusedWord ++ digits n) (lineFeed ∷ []))
-
-pub refusal-room : (n : ℕ) → n ≤ 65535 → length (refusalLine n) ≤ 16
-refusal-room n h = omega (arith, length-refusal n, digits-length n (omega (arith, h)) .few)

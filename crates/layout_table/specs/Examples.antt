@@ -7,7 +7,8 @@ use Rattle.answer.specs.Outcome.{given}
 use Rattle.layout.specs.Answers.{ofLayout}
 use Rattle.layout.specs.Examples.{layout}
 use Rattle.layout.specs.Layouts.{Layout}
-use Rattle.layout_table.specs.Tables.{lineIn, refusalLine, output}
+use Rattle.layout_table.specs.Tables.{lineIn, output}
+use Rattle.line.specs.Refusals.{refusalLine}
 
 -- "For `1 12 19` it prints": a row for each key, from 0 D 0 to 11 C#/Db 65535; the code is of two bytes (document 02, W-207).
 abbrev pub twelve : List ℕ

@@ -1,15 +1,17 @@
 -- The key table (document 01, "Lamps and book", the last paragraph), as bytes.
 use Prim.Native.Nat.{ℕ, _+_, _/_}
 use mathlib.Core.List.{List, [], _∷_, _++_}
-use Rattle.answer.specs.Outcome.{Outcome, given, refused, andThen}
+use Rattle.answer.specs.Outcome.{Outcome, given, andThen}
 use Rattle.text.specs.Writing.{joined}
 use Rattle.layout_lamps.specs.Lamps.{lampOf, lampIn}
 use Rattle.layout.specs.declared.IsomorphicLayout.{IsomorphicLayout}
-use Rattle.layout.specs.Layouts.{Layout, layoutOutcome, defaultLayout}
+use Rattle.layout.specs.Layouts.{Layout, layoutOutcome}
 use Rattle.layout.specs.Names.{nameIn, listedName}
 use Rattle.layout.specs.Answers.{ofLayout}
 use Rattle.text.specs.Decimal.{digits}
 use Rattle.line.specs.Lines.{space, lineFeed, lineOutcome}
+use Rattle.line.specs.Refusals.{refusalLine, outputOf}
+use Rattle.line.specs.LineLayouts.{layoutOn}
 use Rattle.line.specs.declared.Line.{Line}
 
 -- A key's line: "number, name, lamp code, one space between."
@@ -37,31 +39,10 @@ unfoldable pub getTable : IsomorphicLayout → Outcome (List ℕ)
 unfolding layoutOutcome tableIn
 getTable r = ofLayout r (λ (l : Layout). given (tableIn l))
 
--- The layout that a line asks for, with the chain's own start.
-abbrev pub layoutOn : Line → IsomorphicLayout
-layoutOn a = defaultLayout (a .genchain) (a .octave) (a .tritave)
-
--- Question 14, then those of the layout.
-unfoldable pub lineLayout : List ℕ → Outcome Layout
-unfolding lineOutcome layoutOutcome
-lineLayout line = andThen (lineOutcome line) (λ (a : Line). layoutOutcome (layoutOn a))
-
 -- "The key table program reads one line, ignores bytes after it": question 14, then the table of the layout.
 unfoldable pub lineTable : List ℕ → Outcome (List ℕ)
 unfolding lineOutcome getTable
 lineTable line = andThen (lineOutcome line) (λ (a : Line). getTable (layoutOn a))
-
--- "A refusal prints only `refused`, a space and the number, and a line feed."
-abbrev pub refusedWord : List ℕ
-refusedWord = 114 ∷ 101 ∷ 102 ∷ 117 ∷ 115 ∷ 101 ∷ 100 ∷ space ∷ []
-
-unfoldable pub refusalLine : ℕ → List ℕ
-unfolding digits
-refusalLine n = refusedWord ++ digits n ++ (lineFeed ∷ [])
-
-abbrev pub outputOf : Outcome (List ℕ) → List ℕ
-outputOf (given text) = text
-outputOf (refused n) = refusalLine n
 
 -- What the program prints.
 unfoldable pub output : List ℕ → List ℕ

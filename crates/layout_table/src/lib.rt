@@ -9,6 +9,7 @@ pub mod parts;
 use answer::CountAnswer;
 use layout::IsomorphicLayout;
 use layout::parts::FoundAnswer;
+use layout::prepared;
 ghost use mathlib.Core.Path.{_≡_};
 ghost use lib.ListN.{length};
 ghost use Rattle.answer.specs.Lent.{heldIn, inRoom, counted, Filled};
@@ -22,7 +23,7 @@ pub fn table_len(layout: IsomorphicLayout) -> CountAnswer
     match layout::parts::ask(layout) {
         FoundAnswer::Refused(q) => CountAnswer::Refused(q),
         FoundAnswer::Given(found) => {
-            CountAnswer::Given(parts::lines_length(parts::table_of(found)))
+            CountAnswer::Given(parts::lines_length(prepared::prepare(found)))
         }
     }
 }
@@ -33,7 +34,7 @@ pub fn write_table(layout: IsomorphicLayout, out: &mut [u8]) -> CountAnswer
 {
     match layout::parts::ask(layout) {
         FoundAnswer::Refused(q) => CountAnswer::Refused(q),
-        FoundAnswer::Given(found) => parts::write_lines(parts::table_of(found), out),
+        FoundAnswer::Given(found) => parts::write_lines(prepared::prepare(found), out),
     }
 }
 
@@ -42,8 +43,8 @@ pub fn write_table(layout: IsomorphicLayout, out: &mut [u8]) -> CountAnswer
 pub fn respond(line: &[u8], out: &mut [u8]) -> CountAnswer
     ensures { λ r. ⌜ Filled (heldIn (length (now (out .entry))) (output (now (line .entry)))) (countOutcome r) (now (out .entry)) (now (out .exit)) ⌝ }
 {
-    match parts::ask_line(line) {
-        FoundAnswer::Refused(q) => parts::write_refusal(q.number() as u16, out),
-        FoundAnswer::Given(found) => parts::write_lines(parts::table_of(found), out),
+    match line::layouts::ask_line(line) {
+        FoundAnswer::Refused(q) => line::refusals::write_refusal(q.number() as u16, out),
+        FoundAnswer::Given(found) => parts::write_lines(prepared::prepare(found), out),
     }
 }

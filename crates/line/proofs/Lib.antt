@@ -4,3 +4,5 @@ pub mod OneNumber
 pub mod ReadBack
 pub mod Enough
 pub mod Examples
+pub mod RefusalLines
+pub mod AskedLayouts

@@ -1,9 +1,13 @@
 // The lines that programs read: three decimal numbers for a key table (document 01, question 14), one number for an octave division
 // (document 02, W-202).
 //
-// Holds the reading of such lines, answered for any bytes whatever. No public function has a `requires`.
-// specs/: the line and its question (Lines); that a written line is read back, and that later bytes change nothing
+// Holds the reading of such lines, answered for any bytes whatever; the layout that a line asks for; and the line of a refusal. What is here
+// has no `requires`, `refusals` has.
+// specs/: the line and its question (Lines), the layout (LineLayouts), a refusal's line (Refusals); that a written line is read back, and that later bytes change nothing
 // (Theorems). Numbers in decimal are `text`'s. Nothing is assumed.
+pub mod layouts;
+pub mod refusals;
+
 use answer::NumberAnswer;
 use answer::Refusal;
 use text::decimal::Reading;

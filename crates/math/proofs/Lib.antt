@@ -5,5 +5,6 @@ pub mod LowestTerms
 pub mod Division
 pub mod OddFactors
 pub mod Signed
+pub mod Passing
 pub mod Answers
 pub mod Examples

@@ -1,16 +1,16 @@
 -- Walks without their bounds: where a number falls with each pattern, one equation gives a walk from the walk of what comes next.
-use mathlib.Core.Path.{_≡_, refl, ap, sym, subst, _∙_}
+use mathlib.Core.Path.{_≡_, refl, ap, sym, _∙_}
 use mathlib.Core.Option.{Option, none, some}
-use mathlib.Core.Bool.{Bool, true, false}
+use mathlib.Core.Bool.{false}
 use mathlib.Core.List.{List, [], _∷_}
 use Prim.Native.Nat.{ℕ, zero, suc, _+_, _*_, _-_, _≤_, _<_}
 use native.Mathlib.Nat.{le-refl}
 use native.Mathlib.Omega.{arith}
-use lib.ListN.{length, getD, getElem?}
+use lib.ListN.{length, getElem?}
 use Rattle.mos.specs.declared.Mos.{Mos}
-use Rattle.mos.specs.Patterns.{mos, countOf, stepsOf, childOf, parentOf}
-use Rattle.mos.specs.Walks.{onward, walk, children, parents, lastAfter, genesisOf, fields, listed}
-use Rattle.mos.specs.Parts.{isSome, readBack, Meets}
+use Rattle.mos.specs.Patterns.{countOf, stepsOf, childOf, parentOf}
+use Rattle.mos.specs.Walks.{onward, walk, children, parents, lastAfter, genesisOf, listed}
+use Rattle.mos.specs.Parts.{isSome}
 use Rattle.mos.proofs.Descent.{child-at, child-falls, parent-falls}
 
 -- ---- any walk, with the number that falls
@@ -148,28 +148,6 @@ parents-few m = length-walk parentOf (countOf m) m
 pub length-listed : (ms : List Mos) → length (listed ms) ≡ length ms * 4
 length-listed [] = refl
 length-listed (m ∷ ms) = omega (arith, length-listed ms)
-
--- ---- what an inner walk leaves in its array
-
-pub meets-here : {o : Option Mos} (m : Mos) (before : List ℕ) → some m ≡ o → Meets o true before (fields m)
-meets-here m before e = subst (λ (x : Option Mos). Meets x true before (fields m)) e (record { answer = refl; numbers = refl })
-
-pub meets-none : {o : Option Mos} (before : List ℕ) → none ≡ o → Meets o false before before
-meets-none before e = subst (λ (x : Option Mos). Meets x false before before) e (record { answer = refl; numbers = refl })
-
-pub meets-as : {o p : Option Mos} {r : Bool} {before after : List ℕ} → Meets o r before after → o ≡ p → Meets p r before after
-meets-as {o} {p} {r} {before} {after} h e = subst (λ (x : Option Mos). Meets x r before after) e h
-
-pub meets-found : (o : Option Mos) (r : Bool) {before after : List ℕ} → Meets o r before after → r ≡ true → some (readBack after) ≡ o
-meets-found none r h f = absurd (let z : _≡_ {A = Bool} true false = sym f ∙ h .answer in let w : _≡_ {A = ℕ} 0 1 = cc in omega arith)
-meets-found (some m) r h f = ap (λ (l : List ℕ). some (readBack l)) (h .numbers)
-
-pub meets-nothing : (o : Option Mos) (r : Bool) {before after : List ℕ} → Meets o r before after → r ≡ false → none ≡ o
-meets-nothing none r h f = refl
-meets-nothing (some m) r h f = absurd (let z : _≡_ {A = Bool} false true = sym f ∙ h .answer in let w : _≡_ {A = ℕ} 0 1 = cc in omega arith)
-
-pub meets-always : (q : Mos) (r : Bool) {before after : List ℕ} → Meets (some q) r before after → readBack after ≡ q
-meets-always q r h = ap readBack (h .numbers)
 
 pub children-some : (m : Mos) → 1 ≤ length (children m)
 children-some m = omega (arith, ap length (children-follow m))

@@ -106,13 +106,7 @@ impl Mos {
         if period == 0 {
             return MosAnswer::Refused(Refusal::Period);
         }
-        let step = generator % period;
-        MosAnswer::Given(Mos {
-            num_primary_steps: 1,
-            num_secondary_steps: 1,
-            primary_step: step,
-            secondary_step: period - step,
-        })
+        MosAnswer::Given(parts::genesis_of(period, generator))
     }
 
     // The pattern whose small steps have vanished. It always is a pattern.

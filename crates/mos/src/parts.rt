@@ -1,13 +1,14 @@
-// What the entry points are made of: sizes, the child and the parent of a pattern.
+// What the entry points are made of: sizes, the genesis, the child and the parent of a pattern.
 //
-// Parts, and no entry points: those with a `requires` ask for a pattern by question 7. An entry point first answers that question.
+// Parts, and no entry points: those with a `requires` ask for a pattern by question 7, or for a period above 0. An entry point first
+// answers that question.
 use crate::Mos;
 ghost use mathlib.Core.Path.{_≡_};
 ghost use mathlib.Core.Bool.{true};
 ghost use mathlib.Core.Option.{some};
-ghost use Prim.Native.Nat.{_*_, _<_};
-ghost use Rattle.mos.specs.Patterns.{sizeOf, isPattern, countOf, dualOf, childOf, parentOf};
-ghost use Rattle.mos.specs.Parts.{isSome, readBack};
+ghost use Prim.Native.Nat.{_*_, _≤_, _<_};
+ghost use Rattle.mos.specs.Patterns.{sizeOf, isPattern, countOf, genesis, dualOf, childOf, parentOf};
+ghost use Rattle.mos.specs.Parts.{isSome};
 
 fn product(x: u16, y: u16) -> u64
     ensures { λ r. ⌜ (r ≡ x * y) × (r < 4294967296) ⌝ }
@@ -36,6 +37,20 @@ pub fn count_of(m: Mos) -> u32
     (m.num_primary_steps as u32) + (m.num_secondary_steps as u32)
 }
 
+// The pattern that a generator starts from.
+pub fn genesis_of(period: u16, generator: u16) -> Mos
+    requires { ⌜ 1 ≤ period ⌝ }
+    ensures { λ r. ⌜ r ≡ genesis period generator ⌝ }
+{
+    let step = generator % period;
+    Mos {
+        num_primary_steps: 1,
+        num_secondary_steps: 1,
+        primary_step: step,
+        secondary_step: period - step,
+    }
+}
+
 // Counts and steps change places.
 pub fn dual_of(m: Mos) -> Mos
     ensures { λ r. ⌜ r ≡ dualOf m ⌝ }
@@ -45,18 +60,6 @@ pub fn dual_of(m: Mos) -> Mos
         num_secondary_steps: m.secondary_step,
         primary_step: m.num_primary_steps,
         secondary_step: m.num_secondary_steps,
-    }
-}
-
-// The pattern that a walk left in an array: counts, then steps.
-pub fn pattern_of(found: [u16; 4]) -> Mos
-    ensures { λ r. ⌜ r ≡ readBack found ⌝ }
-{
-    Mos {
-        num_primary_steps: found[0],
-        num_secondary_steps: found[1],
-        primary_step: found[2],
-        secondary_step: found[3],
     }
 }
 

@@ -3,18 +3,17 @@ use mathlib.Core.Path.{_≡_, refl, ap, sym, subst, _∙_}
 use mathlib.Core.Option.{Option, none, some}
 use mathlib.Core.List.{List, [], _∷_}
 use Prim.Native.Nat.{ℕ, zero, suc, _+_, _-_, _≤_, _<_}
-use native.Mathlib.Nat.{le-refl}
 use native.Mathlib.Omega.{arith}
 use lib.Dec.{lit<, lit≤}
 use lib.Ieee.{Float}
-use lib.ListN.{length, getElem?}
+use lib.ListN.{getElem?}
 use Rattle.mos_fractional.specs.declared.FractionalMos.{FractionalMos}
 use Rattle.mos_fractional.specs.Fractional.{primaries, secondaries, countOf, genesis, childOf}
 use Rattle.mos_fractional.specs.Walk.{onward, walk, children, childrenFrom}
 use Rattle.mos_fractional.specs.Parts.{Growing}
 use Rattle.mos_fractional.specs.Theorems.{WalkIsWhole, FractionalCountsGrow, WholePartsAreExact, RemainderIsExact}
 use Rattle.mos_fractional.proofs.Descent.{child-at, child-counts, child-fits, child-grows}
-use Rattle.mos_fractional.proofs.Walking.{left, growing-child, growing-genesis, children-follow}
+use Rattle.mos_fractional.proofs.Walking.{left, growing-child, growing-genesis, children-follow, from-length}
 use Rattle.mos_fractional.proofs.Rounding.{positive-parts}
 use Rattle.mos_fractional.proofs.Exact.{walks-equally-long, patterns-agree}
 use Rattle.mos_fractional.proofs.Products.{generator-of, times}
@@ -37,20 +36,6 @@ module _ (Holds : FractionalMos → Type 0) (keeps : (m c : FractionalMos) → H
   from-keeps : (g : Float) (k : ℕ) (m : FractionalMos) → Holds (genesis g) → getElem? (childrenFrom g) k ≡ some m → Holds m
   unfolding children
   from-keeps g k m h e = walk-keeps (left (genesis g)) (genesis g) m k h e
-
--- a walk is no longer than its bound
-rest-length : (k : ℕ) (o : Option FractionalMos) → ((c : FractionalMos) → length (walk k c) ≤ suc k) → length (onward o (walk k)) ≤ suc k
-rest-length k none h = omega arith
-rest-length k (some c) h = h c
-
-walk-length : (k : ℕ) (m : FractionalMos) → length (walk k m) ≤ suc k
-unfolding walk
-walk-length zero m = le-refl 1
-walk-length (suc k) m = let h : length (onward (childOf m) (walk k)) ≤ suc k = rest-length k (childOf m) (walk-length k) in omega (arith, h)
-
-from-length : (g : Float) → length (childrenFrom g) ≤ 65535
-unfolding children genesis
-from-length g = walk-length 65534 (genesis g)
 
 pub walk-is-whole : WalkIsWhole
 walk-is-whole =

@@ -11,7 +11,7 @@ use lib.ListN.{length, getElem?}
 use Rattle.answer.specs.Outcome.{given}
 use Rattle.mos_fractional.specs.declared.FractionalMos.{FractionalMos}
 use Rattle.mos_fractional.specs.Fractional.{primaries, secondaries, countOf, genesis, childOf}
-use Rattle.mos_fractional.specs.Walk.{onward, walk, children}
+use Rattle.mos_fractional.specs.Walk.{onward, walk, children, childrenFrom}
 use Rattle.mos_fractional.specs.Answers.{genesisOutcome}
 use Rattle.mos_fractional.specs.Parts.{Growing}
 use Rattle.mos_fractional.proofs.Descent.{told-genesis, child-at, child-counts, child-room, child-grows}
@@ -88,3 +88,20 @@ module _ (m : FractionalMos) (u : Growing m) where
 
   pub length-end : childOf m ≡ none → length (children m) ≡ 1
   length-end e = ap length (children-end e)
+
+  pub length-some : 0 < length (children m)
+  length-some = omega (arith, ap length children-follow)
+
+-- a walk is no longer than its bound
+rest-length : (k : ℕ) (o : Option FractionalMos) → ((c : FractionalMos) → length (walk k c) ≤ suc k) → length (onward o (walk k)) ≤ suc k
+rest-length k none h = omega arith
+rest-length k (some c) h = h c
+
+walk-length : (k : ℕ) (m : FractionalMos) → length (walk k m) ≤ suc k
+unfolding walk
+walk-length zero m = le-refl 1
+walk-length (suc k) m = let h : length (onward (childOf m) (walk k)) ≤ suc k = rest-length k (childOf m) (walk-length k) in omega (arith, h)
+
+pub from-length : (g : Float) → length (childrenFrom g) ≤ 65535
+unfolding children genesis
+from-length g = walk-length 65534 (genesis g)

@@ -144,14 +144,12 @@ pub fn children_len(generator: f64) -> CountAnswer
 pub fn children(generator: f64, out: &mut [FractionalMos]) -> CountAnswer
     ensures { λ r. ⌜ Filled (listingOutcome generator (length (now (out .entry)))) (countOutcome r) (now (out .entry)) (now (out .exit)) ⌝ }
 {
-    let plan = walks::plan(generator, out.len());
-    let count = plan.count;
-    let mut m = plan.first;
+    let mut turn = walks::first(generator, out.len());
     let mut i: usize = 0;
-    while i < count {
-        out[i] = m;
-        m = walks::next(m);
+    while turn.stores {
+        out[i] = turn.pattern;
+        turn = walks::next(turn.pattern);
         i = i + 1;
     }
-    plan.answer
+    walks::answer(generator, i)
 }

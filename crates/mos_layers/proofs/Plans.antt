@@ -49,7 +49,7 @@ reverse-run (suc n) z =
     ∙ sym (replicate-more n z)
     ∙ ap (λ (k : ℕ). replicate k z) (add-one n)
 
-sharps-reversed : (a b h k : ℕ) → reverse (sharps a b h k) ≡ replicate (k - h) b ++ (replicate (h - k) a ++ replicate (min h k) (a + b))
+pub sharps-reversed : (a b h k : ℕ) → reverse (sharps a b h k) ≡ replicate (k - h) b ++ (replicate (h - k) a ++ replicate (min h k) (a + b))
 unfolding sharps
 sharps-reversed a b h k =
     reverse-append (replicate (min h k) (a + b)) (replicate (h - k) a ++ replicate (k - h) b)

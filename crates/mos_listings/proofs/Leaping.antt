@@ -9,11 +9,11 @@ use native.Mathlib.Omega.{arith}
 use lib.ListN.{length}
 use Rattle.mos.specs.declared.Mos.{Mos}
 use Rattle.mos.specs.Patterns.{mos, primaries, secondaries, primary, secondary, countOf, stepsOf, isPattern, childOf, dualOf, parentOf}
-use Rattle.mos.specs.Walks.{onward, walk, children, parents}
+use Rattle.mos.specs.Walks.{onward, walk, children, parents, listed}
 use Rattle.mos_listings.specs.Parts.{Leaps}
 use Rattle.mos.proofs.Sizes.{counts-fit, pattern-fits}
 use Rattle.mos.proofs.Descent.{child-at, child-longer-primary, child-longer-secondary, child-keeps-pattern}
-use Rattle.mos.proofs.Sequences.{children-count}
+use Rattle.mos.proofs.Sequences.{children-count, length-listed}
 
 same-mos : {a b p s a′ b′ p′ s′ : ℕ} → a ≡ a′ → b ≡ b′ → p ≡ p′ → s ≡ s′ → mos a b p s ≡ mos a′ b′ p′ s′
 same-mos e f g h = cc
@@ -118,3 +118,6 @@ dual-walk (suc k) m = ap suc (parents-rest k (childOf m) (dual-walk k))
 pub dual-count : (m : Mos) → length (children (dualOf m)) ≡ length (parents m)
 unfolding children parents
 dual-count m = sym (dual-walk (countOf m) (dualOf m))
+
+pub dual-listed : (m : Mos) → length (listed (children (dualOf m))) ≡ length (listed (parents m))
+dual-listed m = omega (arith, length-listed (children (dualOf m)), length-listed (parents m), dual-count m)

@@ -86,16 +86,12 @@ pub fn children_fit(m: Mos, room: usize) -> bool
     count_children(m) as usize * 4 <= room
 }
 
-// Do so many numbers hold the walk of parents? There are no more parents than steps.
+// Do so many numbers hold the walk of parents? They do where they hold the children of the dual.
 pub(crate) fn parents_fit(m: Mos, room: usize) -> bool
     requires { ⌜ isPattern m ≡ true ⌝ }
     ensures { λ r. ⌜ r ≡ leb (length (listed (parents m))) room ⌝ }
 {
-    let most = (m.num_primary_steps as usize + m.num_secondary_steps as usize + 1) * 4;
-    if most <= room {
-        return true;
-    }
-    count_parents(m) as usize * 4 <= room
+    children_fit(mos::parts::dual_of(m), room)
 }
 
 // The four numbers of a pattern at a place; the place after them.

@@ -35,7 +35,7 @@ pub fn genesis_moves(period: u16, generator: u16, moves: &mut Moves) -> MosAnswe
         return MosAnswer::Refused(Refusal::Period);
     }
     *moves = parts::start(period, generator);
-    MosAnswer::Given(parts::genesis_of(period, generator))
+    MosAnswer::Given(mos::parts::genesis_of(period, generator))
 }
 
 // The k-th pattern of the walk of children from the genesis, the genesis for 0, with its moves in the lent table (2).
@@ -45,7 +45,7 @@ pub fn nth_moves(period: u16, generator: u16, k: u32, moves: &mut Moves) -> Walk
     if period == 0 {
         return WalkAnswer::Refused(Refusal::Period);
     }
-    let mut pattern = parts::genesis_of(period, generator);
+    let mut pattern = mos::parts::genesis_of(period, generator);
     let mut table = parts::start(period, generator);
     let mut left = k;
     while left != 0 {
@@ -68,7 +68,7 @@ pub fn walk_moves(period: u16, generator: u16, out: &mut [i32]) -> CountAnswer
     if period == 0 {
         return CountAnswer::Refused(Refusal::Period);
     }
-    if !mos_listings::parts::children_fit(parts::genesis_of(period, generator), out.len()) {
+    if !mos_listings::parts::children_fit(mos::parts::genesis_of(period, generator), out.len()) {
         return CountAnswer::Refused(Refusal::Room);
     }
     CountAnswer::Given(parts::list_moves(period, generator, out))

@@ -7,7 +7,6 @@ ghost use mathlib.Core.Path.{_≡_};
 ghost use Prim.Native.Nat.{_+_, _≤_};
 ghost use lib.ListN.{length};
 ghost use Rattle.text.specs.Writing.{Wrote};
-ghost use Rattle.mos.specs.Patterns.{genesis};
 ghost use Rattle.mos_moves.specs.Moves.{
   genesisMoves,
   lessRow,
@@ -20,20 +19,6 @@ ghost use Rattle.mos_moves.specs.Moves.{
   listedMoves,
 };
 ghost use Rattle.mos_moves.specs.Parts.{OnWalk};
-
-// The pattern that the walk starts from.
-pub(crate) fn genesis_of(period: u16, generator: u16) -> Mos
-    requires { ⌜ 1 ≤ period ⌝ }
-    ensures { λ r. ⌜ r ≡ genesis period generator ⌝ }
-{
-    let step = generator % period;
-    Mos {
-        num_primary_steps: 1,
-        num_secondary_steps: 1,
-        primary_step: step,
-        secondary_step: period - step,
-    }
-}
 
 // The moves of the genesis.
 pub fn start(period: u16, generator: u16) -> Moves
@@ -100,7 +85,7 @@ pub(crate) fn list_moves(period: u16, generator: u16, out: &mut [i32]) -> usize
     requires { ⌜ (1 ≤ period) × (length (listedMoves (walkMoves period generator)) ≤ length (now out)) ⌝ }
     ensures { λ r. ⌜ Wrote (now (out .entry)) 0 (listedMoves (walkMoves period generator)) (now (out .exit)) r ⌝ }
 {
-    let mut pattern = genesis_of(period, generator);
+    let mut pattern = mos::parts::genesis_of(period, generator);
     let mut table = start(period, generator);
     let mut place: usize = 0;
     while mos::parts::has_child(pattern) {

@@ -32,7 +32,7 @@ pub fn find_child(mos: Mos, num_steps: u32) -> WalkAnswer
             num_steps,
             &mut found,
         ) {
-            return WalkAnswer::Found(mos::parts::pattern_of(found));
+            return WalkAnswer::Found(parts::pattern_of(found));
         }
         return WalkAnswer::Nothing;
     }
@@ -46,7 +46,7 @@ pub fn nth_child(mos: Mos, k: u32) -> WalkAnswer
     if mos::parts::is_pattern(mos) {
         let mut found: [u16; 4] = [0, 0, 0, 0];
         if parts::descend(mos, k, &mut found) {
-            return WalkAnswer::Found(mos::parts::pattern_of(found));
+            return WalkAnswer::Found(parts::pattern_of(found));
         }
         return WalkAnswer::Nothing;
     }
@@ -60,7 +60,7 @@ pub fn nth_parent(mos: Mos, k: u32) -> WalkAnswer
     if mos::parts::is_pattern(mos) {
         let mut found: [u16; 4] = [0, 0, 0, 0];
         if parts::ascend(mos, k, &mut found) {
-            return WalkAnswer::Found(mos::parts::pattern_of(found));
+            return WalkAnswer::Found(parts::pattern_of(found));
         }
         return WalkAnswer::Nothing;
     }
@@ -74,7 +74,7 @@ pub fn genesis(mos: Mos) -> MosAnswer
     if mos::parts::is_pattern(mos) {
         let mut found: [u16; 4] = [0, 0, 0, 0];
         parts::root(mos, &mut found);
-        return MosAnswer::Given(mos::parts::pattern_of(found));
+        return MosAnswer::Given(parts::pattern_of(found));
     }
     MosAnswer::Refused(Refusal::Size)
 }

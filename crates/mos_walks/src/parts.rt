@@ -9,8 +9,8 @@ ghost use mathlib.Core.Bool.{true};
 ghost use mathlib.Core.Option.{some};
 ghost use lib.ListN.{getElem?};
 ghost use Rattle.mos.specs.Patterns.{mos, isPattern};
-ghost use Rattle.mos.specs.Parts.{Meets};
 ghost use Rattle.mos.specs.Walks.{children, parents, firstWith, genesisOf};
+ghost use Rattle.mos_walks.specs.Parts.{Meets, readBack};
 
 // The first child with n steps of the pattern with counts a and b and steps p and s, itself included. Counts only grow, so a pattern
 // with more ends the search. The four numbers go separately: a pattern would be packed into one register at each self call.
@@ -101,4 +101,16 @@ pub(crate) fn root(m: Mos, found: &mut [u16; 4]) -> bool
         m.secondary_step,
     ];
     true
+}
+
+// The pattern that a walk left in an array: counts, then steps.
+pub fn pattern_of(found: [u16; 4]) -> Mos
+    ensures { λ r. ⌜ r ≡ readBack found ⌝ }
+{
+    Mos {
+        num_primary_steps: found[0],
+        num_secondary_steps: found[1],
+        primary_step: found[2],
+        secondary_step: found[3],
+    }
 }

@@ -1,11 +1,11 @@
 -- From the parts to what the calls answer: one law for each way in which a call ends.
 use Prim.Native.Nat.{ℕ, _≤_, _<_}
-use mathlib.Core.Path.{_≡_, refl, sym, ap, _∙_}
+use mathlib.Core.Path.{_≡_, sym, ap, _∙_, subst}
 use mathlib.Core.Bool.{Bool}
 use mathlib.Core.List.{List}
 use lib.ListN.{length}
-use Rattle.answer.specs.Outcome.{given, refused}
-use Rattle.answer.proofs.Lent.{held, not-held}
+use Rattle.answer.specs.Outcome.{Outcome, given, refused}
+use Rattle.answer.specs.Lent.{heldIn, Filled}
 use Rattle.genchain.specs.Chains.{chainOf, rowOf, TableRow, lettersIn}
 use Rattle.genchain.specs.declared.rows.ChainRow.{ChainRow}
 use Rattle.genchain.proofs.TableRows.{table-row, row-letters}
@@ -37,10 +37,10 @@ module _ (code : ℕ) (sf : Bool) (a : Accidentals) where
     unfolding nameLengthOutcome
     length-given n e = ap given e ∙ sym (some-chain code _ h)
 
-    pub name-held : (room : ℕ) → length (chainName code sf a) ≤ room → nameOutcome code sf a room ≡ given (chainName code sf a)
+    -- the text of the plan, held or not, is the answer
+    pub name-in-room : (p : NamePlan) → planText p ≡ chainName code sf a → {xs ys : List ℕ} {o : Outcome ℕ}
+        → Filled (heldIn (length xs) (planText p)) o xs ys → Filled (nameOutcome code sf a (length xs)) o xs ys
     unfolding nameOutcome
-    name-held room k = some-chain code _ h ∙ held room _ k
-
-    pub name-not-held : (room : ℕ) → room < length (chainName code sf a) → nameOutcome code sf a room ≡ refused 10
-    unfolding nameOutcome
-    name-not-held room k = some-chain code _ h ∙ not-held room (chainName code sf a) k
+    name-in-room p is {xs} {ys} {o} f =
+        subst (λ (outcome : Outcome (List ℕ)). Filled outcome o xs ys)
+        (ap (heldIn (length xs)) is ∙ sym (some-chain code (heldIn (length xs) (chainName code sf a)) h)) f

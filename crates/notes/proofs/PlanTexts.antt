@@ -59,32 +59,24 @@ module _ (letters : List ℕ) (sf : Bool) (a : Accidentals) (stars : ℕ) (is-st
     flat-short : flat .letter < 2048
     flat-short = rw is-flat (short .1)
 
-    -- sharp and flat, in this order
-    sharp-then-flat : (both bracketed : Bool) (p : NamePlan)
-        → p ≡ record { first = sharp; second = flat; both = both; bracketed = bracketed; stars = stars }
-        → planText (record { first = sharp; second = flat; both = both; bracketed = bracketed; stars = stars }) ≡ nameText letters sf a
-        → Planned letters sf a p
-    sharp-then-flat both bracketed p e t =
-        rw e
-        (record {
-          text = t;
-          short = record { first = sharp-short; second = flat-short };
-          signs = omega (arith, sharp-signs, flat-signs);
-          stars = is-stars;
-        })
+    abbrev plan : Mark → Mark → Bool → Bool → NamePlan
+    plan first second both bracketed = record { first = first; second = second; both = both; bracketed = bracketed; stars = stars }
 
-    flat-then-sharp : (both bracketed : Bool) (p : NamePlan)
-        → p ≡ record { first = flat; second = sharp; both = both; bracketed = bracketed; stars = stars }
-        → planText (record { first = flat; second = sharp; both = both; bracketed = bracketed; stars = stars }) ≡ nameText letters sf a
-        → Planned letters sf a p
-    flat-then-sharp both bracketed p e t =
-        rw e
-        (record {
-          text = t;
-          short = record { first = flat-short; second = sharp-short };
-          signs = omega (arith, sharp-signs, flat-signs);
-          stars = is-stars;
-        })
+    planned : (first second : Mark) (both bracketed : Bool) (p : NamePlan)
+        → ShortLetters (plan first second both bracketed) → first .count + second .count ≡ a .«sharp_count» + a .«flat_count»
+        → p ≡ plan first second both bracketed → planText (plan first second both bracketed) ≡ nameText letters sf a → Planned letters sf a p
+    planned first second both bracketed p s n e t = rw e (record { text = t; short = s; signs = n; stars = is-stars })
+
+    -- sharp and flat, in this order
+    sharp-then-flat : (both bracketed : Bool) (p : NamePlan) → p ≡ plan sharp flat both bracketed
+        → planText (plan sharp flat both bracketed) ≡ nameText letters sf a → Planned letters sf a p
+    sharp-then-flat both bracketed p =
+        planned sharp flat both bracketed p (record { first = sharp-short; second = flat-short }) (omega (arith, sharp-signs, flat-signs))
+
+    flat-then-sharp : (both bracketed : Bool) (p : NamePlan) → p ≡ plan flat sharp both bracketed
+        → planText (plan flat sharp both bracketed) ≡ nameText letters sf a → Planned letters sf a p
+    flat-then-sharp both bracketed p =
+        planned flat sharp both bracketed p (record { first = flat-short; second = sharp-short }) (omega (arith, sharp-signs, flat-signs))
 
     pub planned-alone : {p : NamePlan} → p ≡ onePlan sharp flat stars → letterAlone a ≡ true → Planned letters sf a p
     planned-alone {p} e h = sharp-then-flat false false p e (one-text sharp flat (sharpSpelling a) (printed-alone sf a h) sharp-text)

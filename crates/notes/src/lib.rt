@@ -43,10 +43,5 @@ pub fn write_name(
     }
     let row = genchain::rows::row(code);
     let plan = plans::plan_name(row, accidentals, sharp_first);
-    let bytes = plans::plan_length(plan);
-    if out.len() < bytes {
-        return CountAnswer::Refused(Refusal::Room);
-    }
-    texts::put_name(out, 0, plan);
-    CountAnswer::Given(bytes)
+    texts::write_planned(plan, out)
 }

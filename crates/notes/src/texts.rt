@@ -1,8 +1,14 @@
-// Writing a planned name: parts, and no entry points. Callers have asked question 10.
+// Writing a planned name: parts, and no entry points. Callers have asked question 10 where a `requires` names the room.
+use crate::plans;
 use crate::plans::Mark;
 use crate::plans::NamePlan;
+use answer::CountAnswer;
+use answer::Refusal;
 use text::writer;
 ghost use Prim.Native.Nat.{_<_};
+ghost use lib.ListN.{length};
+ghost use Rattle.answer.specs.Refusals.{countOutcome};
+ghost use Rattle.answer.specs.Lent.{heldIn, Filled};
 ghost use Rattle.text.specs.Writing.{Room, Wrote};
 ghost use Rattle.notes.specs.Names.{letterText};
 ghost use Rattle.notes.specs.Parts.{
@@ -101,4 +107,17 @@ pub fn put_name(out: &mut [u8], at: usize, plan: NamePlan) -> usize
     ensures { λ r. ⌜ Wrote (now (out .entry)) at (planText plan) (now (out .exit)) r ⌝ }
 {
     put_starred(out, at, plan, plan.stars)
+}
+
+// A planned name at the front of a slice that holds it (10).
+pub fn write_planned(plan: NamePlan, out: &mut [u8]) -> CountAnswer
+    requires { ⌜ ShortLetters plan ⌝ }
+    ensures { λ r. ⌜ Filled (heldIn (length (now (out .entry))) (planText plan)) (countOutcome r) (now (out .entry)) (now (out .exit)) ⌝ }
+{
+    let bytes = plans::plan_length(plan);
+    if out.len() < bytes {
+        return CountAnswer::Refused(Refusal::Room);
+    }
+    put_name(out, 0, plan);
+    CountAnswer::Given(bytes)
 }

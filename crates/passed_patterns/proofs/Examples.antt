@@ -1,6 +1,6 @@
 -- By computing both sides.
 use mathlib.Core.Path.{refl}
-use Rattle.layout_table.specs.Tables.{refusalLine}
+use Rattle.line.specs.Refusals.{refusalLine}
 use Rattle.line.specs.Lines.{lineText}
 use Rattle.passed_patterns.specs.Printing.{patternLines, output}
 use Rattle.passed_patterns.specs.Examples.{ExamplesHold}

@@ -17,7 +17,7 @@ use Rattle.mos.specs.declared.Mos.{Mos}
 use Rattle.mos.specs.Patterns.{isPattern, genesis}
 use Rattle.mos.specs.Answers.{genesisOutcome}
 use Rattle.mos.proofs.Theorems.{made-patterns}
-use Rattle.layout_table.specs.Tables.{refusalLine, outputOf}
+use Rattle.line.specs.Refusals.{refusalLine, outputOf}
 use Rattle.streams.specs.declared.input.Input.{Input}
 use Rattle.streams.specs.declared.output.Output.{Output}
 use Rattle.streams.specs.Streams.{Handed}

@@ -4,7 +4,7 @@ use mathlib.Core.List.{List, [], _∷_, _++_, map}
 use mathlib.Core.Path.{_≡_}
 use Rattle.line.specs.Lines.{lineText}
 use Rattle.mos.specs.Patterns.{mos}
-use Rattle.layout_table.specs.Tables.{refusalLine}
+use Rattle.line.specs.Refusals.{refusalLine}
 use Rattle.passed_patterns.specs.Printing.{foundWord, nothingLine, patternLine, patternLines, output}
 
 -- 1 12 19, which the search finds; 3 12 19, which it does not; refusals 1 and 2.

@@ -15,7 +15,7 @@ use Rattle.mos.specs.declared.Mos.{Mos}
 use Rattle.mos.specs.Patterns.{primaries, secondaries, primary, secondary, countOf}
 use Rattle.mos.specs.Answers.{genesisOutcome}
 use Rattle.mos.specs.Walks.{children, firstWith}
-use Rattle.layout_table.specs.Tables.{refusalLine, outputOf}
+use Rattle.line.specs.Refusals.{refusalLine, outputOf}
 
 -- A pattern's line: both counts, then both steps, one space between.
 unfoldable pub patternLine : Mos → List ℕ

@@ -27,7 +27,7 @@ ghost use Rattle.text.specs.Writing.{Wrote};
 ghost use Rattle.mos.specs.Patterns.{isPattern};
 ghost use Rattle.mos.specs.Walks.{children};
 ghost use Rattle.mos_walks.specs.Answers.{foundBy};
-ghost use Rattle.layout_table.specs.Tables.{refusalLine, outputOf};
+ghost use Rattle.line.specs.Refusals.{refusalLine, outputOf};
 ghost use Rattle.streams.specs.Streams.{Handed, Written};
 ghost use Rattle.streams.specs.Reading.{LineRead};
 ghost use Rattle.streams.specs.Printing.{Printed};
@@ -101,7 +101,7 @@ fn print_refusal(number: u16) -> Output
     ensures { λ r. ⌜ Handed (refusalLine number) r ⌝ }
 {
     let mut out = [0u8; 16];
-    let bytes = layout_table::parts::put_refusal(&mut out, number);
+    let bytes = line::refusals::put_refusal(&mut out, number);
     let done = output::write_front(output::begin(), &out, bytes);
     words::say_refused();
     done

@@ -125,28 +125,10 @@ pub reduced-found : (P G n : ℕ) → (P ≡ 0 → ⊥) → n ≡ gcdOrOne P G �
 unfolding reduced
 reduced-found P G n some e = ap (λ (m : ℕ). P / m) (cycles-found P G n some e)
 
--- ---- `generation`, from the numbers
-
-abbrev made : Cycle → ℕ → Generation
-made c d = record { cycle = c; degree = d }
-
-module _ (s : Solved) (i : ℕ) where
-  pub with-cycle : 1 < s .«num_cycles»
-      → made (Number (i % s .«num_cycles»)) (s .«generator_inverse» * (i / s .«num_cycles») % s .«reduced_period») ≡ generationFrom s i
-  unfolding generationFrom
-  with-cycle h = rw (lt-ltb 1 (s .«num_cycles») h)
-
-  pub one-cycle : s .«num_cycles» ≡ 1 → made Absent (s .«generator_inverse» * i % s .«reduced_period») ≡ generationFrom s i
-  unfolding generationFrom
-  one-cycle h =
-      ap (λ (k : ℕ). made Absent (s .«generator_inverse» * k % s .«reduced_period»)) (sym (div-one i) ∙ ap (λ (n : ℕ). i / n) (sym h))
-      ∙ rw (le-ltb 1 (s .«num_cycles») (omega (arith, h)))
+-- ---- from the numbers
 
 pub product-fits : (a b : ℕ) → a ≤ 65535 → b ≤ 65535 → a * b ≤ 65535 * 65535
 product-fits a b h k = mul-le-mul {n₂ = 65535} {m₂ = 65535} h k
-
-pub degree-product : (a b c : ℕ) → a ≤ 65535 → b ≤ 65535 → a * (b / c) ≤ 65535 * 65535
-degree-product a b c h k = product-fits a (b / c) h (omega (arith, div-le-self b c))
 
 module _ (P G : ℕ) (s : Solved) (is : s ≡ solvedOf P G) where
   pub solved-cycles : zero < P → zero < s .«num_cycles»

@@ -1,18 +1,21 @@
 -- The walk from key to key: one key on, the cycle goes up by one, or falls to 0 and the degree goes on by the inverse.
 use Prim.Native.Nat.{ℕ, zero, suc, _+_, _*_, _-_, _/_, _%_, _≤_, _<_}
 use mathlib.Core.Path.{_≡_, refl, sym, ap, ap₂, subst, _∙_}
-use mathlib.Core.Bool.{Bool, true, false}
-use lib.Dec.{ltb}
-use borrow.Author.Tests.{ltb-true, ltb-false, lt-ltb, le-ltb}
+use lib.IntN.{ℤ}
+use borrow.Author.Tests.{lt-ltb, le-ltb}
 use lib.Arith.{digits-div, digits-mod, digits-lt}
-use native.Mathlib.Nat.{mod-lt, mod-add-mod, mod-eq-of-lt, mod-eq-sub-mod, mul-add, mul-one, mul-comm, mul-assoc, zero-div, zero-mod, mul-zero, div-add-mod', mod-mod}
+use native.Mathlib.Nat.{mod-lt, mod-add-mod, mod-eq-of-lt, mod-eq-sub-mod, mul-add, mul-one, mul-comm, mul-assoc, zero-div, zero-mod, mul-zero, div-add-mod', div-lt-iff-lt-mul, mod-mod}
 use native.Mathlib.Omega.{arith}
-use Rattle.answer.specs.Choice.{pick}
+use Rattle.math.specs.Division.{remainder}
+use Rattle.math.proofs.Division.{remainder-below}
 use Rattle.math.proofs.Congruence.{mul-cong}
 use Rattle.pergen.specs.Pergen.{cycles, reduced, inverse, degree, cycle}
-use Rattle.pergen.specs.Parts.{solvedOf, Walkable, At, nextStep}
+use Rattle.pergen.specs.Parts.{solvedOf, Walkable, At, generationFrom}
+use Rattle.pergen.specs.declared.Cycle.{Cycle}
+use Rattle.pergen.specs.declared.Cycle.the-variants.{Absent, Number}
+use Rattle.pergen.specs.declared.Generation.{Generation}
 use Rattle.pergen.specs.declared.euclid.Solved.{Solved}
-use Rattle.pergen.specs.declared.stepping.Step.{Step}
+use Rattle.pergen.specs.declared.stepping.Key.{Key}
 use Rattle.pergen.proofs.Inverse.{Numbers, numbers, cycles-positive, reduced-positive}
 
 -- ---- one key on
@@ -56,66 +59,93 @@ turn-wraps d x R h b l =
     let e : d - (R - x) ≡ d + x - R = omega arith in
     e ∙ sym (mod-eq-sub-mod q ∙ mod-eq-of-lt (omega arith))
 
--- ---- steps
+-- ---- keys
 
 module _ (s : Solved) (w : Walkable s) where
-  pub at-first : At s 0 (record { degree = 0; cycle = 0 })
+  abbrev n : ℕ
+  n = s .«num_cycles»
+
+  abbrev R : ℕ
+  R = s .«reduced_period»
+
+  abbrev x : ℕ
+  x = s .«generator_inverse»
+
+  pub at-first : At s (record { number = 0; degree = 0; cycle = 0 })
   at-first =
       record {
-        degree-is = degree-start (s .«generator_inverse») (s .«reduced_period»)
-            ∙ ap (λ (y : ℕ). s .«generator_inverse» * y % s .«reduced_period») (sym (zero-div (s .«num_cycles»)));
-        cycle-is = sym (zero-mod (s .«num_cycles»));
+        degree-is = degree-start x R ∙ ap (λ (y : ℕ). x * y % R) (sym (zero-div n));
+        cycle-is = sym (zero-mod n);
       }
 
-  module _ (k : ℕ) (step : Step) (at : At s k step) where
-    pub at-degree-below : step .degree < s .«reduced_period»
+  -- found by its number
+  module _ (i turn : ℕ) (turned : turn ≡ i / n) where
+    left-is : i - turn * n ≡ i % n
+    left-is =
+        let q : i / n * n + i % n ≡ i = div-add-mod' i n in
+        ap (λ (y : ℕ). i - y * n) turned ∙ (let z : i - i / n * n ≡ i % n = omega arith in z)
+
+    pub at-found : {within : ℕ} → within ≡ turn % R → At s (record { number = i; degree = x * within % R; cycle = i - turn * n })
+    at-found {within} rest =
+        record {
+          degree-is = mul-cong R x within (i / n)
+              (ap (λ (y : ℕ). y % R) rest ∙ mod-mod turn R ∙ ap (λ (y : ℕ). y % R) turned);
+          cycle-is = left-is;
+        }
+
+    pub turn-fits : turn * n ≤ i
+    turn-fits =
+        let q : i / n * n + i % n ≡ i = div-add-mod' i n in
+        subst (λ (y : ℕ). y * n ≤ i) (sym turned) (let z : i / n * n ≤ i = omega arith in z)
+
+    pub rest-below : i - turn * n < n
+    rest-below = subst (λ (y : ℕ). y < n) (sym left-is) (mod-lt i (w .some-cycles))
+
+    pub turn-below : i < 2 * (R * n) → turn < 2 * R
+    turn-below h =
+        subst (λ (y : ℕ). y < 2 * R) (sym turned)
+        (div-lt-iff-lt-mul {k = n} {x = i} {y = 2 * R} (w .some-cycles) .1 (omega (arith, h, mul-assoc 2 R n)))
+
+  module _ (k : Key) (at : At s k) where
+    pub at-degree-below : k .degree < R
     at-degree-below = rw (at .degree-is) (mod-lt _ (omega (arith, w .below)))
 
-    pub at-cycle-below : step .cycle < s .«num_cycles»
-    at-cycle-below = rw (at .cycle-is) (mod-lt k (w .some-cycles))
+    pub at-cycle-below : k .cycle < n
+    at-cycle-below = rw (at .cycle-is) (mod-lt (k .number) (w .some-cycles))
 
-    pub at-stay : step .cycle + 1 < s .«num_cycles» → At s (k + 1) (record { degree = step .degree; cycle = step .cycle + 1 })
+    pub at-stay : k .cycle + 1 < n → At s (record { number = k .number + 1; degree = k .degree; cycle = k .cycle + 1 })
     at-stay h =
-        let l : k % s .«num_cycles» + 1 < s .«num_cycles» = subst (λ (y : ℕ). y + 1 < s .«num_cycles») (at .cycle-is) h in
+        let l : k .number % n + 1 < n = subst (λ (y : ℕ). y + 1 < n) (at .cycle-is) h in
         record {
-          degree-is = at .degree-is
-              ∙ ap (λ (y : ℕ). s .«generator_inverse» * y % s .«reduced_period») (sym (stay-high (s .«num_cycles») k (w .some-cycles) l));
-          cycle-is = ap (λ (y : ℕ). y + 1) (at .cycle-is) ∙ sym (stay-low (s .«num_cycles») k (w .some-cycles) l);
+          degree-is = at .degree-is ∙ ap (λ (y : ℕ). x * y % R) (sym (stay-high n (k .number) (w .some-cycles) l));
+          cycle-is = ap (λ (y : ℕ). y + 1) (at .cycle-is) ∙ sym (stay-low n (k .number) (w .some-cycles) l);
         }
 
-    pub at-carry : s .«num_cycles» ≤ step .cycle + 1 → {d : ℕ} → d ≡ (step .degree + s .«generator_inverse») % s .«reduced_period»
-        → At s (k + 1) (record { degree = d; cycle = 0 })
+    pub at-carry : n ≤ k .cycle + 1 → {d : ℕ} → d ≡ (k .degree + x) % R → At s (record { number = k .number + 1; degree = d; cycle = 0 })
     at-carry h e =
-        let l : s .«num_cycles» ≤ k % s .«num_cycles» + 1 = subst (λ (y : ℕ). s .«num_cycles» ≤ y + 1) (at .cycle-is) h in
+        let l : n ≤ k .number % n + 1 = subst (λ (y : ℕ). n ≤ y + 1) (at .cycle-is) h in
         record {
           degree-is = e
-              ∙ degree-on (s .«generator_inverse») (k / s .«num_cycles») (s .«reduced_period») (at .degree-is)
-              ∙ ap (λ (y : ℕ). s .«generator_inverse» * y % s .«reduced_period») (sym (carry-high (s .«num_cycles») k (w .some-cycles) l));
-          cycle-is = sym (carry-low (s .«num_cycles») k (w .some-cycles) l);
+              ∙ degree-on x (k .number / n) R (at .degree-is)
+              ∙ ap (λ (y : ℕ). x * y % R) (sym (carry-high n (k .number) (w .some-cycles) l));
+          cycle-is = sym (carry-low n (k .number) (w .some-cycles) l);
         }
 
-    -- the step after stands at the key after
-    pub at-next : At s (k + 1) (nextStep s step)
-    unfolding nextStep
-    at-next = go (ltb (step .cycle + 1) (s .«num_cycles»)) refl
-      where
-        go : (t : Bool) → ltb (step .cycle + 1) (s .«num_cycles») ≡ t
-            → At s (k + 1)
-            (pick t (record { degree = step .degree; cycle = step .cycle + 1 })
-            (record { degree = (step .degree + s .«generator_inverse») % s .«reduced_period»; cycle = 0 }))
-        go true e = at-stay (ltb-true _ _ e)
-        go false e = at-carry (ltb-false _ _ e) refl
+-- degree and cycle as names have them
+module _ (s : Solved) (k : Key) (at : At s k) where
+  abbrev made : Cycle → Generation
+  made c = record { cycle = c; degree = k .degree }
 
--- the step after, by what the code tests
-module _ (s : Solved) (step : Step) where
-  pub next-stays : step .cycle + 1 < s .«num_cycles» → record { degree = step .degree; cycle = step .cycle + 1 } ≡ nextStep s step
-  unfolding nextStep
-  next-stays h = rw (lt-ltb (step .cycle + 1) (s .«num_cycles») h, pick)
+  pub several-cycles : 1 < s .«num_cycles» → made (Number (k .cycle)) ≡ generationFrom s (k .number)
+  unfolding generationFrom
+  several-cycles h =
+      ap₂ (λ (c d : ℕ). record { cycle = Number c; degree = d }) (at .cycle-is) (at .degree-is)
+      ∙ rw (lt-ltb 1 (s .«num_cycles») h)
 
-  pub next-carries : s .«num_cycles» ≤ step .cycle + 1 → {d : ℕ} → d ≡ (step .degree + s .«generator_inverse») % s .«reduced_period»
-      → record { degree = d; cycle = 0 } ≡ nextStep s step
-  unfolding nextStep
-  next-carries h e = rw (le-ltb (step .cycle + 1) (s .«num_cycles») h, pick) (ap (λ (x : ℕ). record { degree = x; cycle = 0 }) e)
+  pub one-cycle : s .«num_cycles» ≤ 1 → made Absent ≡ generationFrom s (k .number)
+  unfolding generationFrom
+  one-cycle h =
+      ap (λ (d : ℕ). record { cycle = Absent; degree = d }) (at .degree-is) ∙ rw (le-ltb 1 (s .«num_cycles») h)
 
 -- ---- of a period and a generator
 
@@ -124,15 +154,26 @@ module _ (P G : ℕ) (hP : 0 < P) (s : Solved) (is : s ≡ solvedOf P G) where
   unfolding solvedOf
   walkable = rw is (record { some-cycles = cycles-positive P G hP; below = numbers P G hP .below })
 
-  -- what a step holds is the key's degree and cycle
-  pub at-degree : (k : ℕ) (step : Step) → At s k step → step .degree ≡ degree P G k
+  -- what a key holds is its number's degree and cycle
+  pub at-degree : (k : Key) → At s k → k .degree ≡ degree P G (k .number)
   unfolding solvedOf degree
-  at-degree k step at =
-      at .degree-is ∙ ap (λ (t : Solved). t .«generator_inverse» * (k / t .«num_cycles») % t .«reduced_period») is
+  at-degree k at =
+      at .degree-is ∙ ap (λ (t : Solved). t .«generator_inverse» * (k .number / t .«num_cycles») % t .«reduced_period») is
 
-  pub at-cycle : (k : ℕ) (step : Step) → At s k step → step .cycle ≡ cycle P G k
+  pub at-cycle : (k : Key) → At s k → k .cycle ≡ cycle P G (k .number)
   unfolding solvedOf cycle
-  at-cycle k step at = at .cycle-is ∙ ap (λ (t : Solved). k % t .«num_cycles») is
+  at-cycle k at = at .cycle-is ∙ ap (λ (t : Solved). k .number % t .«num_cycles») is
+
+  -- the period, by what was solved
+  pub solved-period : P ≡ s .«reduced_period» * s .«num_cycles»
+  unfolding solvedOf
+  solved-period = rw is (numbers P G hP .period)
+
+  -- a key that was brought round the period can be found
+  pub round-found : (key : ℤ) (i : ℕ) → i ≡ remainder key P → Walkable s × (i < 2 * (s .«reduced_period» * s .«num_cycles»))
+  round-found key i round =
+      let below = remainder-below key P hP in
+      (walkable, omega (arith, round, below, solved-period))
 
 -- ---- each degree with each cycle is that of a key of the octave
 

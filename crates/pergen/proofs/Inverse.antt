@@ -1,35 +1,18 @@
 -- The inverse exists, by Bezout's equation along Euclid's steps, and is the only one; the search finds it.
-use Prim.Native.Nat.{ℕ, zero, suc, _+_, _*_, _-_, _/_, _%_, _≤_, _<_}
-use mathlib.Core.Path.{_≡_, sym, ap, ap₂, subst, _∙_}
-use mathlib.Core.Bool.{Bool, true, false, not}
-use mathlib.Core.Logic.{_⊎_, inl, inr}
-use lib.Dec.{T, T-not, eqb, eqb→eq, eqb-refl}
-use native.Mathlib.Nat.{eq-or-lt-of-le, mul-add, add-mul, mul-assoc, mul-comm, mul-left-comm, mul-one, one-mul, zero-mul, zero-mod, mod-self, mod-eq-of-lt, mod-lt, div-add-mod', sub-add-cancel, add-assoc, add-zero, add-mul-mod-self-right, div-mul-cancel, mod-mod, le-of-dvd, le-div-iff-mul-le, le-mul-of-pos-right}
+use Prim.Native.Nat.{ℕ, zero, _+_, _*_, _-_, _/_, _%_, _≤_, _<_}
+use mathlib.Core.Path.{_≡_, sym, ap, ap₂, _∙_}
+use mathlib.Core.Bool.{Bool, true}
+use lib.Dec.{eqb}
+use borrow.Author.Tests.{eq-eqb, eqb-true}
+use native.Mathlib.Nat.{mul-add, add-mul, mul-assoc, mul-comm, mul-left-comm, mul-one, one-mul, zero-mul, zero-mod, mod-self, mod-eq-of-lt, mod-lt, div-add-mod', sub-add-cancel, add-assoc, add-zero, add-mul-mod-self-right, div-mul-cancel, mod-mod, le-of-dvd, le-div-iff-mul-le, le-mul-of-pos-right}
 use native.Mathlib.Omega.{arith}
 use Rattle.math.specs.Gcd.{gcd}
+use Rattle.math.specs.Passing.{first}
 use Rattle.math.proofs.Congruence.{add-cong, add-cancel, mul-cong, two-digits-agree}
 use Rattle.math.proofs.Gcd.{gcd-zero, gcd-step, euclid-induction, gcd-is, gcd-positive}
-use Rattle.pergen.specs.Pergen.{cycles, reduced, IsInverse, first, inverse}
+use Rattle.math.proofs.Passing.{first-finds}
+use Rattle.pergen.specs.Pergen.{cycles, reduced, IsInverse, inverse}
 use Rattle.pergen.specs.Theorems.{OneInverse}
-
--- ---- the search
-
-by-test : (b : Bool) (x y : ℕ) (Q : ℕ → Type 0) → (T b → Q x) → (T (not b) → Q y) → Q (elim b [ true ↦ x | false ↦ y ])
-by-test true x y Q h k = h tt
-by-test false x y Q h k = k tt
-
--- it finds a number that passes, none after the one that is known to pass
-pub first-finds : (f : ℕ → Bool) (k j w : ℕ) → j ≤ w → w < j + k → T (f w) → T (f (first f k j)) × (first f k j ≤ w)
-unfolding first
-first-finds f zero j w h l t = absurd (let z : ⊥ = omega arith in z)
-first-finds f (suc k) j w h l t =
-    by-test (f j) j (first f k (suc j)) (λ r. T (f r) × (r ≤ w))
-    (λ t′. (t′, h))
-    (λ t′. first-finds f k (suc j) w (past (eq-or-lt-of-le h) t′) (omega arith) t)
-  where
-    past : (j ≡ w) ⊎ (j < w) → T (not (f j)) → suc j ≤ w
-    past (inl e) t′ = absurd (T-not (f j) t′ (subst (λ (x : ℕ). T (f x)) (sym e) t))
-    past (inr l) t′ = l
 
 -- ---- Bezout: c y leaves the greatest common divisor of M and y on division by M
 
@@ -138,10 +121,9 @@ module _ (P G : ℕ) (hP : zero < P) where
   unfolding inverse
   found w h =
       let test : ℕ → Bool = λ x. eqb (x * (G / cycles P G) % reduced P G) (1 % reduced P G) in
-      let r : T (test (first test (reduced P G) 0)) × (first test (reduced P G) 0 ≤ w)
-      = first-finds test (reduced P G) 0 w (omega arith) (omega (arith, h .below))
-      (subst (λ (z : ℕ). T (eqb (w * (G / cycles P G) % reduced P G) z)) (h .one) (eqb-refl (w * (G / cycles P G) % reduced P G))) in
-      record { below = omega (arith, r .1, h .below); one = eqb→eq _ _ (r .0) }
+      let r : (test (first test (reduced P G) 0) ≡ true) × (first test (reduced P G) 0 ≤ w)
+      = first-finds test (reduced P G) 0 w (omega arith) (omega (arith, h .below)) (eq-eqb _ _ (h .one)) in
+      record { below = omega (arith, r .1, h .below); one = eqb-true _ _ (r .0) }
 
   inverse-exists : IsInverse P G (inverse P G)
   unfolding cycles

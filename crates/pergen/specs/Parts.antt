@@ -2,7 +2,6 @@
 use Prim.Native.Nat.{ℕ, _+_, _*_, _-_, _/_, _%_, _≤_, _<_}
 use mathlib.Core.Path.{_≡_}
 use mathlib.Core.Bool.{Bool, true, false, not}
-use lib.Dec.{ltb}
 use lib.IntN.{pos, _-ℤ_}
 use Rattle.answer.specs.Choice.{pick}
 use Rattle.math.specs.Gcd.{gcd}
@@ -14,7 +13,7 @@ use Rattle.pergen.specs.declared.euclid.Bezout.{Bezout}
 use Rattle.pergen.specs.declared.euclid.Remainders.{Remainders}
 use Rattle.pergen.specs.declared.euclid.Solved.{Solved}
 use Rattle.pergen.specs.declared.sounding.Sides.{Sides}
-use Rattle.pergen.specs.declared.stepping.Step.{Step}
+use Rattle.pergen.specs.declared.stepping.Key.{Key}
 
 -- c generators forward leave r on division by P; backward where the flag is set.
 abbrev pub Leaves : (P G r c : ℕ) → Bool → Type 0
@@ -66,17 +65,10 @@ pub record Walkable (s : Solved) : Type 0 where
   pub some-cycles : 0 < s .«num_cycles»
   pub below : s .«generator_inverse» < s .«reduced_period»
 
--- A step of the walk stands at key k: it holds k's degree and cycle.
-pub record At (s : Solved) (k : ℕ) (step : Step) : Type 0 where
-  pub degree-is : step .degree ≡ s .«generator_inverse» * (k / s .«num_cycles») % s .«reduced_period»
-  pub cycle-is : step .cycle ≡ k % s .«num_cycles»
-
--- The step after: a cycle further with the same degree, or from the last cycle to the first, and on to the next degree.
-unfoldable pub nextStep : Solved → Step → Step
-nextStep s step =
-    pick (ltb (step .cycle + 1) (s .«num_cycles»))
-    (record { degree = step .degree; cycle = step .cycle + 1 })
-    (record { degree = (step .degree + s .«generator_inverse») % s .«reduced_period»; cycle = 0 })
+-- A key holds the degree and the cycle of its number: "degree inverse × (i div n) mod R and cycle i mod n".
+pub record At (s : Solved) (k : Key) : Type 0 where
+  pub degree-is : k .degree ≡ s .«generator_inverse» * (k .number / s .«num_cycles») % s .«reduced_period»
+  pub cycle-is : k .cycle ≡ k .number % s .«num_cycles»
 
 -- Both sides are at most 65,535 × 2³².
 pub record SmallSides (s : Sides) : Type 0 where

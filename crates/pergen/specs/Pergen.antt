@@ -1,12 +1,12 @@
 -- The pergen: a period P and a generator G (document 01, "Pergen and spelling"; the Xenharmonic Wiki's "pergen").
-use Prim.Native.Nat.{ℕ, zero, suc, _*_, _/_, _%_, _<_}
-use mathlib.Core.Bool.{Bool, true, false}
+use Prim.Native.Nat.{ℕ, _*_, _/_, _%_, _<_}
 use mathlib.Core.Path.{_≡_}
 use lib.Dec.{eqb, ltb}
 use lib.IntN.{ℤ}
 use Rattle.answer.specs.Choice.{pick}
 use Rattle.math.specs.Division.{remainder}
 use Rattle.math.specs.Gcd.{gcd}
+use Rattle.math.specs.Passing.{first}
 use Rattle.pergen.specs.declared.Cycle.{Cycle}
 use Rattle.pergen.specs.declared.Cycle.the-variants.{Absent, Number}
 use Rattle.pergen.specs.declared.Generation.{Generation}
@@ -25,11 +25,6 @@ reduced P G = P / cycles P G
 pub record IsInverse (P G x : ℕ) : Type 0 where
   pub below : x < reduced P G
   pub one : x * (G / cycles P G) % reduced P G ≡ 1 % reduced P G
-
--- The first number from `from` on that passes the test, of at most `count` numbers.
-unfoldable pub first : (ℕ → Bool) → ℕ → ℕ → ℕ
-first test zero from = from
-first test (suc count) from = elim (test from) [ true ↦ from | false ↦ first test count (suc from) ]
 
 -- "The inverse is the one number" that `IsInverse` describes: here the first, and by the theorem `OneInverse` the only one.
 unfoldable pub inverse : ℕ → ℕ → ℕ

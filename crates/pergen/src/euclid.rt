@@ -1,9 +1,7 @@
 // What follows from a period and a generator: parts, and no entry points. Callers have asked question 2.
-use crate::Cycle;
-use crate::Generation;
 ghost use mathlib.Core.Path.{_≡_};
 ghost use Prim.Native.Nat.{_%_, _≤_, _<_};
-ghost use Rattle.pergen.specs.Parts.{StandsAt, BezoutOf, forward, solvedOf, generationFrom};
+ghost use Rattle.pergen.specs.Parts.{StandsAt, BezoutOf, forward, solvedOf};
 
 // The greatest common divisor, the period divided by it, and how many generators leave the divisor on division by the period:
 // so many backward where `negative` is set.
@@ -109,25 +107,4 @@ pub fn solve(period: u16, generator: u16) -> Solved
             negative: true,
         },
     )
-}
-
-// Degree and cycle of a key that was brought round the period; the product is at most 65,535 times 65,535.
-pub fn generation(solved: Solved, index: u16) -> Generation
-    requires { ⌜ (0 < solved .«num_cycles») × (0 < solved .«reduced_period») ⌝ }
-    ensures { λ r. ⌜ r ≡ generationFrom solved index ⌝ }
-{
-    let n = solved.num_cycles;
-    let inverse = solved.generator_inverse as u32;
-    let reduced = solved.reduced_period as u32;
-    if n == 1 {
-        return Generation {
-            cycle: Cycle::Absent,
-            degree: (inverse * (index as u32) % reduced) as u16,
-        };
-    }
-    let turn = (index / n) as u32;
-    Generation {
-        cycle: Cycle::Number(index % n),
-        degree: (inverse * turn % reduced) as u16,
-    }
 }

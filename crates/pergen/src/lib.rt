@@ -169,7 +169,8 @@ impl PerGen {
         }
         let index = math::parts::rem_u16(key, self.period);
         let solved = euclid::solve(self.period, self.generator);
-        GenerationAnswer::Given(euclid::generation(solved, index))
+        let found = stepping::key_at(solved, index as u32);
+        GenerationAnswer::Given(stepping::generation(solved, found))
     }
 
     // The sharp and the flat spelling of a key, below 0 too: the number is first brought round the period (2, 5, 6).
@@ -187,7 +188,8 @@ impl PerGen {
         }
         let in_period = math::parts::rem_u16(key, self.period);
         let solved = euclid::solve(self.period, self.generator);
-        let generation = euclid::generation(solved, in_period);
+        let found = stepping::key_at(solved, in_period as u32);
+        let generation = stepping::generation(solved, found);
         AccidentalsAnswer::Given(spellings::accidentals(solved.reduced_period, format, generation))
     }
 

@@ -11,55 +11,55 @@ mod edo;
 mod fractional;
 mod layouts;
 mod lists;
-mod mappings;
 mod moves;
 mod names;
 mod numbers;
-mod orders;
 mod patterns;
 mod pergens;
 mod plain;
 mod print;
-mod retunings;
 mod sheets;
-mod strips;
-mod tables;
 mod texts;
 mod words;
 
+use layout::IsomorphicLayout;
 use libc::STDIN_FILENO;
 use words::Values;
+ghost use Prim.Native.Nat.{_≤_};
 ghost use Rattle.io.specs.Counts.{Counts};
 
-// Whether the line is a question; if so, it is answered.
-fn answered(line: &[u8], room: u16) -> bool {
-    let end = words::word_end(line);
-    let kind = names::kind_of(line, end);
-    if names::LAST_PLAIN < kind {
-        return answered_other(kind, line, end, room);
-    }
-    let n = words::values_after(line, end, names::shape_of(kind), room);
-    if words::is_at(line, n.end, b'\n') {
-        answer(kind, n);
-        return true;
-    }
-    false
-}
-
-// Whether the line is a question, with or without a room before it; if so, it is answered.
-fn answered_with_room(line: &[u8]) -> bool {
+// Whether the line, with or without a room before its question, is one; if so, it is answered.
+fn answered(line: &[u8]) -> bool {
     let room = words::wide_at(line, 0);
     if words::NOWHERE <= room.end {
-        return answered(line, 65535);
+        return answered_from(line, 0, 65535);
     }
     if 65535 < room.value {
         return false;
     }
-    answered_behind(line, room.end, room.value as u16)
+    answered_from(line, words::past(line, room.end, b' '), room.value as u16)
 }
 
-// Whether a space stands at a place and a question behind it; if so, it is answered.
-fn answered_behind(line: &[u8], at: usize, room: u16) -> bool {
+// Whether a question stands from a place on; if so, it is answered.
+fn answered_from(line: &[u8], from: usize, room: u16) -> bool
+    requires { ⌜ from ≤ 65536 ⌝ }
+{
+    let end = words::word_end(line, from);
+    let kind = names::kind_of(line, from, end);
+    let row = names::row_of(kind);
+    let n = words::values_after(line, end, row % 100000, room);
+    let group = row / 100000;
+    match group {
+        names::NO_GROUP => false,
+        names::GROUP_PLACES => patterns::get_key(line, n),
+        names::GROUP_TABLES => answered_table(line, n),
+        _ => answered_to_the_end(group, kind, line, n),
+    }
+}
+
+// Whether a space and a line of the key table program stand behind the name; if so, the line is answered.
+fn answered_table(line: &[u8], n: Values) -> bool {
+    let at = n.end;
     if line.len() <= at {
         return false;
     }
@@ -67,78 +67,74 @@ fn answered_behind(line: &[u8], at: usize, room: u16) -> bool {
         return false;
     }
     let from = at + 1;
-    answered(&line[from..], room)
+    let none = [0u16; 1];
+    texts::answer(
+        names::TABLE,
+        layouts::layout_of(names::TABLE, n),
+        n,
+        &none,
+        &line[from..],
+    );
+    true
 }
 
-// The names that a function answers stand together.
-fn answer(kind: usize, n: Values) {
-    if kind < names::PERGEN {
-        numbers::answer(kind, n);
-        return;
+// Whether the line ends behind all the numbers that its name wants; if so, it is answered.
+fn answered_to_the_end(group: usize, kind: usize, line: &[u8], n: Values) -> bool {
+    let more = words::values_after(line, n.end, names::more_of(kind), 0);
+    let mut entries = [0u16; 256];
+    let mut bytes = [0u8; 256];
+    let read = words::list_after(
+        line,
+        more.end,
+        names::limit_of(kind),
+        &mut entries,
+        &mut bytes,
+    );
+    if words::is_at(line, read.end, b'\n') {
+        let count = read.count;
+        answer(group, kind, n, more, &entries[..count], &bytes[..count]);
+        return true;
     }
-    if kind < names::NEW_GENESIS {
-        pergens::answer(kind, n);
-        return;
-    }
-    if kind < names::TRITAVES {
-        patterns::answer(kind, n);
-        return;
-    }
-    if kind < names::CHILDREN {
-        plain::answer(kind, n);
-        return;
-    }
-    answer_long(kind, n);
+    false
 }
 
-fn answer_long(kind: usize, n: Values) {
-    if kind < names::WRITE_MOVES {
-        lists::answer(kind, n);
-        return;
-    }
-    if kind < names::CHAIN {
-        moves::write_into(kind, n);
-        return;
-    }
-    if kind < names::LAYOUT {
-        texts::answer(kind, n);
-        return;
-    }
-    layouts::answer(names::asked(kind), layouts::layout_of(kind, n), n);
-}
-
-fn answered_other(kind: usize, line: &[u8], end: usize, room: u16) -> bool {
-    match kind {
-        names::GET_KEY => patterns::get_key(line, end),
-        names::DIVIDE16 => numbers::divide16(line, end),
-        names::DIVIDE32 => numbers::divide32(line, end),
-        names::NTH_MOVES => moves::nth_moves(line, end),
-        names::MOVED => retunings::moved(line, end),
-        names::TABLE => tables::answer(line, end, room),
-        names::FIND_IN => books::find_in(line, end),
-        names::WIDEN => strips::widen(line, end, room),
-        names::NARROW => strips::narrow(line, end, room),
-        names::READ_KBM => mappings::read_kbm(line, end, room),
-        _ => answered_more(kind, line, end, room),
+fn answer(group: usize, kind: usize, n: Values, more: Values, entries: &[u16], bytes: &[u8]) {
+    match group {
+        names::GROUP_NUMBERS => numbers::answer(kind, n),
+        names::GROUP_PERGENS => pergens::answer(kind, n),
+        names::GROUP_PATTERNS => patterns::answer(kind, n),
+        names::GROUP_FRACTIONAL => fractional::answer(kind, n, more),
+        names::GROUP_BOOKS => books::put_lookup(bytes, n.key),
+        _ => {
+            let layout = layouts::layout_of(kind, n);
+            answer_on(layout, group, names::asked(kind), n, more, entries, bytes);
+        }
     }
 }
 
-fn answered_more(kind: usize, line: &[u8], end: usize, room: u16) -> bool {
-    match kind {
-        names::TO_CHAIN_ORDER => orders::answer(kind, line, end, room),
-        names::TO_KEY_ORDER => orders::answer(kind, line, end, room),
-        names::SHEET => sheets::answer(line, end),
-        names::FRACTIONAL_CHILD => fractional::child(line, end),
-        names::FRACTIONAL_NTH => fractional::nth(line, end),
-        names::FRACTIONAL_GENESIS => fractional::answer(kind, line, end),
-        names::FRACTIONAL_LEN => fractional::answer(kind, line, end),
-        names::FRACTIONAL_CHILDREN => fractional::answer(kind, line, end),
-        _ => false,
+// Of these groups some questions are on a layout.
+fn answer_on(
+    layout: IsomorphicLayout,
+    group: usize,
+    kind: usize,
+    n: Values,
+    more: Values,
+    entries: &[u16],
+    bytes: &[u8],
+) {
+    match group {
+        names::GROUP_PLAIN => plain::answer(kind, layout, n, more),
+        names::GROUP_MOVES => moves::answer(kind, layout, n),
+        names::GROUP_MOVE_LISTS => moves::answer_list(kind, layout, n),
+        names::GROUP_LISTS => lists::answer(kind, layout, n, entries, bytes),
+        names::GROUP_SHEETS => sheets::answer(layout, n, more),
+        _ => texts::answer(kind, layout, n, entries, bytes),
     }
 }
 
 fn answer_line(line: &[u8]) {
-    if answered_with_room(line) {
+    if answered(line) {
+        print::letter(b'\n');
         return;
     }
     print::text(b"?\n");

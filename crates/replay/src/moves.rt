@@ -5,68 +5,50 @@
 //     genesis_moves PERIOD GENERATOR       the pattern that a walk begins with, and its moves
 //     nth_moves PERIOD GENERATOR PLACE     the pattern at a place of the walk, from 0, and its moves, or `none`
 //     walk_moves PERIOD GENERATOR          the moves of all patterns of the walk
-use crate::layouts;
 use crate::names;
 use crate::patterns;
 use crate::print;
-use crate::words;
 use crate::words::Values;
 use answer::CountAnswer;
 use layout::IsomorphicLayout;
-use mos::Mos;
 use mos::MosAnswer;
 use mos::WalkAnswer;
 use mos_moves::Moves;
+ghost use mathlib.Core.Path.{_≡_};
+ghost use lib.ListN.{length};
 
-// Whether the line asks for the moves at a place; if so, it is answered.
-pub(crate) fn nth_moves(line: &[u8], at: usize) -> bool {
-    let n = words::values_after(line, at, 2, 0);
-    let place = words::wide_after(line, n.end);
-    if words::is_at(line, place.end, b'\n') {
-        put_nth(n.first, n.second, place.value);
-        return true;
+pub(crate) fn answer(kind: usize, layout: IsomorphicLayout, n: Values) {
+    let mut moves = [[0i32; 2]; 2];
+    let found = find(kind, layout, n, &mut moves);
+    put(found, moves);
+}
+
+fn find(kind: usize, layout: IsomorphicLayout, n: Values, moves: &mut Moves) -> WalkAnswer {
+    match kind {
+        names::MOVES => walked(layout_moves::get_moves(layout, moves)),
+        names::GENESIS_MOVES => walked(mos_moves::genesis_moves(n.first, n.second, moves)),
+        _ => mos_moves::nth_moves(n.first, n.second, n.wide, moves),
     }
-    false
 }
 
-pub(crate) fn put_of_layout(layout: IsomorphicLayout) {
-    let mut moves = [[0i32; 2]; 2];
-    let made = layout_moves::get_moves(layout, &mut moves);
-    put_made(made, moves);
-}
-
-pub(crate) fn put_genesis(period: u16, generator: u16) {
-    let mut moves = [[0i32; 2]; 2];
-    let made = mos_moves::genesis_moves(period, generator, &mut moves);
-    put_made(made, moves);
-}
-
-fn put_nth(period: u16, generator: u16, place: u32) {
-    let mut moves = [[0i32; 2]; 2];
-    let walked = mos_moves::nth_moves(period, generator, place, &mut moves);
-    put_walked(walked, moves);
-}
-
-fn put_made(answer: MosAnswer, moves: Moves) {
+// The pattern of an answer that has one, or else a refusal.
+fn walked(answer: MosAnswer) -> WalkAnswer {
     match answer {
-        MosAnswer::Given(m) => put_pattern(m, moves),
-        MosAnswer::Refused(q) => print::refused(q),
+        MosAnswer::Given(m) => WalkAnswer::Found(m),
+        MosAnswer::Refused(q) => WalkAnswer::Refused(q),
     }
 }
 
-fn put_walked(answer: WalkAnswer, moves: Moves) {
+fn put(answer: WalkAnswer, moves: Moves) {
     match answer {
-        WalkAnswer::Found(m) => put_pattern(m, moves),
-        WalkAnswer::Nothing => print::text(b"none\n"),
-        WalkAnswer::Refused(q) => print::refused(q),
+        WalkAnswer::Nothing => print::none(),
+        WalkAnswer::Refused(q) => print::refusal(q),
+        WalkAnswer::Found(m) => {
+            patterns::put_pattern(m);
+            put_row(moves[0]);
+            put_row(moves[1]);
+        }
     }
-}
-
-fn put_pattern(m: Mos, moves: Moves) {
-    patterns::put_counts_and_steps(m);
-    put_row(moves[0]);
-    put_row(moves[1]);
-    print::end_line();
 }
 
 fn put_row(row: [i32; 2]) {
@@ -74,21 +56,51 @@ fn put_row(row: [i32; 2]) {
     print::next_signed(row[1]);
 }
 
-pub(crate) fn write_into(kind: usize, n: Values) {
-    let mut out = print::signed_list_room();
+pub(crate) fn answer_list(kind: usize, layout: IsomorphicLayout, n: Values) {
+    let mut out = list_room();
     let end = n.room as usize;
-    put_written(kind, n, &mut out[..end]);
+    put_list(kind, layout, n, &mut out[..end]);
 }
 
-fn put_written(kind: usize, n: Values, out: &mut [i32]) {
-    let answer = written(kind, n, out);
-    print::signed_list(out, answer);
+fn put_list(kind: usize, layout: IsomorphicLayout, n: Values, out: &mut [i32]) {
+    let answer = write(kind, layout, n, out);
+    put_written(out, answer);
+}
+
+// Room for a list of 65,536 moves. The `ensures` is what lending the array needs.
+fn list_room() -> [i32; 65536]
+    ensures { λ r. ⌜ 65536 ≡ length r ⌝ }
+{
+    [0; 65536]
 }
 
 // A layout's moves, or those of a walk.
-fn written(kind: usize, n: Values, out: &mut [i32]) -> CountAnswer {
+fn write(kind: usize, layout: IsomorphicLayout, n: Values, out: &mut [i32]) -> CountAnswer {
     if kind == names::WRITE_MOVES {
-        return layout_moves::write_moves(layouts::with_start(n), out);
+        return layout_moves::write_moves(layout, out);
     }
     mos_moves::walk_moves(n.first, n.second, out)
+}
+
+// What was written to the front of a slice, or the refusal to write it.
+fn put_written(out: &[i32], answer: CountAnswer) {
+    match answer {
+        CountAnswer::Refused(q) => print::refusal(q),
+        CountAnswer::Given(count) => put_front(out, count),
+    }
+}
+
+// The first `count` moves, which the slice holds.
+fn put_front(moves: &[i32], count: usize) {
+    let mut i: usize = 0;
+    while i < count {
+        if moves.len() <= i {
+            return;
+        }
+        if 0 < i {
+            print::space();
+        }
+        print::signed32(moves[i]);
+        i += 1;
+    }
 }

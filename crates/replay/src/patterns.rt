@@ -5,8 +5,6 @@
 //     pattern PATTERN                  sharpness, steps, size, cycles, reduced size
 //     child, parent, genesis, dual, mirror, coprime PATTERN
 //                                      another pattern, or `none`
-//     children, parents PATTERN        the walk, four numbers a pattern
-//     layer_sizes, layers PATTERN      the layers of the chain
 //     get_key PATTERN PRIMARY SECONDARY
 //                                      the key at a place of the board
 use crate::names;
@@ -49,49 +47,43 @@ fn answer_pattern(kind: usize, m: Mos) {
     }
 }
 
-fn put_pattern(m: Mos) {
-    put_counts_and_steps(m);
-    print::end_line();
+pub(crate) fn put_pattern(m: Mos) {
+    print::four(
+        m.num_primary_steps,
+        m.num_secondary_steps,
+        m.primary_step,
+        m.secondary_step,
+    );
 }
 
-// A pattern within a line.
-pub(crate) fn put_counts_and_steps(m: Mos) {
-    print::short(m.num_primary_steps);
-    print::next_short(m.num_secondary_steps);
-    print::next_short(m.primary_step);
-    print::next_short(m.secondary_step);
-}
-
-// The rest of a line: a pattern, or a refusal.
+// A pattern, or a refusal.
 pub(crate) fn put_made(answer: MosAnswer) {
     match answer {
         MosAnswer::Given(m) => put_pattern(m),
-        MosAnswer::Refused(q) => print::refused(q),
+        MosAnswer::Refused(q) => print::refusal(q),
     }
 }
 
 fn put_walked(answer: WalkAnswer) {
     match answer {
         WalkAnswer::Found(m) => put_pattern(m),
-        WalkAnswer::Nothing => print::text(b"none\n"),
-        WalkAnswer::Refused(q) => print::refused(q),
+        WalkAnswer::Nothing => print::none(),
+        WalkAnswer::Refused(q) => print::refusal(q),
     }
 }
 
 fn put_new(answer: MosAnswer) {
     match answer {
-        MosAnswer::Refused(q) => print::refused(q),
-        MosAnswer::Given(m) => put_numbers(m),
+        MosAnswer::Refused(q) => print::refusal(q),
+        MosAnswer::Given(m) => {
+            put_sharpness(m.sharpness());
+            print::space();
+            put_steps(m.num_steps());
+            print::next_answer(m.size());
+            print::next_answer(m.num_cycles());
+            print::next_answer(m.reduced_size());
+        }
     }
-}
-
-fn put_numbers(m: Mos) {
-    put_sharpness(m.sharpness());
-    put_steps(m.num_steps());
-    print::next_answer(m.size());
-    print::next_answer(m.num_cycles());
-    print::next_answer(m.reduced_size());
-    print::end_line();
 }
 
 fn put_sharpness(answer: SharpnessAnswer) {
@@ -102,16 +94,14 @@ fn put_sharpness(answer: SharpnessAnswer) {
 }
 
 fn put_steps(answer: TotalAnswer) {
-    print::space();
     match answer {
         TotalAnswer::Given(n) => print::number(n as u64),
         TotalAnswer::Refused(q) => print::refusal(q),
     }
 }
 
-// Whether the line asks for a key; if so, it is answered.
-pub(crate) fn get_key(line: &[u8], at: usize) -> bool {
-    let n = words::values_after(line, at, 4, 0);
+// Whether two numbers of 16 signed bits are the rest of the line; if so, it is answered.
+pub(crate) fn get_key(line: &[u8], n: Values) -> bool {
     let primary = words::short_after(line, n.end);
     let secondary = words::short_after(line, primary.end);
     if words::is_at(line, secondary.end, b'\n') {
@@ -123,10 +113,7 @@ pub(crate) fn get_key(line: &[u8], at: usize) -> bool {
 
 fn put_key(answer: KeyAnswer) {
     match answer {
-        KeyAnswer::Given(key) => {
-            print::signed(key);
-            print::end_line();
-        }
-        KeyAnswer::Refused(q) => print::refused(q),
+        KeyAnswer::Given(key) => print::signed(key),
+        KeyAnswer::Refused(q) => print::refusal(q),
     }
 }

@@ -1,4 +1,4 @@
-// Answers in text: numbers with one space between, `none`, or `refused` and a number; a line each.
+// The words of an answer: numbers with one space between, texts, `none`, or `refused` and a number. The line is ended by `main`.
 use answer::CountAnswer;
 use answer::NumberAnswer;
 use answer::Refusal;
@@ -10,12 +10,17 @@ pub(crate) fn text(bytes: &[u8]) {
     io::write_all(STDOUT_FILENO, bytes);
 }
 
-pub(crate) fn space() {
-    text(b" ");
+// One byte as it is.
+pub(crate) fn letter(byte: u8) {
+    text(&[byte]);
 }
 
-pub(crate) fn end_line() {
-    text(b"\n");
+pub(crate) fn space() {
+    letter(b' ');
+}
+
+pub(crate) fn none() {
+    text(b"none");
 }
 
 pub(crate) fn number(n: u64) {
@@ -26,12 +31,6 @@ pub(crate) fn short(n: u16) {
     number(n as u64);
 }
 
-// The last number of a line.
-pub(crate) fn line(n: u16) {
-    short(n);
-    end_line();
-}
-
 // A number behind another word of the line.
 pub(crate) fn next_number(n: u64) {
     space();
@@ -39,14 +38,20 @@ pub(crate) fn next_number(n: u64) {
 }
 
 pub(crate) fn next_short(n: u16) {
-    space();
-    short(n);
+    next_number(n as u64);
+}
+
+pub(crate) fn four(first: u16, second: u16, third: u16, fourth: u16) {
+    short(first);
+    next_short(second);
+    next_short(third);
+    next_short(fourth);
 }
 
 // A number that may be below 0: a minus, and then the number 1 above its mirror image.
 pub(crate) fn signed(n: i64) {
     if n < 0 {
-        text(b"-");
+        letter(b'-');
         let mirror = (-1 - n) as u64;
         number(mirror + 1);
         return;
@@ -64,44 +69,21 @@ pub(crate) fn next_signed(n: i32) {
     signed32(n);
 }
 
-// A refusal within a line.
 pub(crate) fn refusal(q: Refusal) {
+    refused(q.number());
+}
+
+// The refusal with the number of its question.
+pub(crate) fn refused(question: u8) {
     text(b"refused ");
-    number(q.number() as u64);
+    number(question as u64);
 }
 
-// A refusal alone on its line.
-pub(crate) fn refused(q: Refusal) {
-    refusal(q);
-    end_line();
-}
-
-// An answer within a line.
 pub(crate) fn answer(answer: NumberAnswer) {
     match answer {
-        NumberAnswer::Given(n) => number(n as u64),
+        NumberAnswer::Given(n) => short(n),
         NumberAnswer::Refused(q) => refusal(q),
     }
-}
-
-// An answer alone on its line.
-pub(crate) fn answer_line(found: NumberAnswer) {
-    answer(found);
-    end_line();
-}
-
-// How many there are, or a refusal, within a line.
-pub(crate) fn count(answer: CountAnswer) {
-    match answer {
-        CountAnswer::Given(count) => number(count as u64),
-        CountAnswer::Refused(q) => refusal(q),
-    }
-}
-
-// The same alone on its line.
-pub(crate) fn count_line(answer: CountAnswer) {
-    count(answer);
-    end_line();
 }
 
 // An answer behind another word of the line.
@@ -110,32 +92,11 @@ pub(crate) fn next_answer(found: NumberAnswer) {
     answer(found);
 }
 
-// As many bytes of a slice as were written to its front, or the refusal to write them.
-pub(crate) fn written(bytes: &[u8], answer: CountAnswer) {
+// How many there are, or a refusal.
+pub(crate) fn count(answer: CountAnswer) {
     match answer {
-        CountAnswer::Given(count) => front_text(bytes, count),
+        CountAnswer::Given(count) => number(count as u64),
         CountAnswer::Refused(q) => refusal(q),
-    }
-}
-
-// The same, alone on its line.
-pub(crate) fn written_line(bytes: &[u8], answer: CountAnswer) {
-    written(bytes, answer);
-    end_line();
-}
-
-// Lines that were written to the front of a slice, which have their own ends, or the refusal to write them, alone on its line.
-pub(crate) fn lines(bytes: &[u8], answer: CountAnswer) {
-    match answer {
-        CountAnswer::Given(count) => front_text(bytes, count),
-        CountAnswer::Refused(q) => refused(q),
-    }
-}
-
-// The first `count` bytes, which the slice holds.
-fn front_text(bytes: &[u8], count: usize) {
-    if count <= bytes.len() {
-        text(&bytes[..count]);
     }
 }
 
@@ -146,101 +107,43 @@ pub(crate) fn list_room() -> [u16; 65536]
     [0; 65536]
 }
 
-// As many numbers of a slice as were written to its front, `-` where that is none, or the refusal to write them; alone on the line.
-pub(crate) fn list(numbers: &[u16], answer: CountAnswer) {
-    list_words(numbers, answer);
-    end_line();
-}
-
-fn list_words(numbers: &[u16], answer: CountAnswer) {
-    match answer {
-        CountAnswer::Given(count) => front(numbers, count),
-        CountAnswer::Refused(q) => refusal(q),
-    }
-}
-
-// The first `count` numbers, which the slice holds.
-fn front(numbers: &[u16], count: usize) {
-    if count == 0 {
-        text(b"-");
+// The numbers of a list, or `-` where it has none.
+pub(crate) fn list(numbers: &[u16]) {
+    if numbers.len() == 0 {
+        letter(b'-');
         return;
     }
-    let mut i: usize = 0;
-    while i < count {
-        if numbers.len() <= i {
-            return;
-        }
-        if 0 < i {
-            space();
-        }
-        short(numbers[i]);
+    short(numbers[0]);
+    let mut i: usize = 1;
+    while i < numbers.len() {
+        next_short(numbers[i]);
         i += 1;
     }
 }
 
-// Room for a list of 65,536 numbers that may be below 0. The `ensures` is what lending the array needs.
-pub(crate) fn signed_list_room() -> [i32; 65536]
-    ensures { λ r. ⌜ 65536 ≡ length r ⌝ }
-{
-    [0; 65536]
-}
-
-// As many such numbers of a slice as were written to its front, or the refusal to write them; alone on the line.
-pub(crate) fn signed_list(numbers: &[i32], answer: CountAnswer) {
-    signed_words(numbers, answer);
-    end_line();
-}
-
-fn signed_words(numbers: &[i32], answer: CountAnswer) {
-    match answer {
-        CountAnswer::Given(count) => signed_front(numbers, count),
-        CountAnswer::Refused(q) => refusal(q),
-    }
-}
-
-// The first `count` numbers, which the slice holds.
-fn signed_front(numbers: &[i32], count: usize) {
-    let mut i: usize = 0;
-    while i < count {
-        if numbers.len() <= i {
-            return;
-        }
-        if 0 < i {
-            space();
-        }
-        signed32(numbers[i]);
-        i += 1;
-    }
-}
-
-// As many bytes of a slice as were written to its front, as numbers, `-` where that is none, or the refusal to write them; alone
-// on the line.
-pub(crate) fn bytes(written: &[u8], answer: CountAnswer) {
-    match answer {
-        CountAnswer::Given(count) => codes(written, count),
-        CountAnswer::Refused(q) => refused(q),
-    }
-}
-
-fn codes(written: &[u8], count: usize) {
-    if count == 0 {
-        text(b"-\n");
+// The bytes of a text as numbers, or `-` where it has none.
+pub(crate) fn codes(bytes: &[u8]) {
+    if bytes.len() == 0 {
+        letter(b'-');
         return;
     }
-    let mut i: usize = 0;
-    while i < count {
-        if written.len() <= i {
-            return;
-        }
-        if 0 < i {
-            space();
-        }
-        code(written[i]);
+    code(bytes[0]);
+    let mut i: usize = 1;
+    while i < bytes.len() {
+        space();
+        code(bytes[i]);
         i += 1;
     }
-    end_line();
 }
 
-pub(crate) fn code(byte: u8) {
+fn code(byte: u8) {
     number(byte as u64);
+}
+
+// Lines, which have their own ends; the last is ended by `main`.
+pub(crate) fn lines(bytes: &[u8]) {
+    if 0 < bytes.len() {
+        let end = bytes.len() - 1;
+        text(&bytes[..end]);
+    }
 }

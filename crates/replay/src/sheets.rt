@@ -3,9 +3,8 @@
 //     sheet LAYOUT KEY KEY KEY KEY     how many records were filled, or the refusal; then the four records, a comma before each
 //
 // Before the call a record holds 9 8 7 6 5 4 behind its key, so that it is seen where one is left untouched.
-use crate::layouts;
 use crate::print;
-use crate::words;
+use crate::words::Values;
 use answer::CountAnswer;
 use layout::IsomorphicLayout;
 use layout_sheet::Record;
@@ -19,25 +18,14 @@ pub(crate) struct Page {
     pub(crate) records: [Record; 4],
 }
 
-// Whether the line asks this; if so, it is answered.
-pub(crate) fn answer(line: &[u8], at: usize) -> bool {
-    let n = words::values_after(line, at, 14, 0);
-    let second = words::long_after(line, n.end);
-    let third = words::long_after(line, second.end);
-    let fourth = words::long_after(line, third.end);
-    if words::is_at(line, fourth.end, b'\n') {
-        put(fill_page(
-            layouts::with_start(n),
-            [
-                asked(n.key),
-                asked(second.value),
-                asked(third.value),
-                asked(fourth.value),
-            ],
-        ));
-        return true;
-    }
-    false
+pub(crate) fn answer(layout: IsomorphicLayout, n: Values, more: Values) {
+    let records = [
+        asked(n.key),
+        asked(n.next_key),
+        asked(more.key),
+        asked(more.next_key),
+    ];
+    put(fill_page(layout, records));
 }
 
 // A record that asks for a key.
@@ -69,20 +57,23 @@ fn put(page: Page) {
     let answer = page.answer;
     print::count(answer);
     let records = page.records;
-    put_record(records[0]);
-    put_record(records[1]);
-    put_record(records[2]);
-    put_record(records[3]);
-    print::end_line();
+    let mut i: usize = 0;
+    while i < 4 {
+        put_record(records[i]);
+        i += 1;
+    }
 }
 
 fn put_record(record: Record) {
-    print::text(b",");
-    print::next_signed(record.key);
-    print::next_short(record.sharp_index);
-    print::next_short(record.sharp_count);
-    print::next_short(record.flat_index);
-    print::next_short(record.flat_count);
+    print::text(b", ");
+    print::signed32(record.key);
+    print::space();
+    print::four(
+        record.sharp_index,
+        record.sharp_count,
+        record.flat_index,
+        record.flat_count,
+    );
     print::next_short(record.stars);
     print::next_short(record.lamp);
 }

@@ -1,7 +1,9 @@
 // The words of a line: a name, then numbers with one space before each, then a line feed. What cannot be read ends `NOWHERE`, and so does
-// all that is read behind it: only the end of the last number is tested.
+// all that is read behind it: only the end of the last number is tested. A number that is not wanted is 0, and ends where it would begin.
 ghost use Prim.Native.Nat.{_≤_};
+ghost use mathlib.Core.Path.{_≡_};
 ghost use lib.ListN.{length};
+ghost use Rattle.io.specs.Counts.{Counts};
 
 // A place behind every line.
 pub(crate) const NOWHERE: usize = 65536;
@@ -37,59 +39,61 @@ struct Signed {
     end: usize,
 }
 
+// A double, and the place behind it.
+pub(crate) struct Double {
+    pub(crate) value: f64,
+    pub(crate) end: usize,
+}
+
 // How many numbers of a list were read, and the place behind them.
 pub(crate) struct Listed {
     pub(crate) count: usize,
     pub(crate) end: usize,
 }
 
-// The numbers of a question in the order of the line, its key and its last number, 0 where it has no more; the room that it lends; and the
-// place behind them.
+// The numbers of a question in the order of the line: up to four of 16 bits, up to two keys, one more of 16 bits, a double, and one of 32
+// bits; 0 where it has no more. Beside them the room that it lends, and the place behind them.
 pub(crate) struct Values {
     pub(crate) first: u16,
     pub(crate) second: u16,
     pub(crate) third: u16,
     pub(crate) fourth: u16,
     pub(crate) key: i32,
+    pub(crate) next_key: i32,
     pub(crate) last: u16,
+    pub(crate) double: f64,
+    pub(crate) wide: u32,
     pub(crate) room: u16,
     pub(crate) end: usize,
 }
 
-// The numbers of a line behind its name, as the name's shape says.
+// The numbers of a line from a place on, as a shape of the table `ROWS` says.
 pub(crate) fn values_after(line: &[u8], at: usize, shape: usize, room: u16) -> Values {
     let count = shape % 10;
-    let first = natural_if(0 < count, line, at);
-    let second = natural_if(1 < count, line, first.end);
-    let third = natural_if(2 < count, line, second.end);
-    let fourth = natural_if(3 < count, line, third.end);
-    let key = long_if(shape / 10 % 2 == 1, line, fourth.end);
-    let last = natural_if(20 <= shape, line, key.end);
+    let keys = shape / 10 % 10;
+    let rest = shape / 100;
+    let first = natural_after(0 < count, line, at);
+    let second = natural_after(1 < count, line, first.end);
+    let third = natural_after(2 < count, line, second.end);
+    let fourth = natural_after(3 < count, line, third.end);
+    let key = long_after(0 < keys, line, fourth.end);
+    let next_key = long_after(1 < keys, line, key.end);
+    let last = natural_after(rest % 10 == 1, line, next_key.end);
+    let double = double_after(rest / 10 % 10 == 1, line, last.end);
+    let wide = wide_after(100 <= rest, line, double.end);
     Values {
         first: first.value,
         second: second.value,
         third: third.value,
         fourth: fourth.value,
         key: key.value,
+        next_key: next_key.value,
         last: last.value,
+        double: double.value,
+        wide: wide.value,
         room,
-        end: last.end,
+        end: wide.end,
     }
-}
-
-// The number behind a space at a place where one is wanted; else 0, and nothing is read.
-fn natural_if(wanted: bool, line: &[u8], at: usize) -> Natural {
-    if wanted {
-        return natural_after(line, at);
-    }
-    Natural { value: 0, end: at }
-}
-
-fn long_if(wanted: bool, line: &[u8], at: usize) -> Long {
-    if wanted {
-        return long_after(line, at);
-    }
-    Long { value: 0, end: at }
 }
 
 // Whether there is a byte at a place, and it is the one asked for.
@@ -100,11 +104,22 @@ pub(crate) fn is_at(line: &[u8], at: usize, byte: u8) -> bool {
     line[at] == byte
 }
 
-// Where the first word ends: at a space, at the line feed, or at the end.
-pub(crate) fn word_end(line: &[u8]) -> usize
-    ensures { λ r. ⌜ r ≤ length (now (line .entry)) ⌝ }
+// The place behind a byte that stands at a place.
+pub(crate) fn past(line: &[u8], at: usize, byte: u8) -> usize
+    ensures { λ r. ⌜ r ≤ 65536 ⌝ }
 {
-    let mut at: usize = 0;
+    if NOWHERE <= at {
+        return NOWHERE;
+    }
+    if is_at(line, at, byte) {
+        return at + 1;
+    }
+    NOWHERE
+}
+
+// Where the word from a place on ends: at a space, at the line feed, or at the end.
+pub(crate) fn word_end(line: &[u8], from: usize) -> usize {
+    let mut at = from;
     while at < line.len() {
         let byte = line[at];
         if byte == b' ' {
@@ -160,27 +175,16 @@ fn digits_read(value: u64, from: usize, at: usize) -> Wide {
 }
 
 // The number of 32 bits behind a space at a place.
-pub(crate) fn wide_after(line: &[u8], at: usize) -> Wide {
-    if is_at(line, at, b' ') {
-        return wide_at(line, behind(at));
+pub(crate) fn wide_after(wanted: bool, line: &[u8], at: usize) -> Wide {
+    if wanted {
+        return wide_at(line, past(line, at, b' '));
     }
-    Wide {
-        value: 0,
-        end: NOWHERE,
-    }
-}
-
-// The next place.
-fn behind(at: usize) -> usize {
-    if at < NOWHERE {
-        return at + 1;
-    }
-    NOWHERE
+    Wide { value: 0, end: at }
 }
 
 // The number of 16 bits behind a space at a place.
-pub(crate) fn natural_after(line: &[u8], at: usize) -> Natural {
-    let number = wide_after(line, at);
+pub(crate) fn natural_after(wanted: bool, line: &[u8], at: usize) -> Natural {
+    let number = wide_after(wanted, line, at);
     if 65535 < number.value {
         return Natural {
             value: 0,
@@ -195,8 +199,9 @@ pub(crate) fn natural_after(line: &[u8], at: usize) -> Natural {
 
 // The number behind a space at a place, with a minus before it where it is below 0; there is no -0.
 fn signed_after(line: &[u8], at: usize) -> Signed {
-    if is_at(line, behind(at), b'-') {
-        let mirrored = wide_after_minus(line, at);
+    let start = past(line, at, b' ');
+    if is_at(line, start, b'-') {
+        let mirrored = wide_at(line, past(line, start, b'-'));
         if 0 < mirrored.value {
             return Signed {
                 value: mirrored.value - 1,
@@ -210,22 +215,11 @@ fn signed_after(line: &[u8], at: usize) -> Signed {
             end: NOWHERE,
         };
     }
-    let number = wide_after(line, at);
+    let number = wide_at(line, start);
     Signed {
         value: number.value,
         below: false,
         end: number.end,
-    }
-}
-
-// The number behind a space at a place and a byte behind it.
-fn wide_after_minus(line: &[u8], at: usize) -> Wide {
-    if is_at(line, at, b' ') {
-        return wide_at(line, behind(behind(at)));
-    }
-    Wide {
-        value: 0,
-        end: NOWHERE,
     }
 }
 
@@ -252,8 +246,15 @@ pub(crate) fn short_after(line: &[u8], at: usize) -> Short {
 }
 
 // The number of 32 signed bits behind a space at a place.
-pub(crate) fn long_after(line: &[u8], at: usize) -> Long {
-    let number = signed_after(line, at);
+fn long_after(wanted: bool, line: &[u8], at: usize) -> Long {
+    if wanted {
+        return long_of(signed_after(line, at));
+    }
+    Long { value: 0, end: at }
+}
+
+// A number that has 32 signed bits.
+fn long_of(number: Signed) -> Long {
     if 2147483647 < number.value {
         return Long {
             value: 0,
@@ -273,35 +274,48 @@ pub(crate) fn long_after(line: &[u8], at: usize) -> Long {
     }
 }
 
-// The bytes behind a place, each a number, into the front of `out` as far as it goes.
-pub(crate) fn bytes_after(line: &[u8], from: usize, out: &mut [u8]) -> Listed {
-    let mut at = from;
-    let mut count: usize = 0;
-    while count < out.len() {
-        let number = natural_after(line, at);
-        if NOWHERE <= number.end {
-            return Listed { count, end: at };
-        }
-        if 255 < number.value {
-            return Listed { count, end: at };
-        }
-        out[count] = number.value as u8;
-        at = number.end;
-        count += 1;
+// The double behind a space at a place: the upper and the lower half of its bits, each a number of 32 bits.
+fn double_after(wanted: bool, line: &[u8], at: usize) -> Double {
+    let upper = wide_after(wanted, line, at);
+    let lower = wide_after(wanted, line, upper.end);
+    Double {
+        value: of_bits(4294967296 * (upper.value as u64) + lower.value as u64),
+        end: lower.end,
     }
-    Listed { count, end: at }
 }
 
-// The numbers of 16 bits behind a place, into the front of `out` as far as it goes.
-pub(crate) fn codes_after(line: &[u8], from: usize, out: &mut [u16]) -> Listed {
+// The double of these bits, of which all above those of an infinity are of no number, the sign aside.
+fn of_bits(bits: u64) -> f64 {
+    if 9218868437227405312 < bits % 9223372036854775808 {
+        return 0.0 / 0.0;
+    }
+    f64::from_bits(bits)
+}
+
+// The numbers below a limit behind a place, into the front of both lists as far as these go; into the second their low bytes.
+pub(crate) fn list_after(
+    line: &[u8],
+    from: usize,
+    limit: u32,
+    entries: &mut [u16; 256],
+    bytes: &mut [u8; 256],
+) -> Listed
+    requires { ⌜ 256 ≡ length (now entries) ⌝ }
+    requires { ⌜ 256 ≡ length (now bytes) ⌝ }
+    ensures { λ r. ⌜ Counts (r .count) (now (entries .exit)) × Counts (r .count) (now (bytes .exit)) ⌝ }
+{
     let mut at = from;
     let mut count: usize = 0;
-    while count < out.len() {
-        let number = natural_after(line, at);
+    while count < 256 {
+        let number = natural_after(true, line, at);
         if NOWHERE <= number.end {
             return Listed { count, end: at };
         }
-        out[count] = number.value;
+        if limit <= number.value as u32 {
+            return Listed { count, end: at };
+        }
+        entries[count] = number.value;
+        bytes[count] = (number.value % 256) as u8;
         at = number.end;
         count += 1;
     }

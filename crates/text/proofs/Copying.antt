@@ -1,11 +1,11 @@
--- Laws of copying: after i turns of a loop that copies a text element by element, its first i elements are written; and what a
--- slice holds when a text was copied over a part of it.
+-- Laws of copying: after i turns of a loop that copies a text element by element, its first i elements are written; what a slice
+-- holds when a text was copied over a part of it; and an element of a list whose elements are changed one by one.
 use mathlib.Core.Path.{_≡_, refl, sym, ap, ap₂, _∙_}
-use Prim.Native.Nat.{ℕ, _+_, _-_, _≤_, _<_}
-use native.Mathlib.Nat.{le-refl}
+use Prim.Native.Nat.{ℕ, zero, suc, _+_, _-_, _≤_, _<_}
+use native.Mathlib.Nat.{le-refl, le-of-suc-le-suc, not-suc-le-zero}
 use native.Mathlib.Numerals.{add-one}
 use native.Mathlib.Omega.{arith}
-use mathlib.Core.List.{List, [], _++_, append-nil, append-assoc}
+use mathlib.Core.List.{List, [], _∷_, _++_, map, append-nil, append-assoc}
 use lib.ListN.{length, getD, take, drop, set, drop-of-length-le}
 use lib.Seq.{take-suc, take-all, sets-eq}
 use borrow.Rule.Slice.PartMut.{midOf, putMid, post-is, mid-len}
@@ -41,3 +41,9 @@ part-copied xs text ys at room e =
           ∙ sym (sets-eq text xs at room);
       end = refl;
     }
+
+-- the changed element is the element changed
+pub mapped-at : {A B : Type 0} (f : A → B) (l : List A) (k : ℕ) (d : B) (e : A) → k < length l → getD (map f l) k d ≡ f (getD l k e)
+mapped-at f [] k d e h = absurd (not-suc-le-zero h)
+mapped-at f (x ∷ l) zero d e h = refl
+mapped-at f (x ∷ l) (suc k) d e h = mapped-at f l k d e (le-of-suc-le-suc h)

@@ -16,21 +16,19 @@ use Rattle.answer.specs.Lent.{heldIn, inRoom}
 use Rattle.answer.proofs.Asked.{given-same, asked-yes, asked-rest, ask-then}
 use Rattle.answer.proofs.Questions.{ask-none, ask-some}
 use Rattle.genchain.specs.Answers.{lettersOutcome, nameOutcome}
-use Rattle.genchain.specs.Chains.{chainOf, rowOf}
+use Rattle.genchain.specs.Chains.{chainOf}
 use Rattle.mos_layers.specs.Answers.{layersOutcome}
 use Rattle.mos_layers.specs.Layers.{layersOf}
 use Rattle.layout.specs.Answers.{getNoteName}
 use Rattle.layout.specs.Layouts.{Layout, layoutOutcome, Accepted}
 use Rattle.layout.specs.Names.{nameIn}
 use Rattle.layout.specs.declared.IsomorphicLayout.{IsomorphicLayout}
-use Rattle.layout.proofs.Calls.{of-refused, of-given, same-name}
+use Rattle.layout.proofs.Calls.{of-refused, of-given}
 use Rattle.layout.proofs.Finding.{accepted, octave-is}
 use Rattle.layout_book.specs.LayoutBooks.{bookIn, getBook}
-use Rattle.layout_speller.proofs.Spelled.{name-short}
-use Rattle.layout_speller.proofs.Spellers.{speller-of}
+use Rattle.layout_book.proofs.NameBounds.{name-short}
 use Rattle.layout_book.proofs.Theorems.{offsets-fit}
 use Rattle.layout_layers.specs.declared.Layer.{Layer}
-use Rattle.math.specs.Division.{remainder}
 use Rattle.math.proofs.Signed.{read-back}
 use Rattle.mos.specs.Answers.{ofPattern, genesisOutcome, listingOutcome}
 use Rattle.mos.specs.Patterns.{isPattern, genesis, keyAt}
@@ -148,11 +146,7 @@ module _ (r : IsomorphicLayout) (small : r .octave ≤ 65535) where
   octave-fits l e = omega (arith, octave-is r l e)
 
   name-fits : (key : ℤ) (l : Layout) → Accepted r l → length (nameIn l key) < 2 ^ 63
-  name-fits key l e =
-      let i = remainder key (l .octave) in
-      let w
-      = speller-of l (accepted r l e) (rowOf (chainOf (l .chain))) (solvedOf (l .octave) (l .generator)) refl refl (octave-fits l e) in
-      subst (λ (t : List ℕ). length t < 2 ^ 63) (w .names i ∙ same-name r l (sym e) key i refl) (omega (arith, name-short _ (w .sound) i))
+  name-fits key l e = omega (arith, name-short l (accepted r l e) (octave-fits l e) key)
 
   pub names-fit : (key : ℤ) (text : List ℕ) → getNoteName r key ≡ given text → length text < 2 ^ 63
   unfolding getNoteName

@@ -35,7 +35,8 @@ pub extern "C" fn vn_layout(
     match layout::parts::ask(layout) {
         FoundAnswer::Refused(question) => vetchnoon_codes::refused(question),
         FoundAnswer::Given(found) => {
-            let solved = layout::parts::solve(found);
+            let prepared = layout::prepared::prepare(found);
+            let solved = prepared.solved;
             let pattern = found.pattern;
             let numbers: [u16; 8] = [
                 found.generator,

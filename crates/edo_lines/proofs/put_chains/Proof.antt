@@ -7,13 +7,13 @@ use lib.ListN.{length}
 use Rattle.text.specs.Writing.{Wrote, joined}
 use Rattle.text.proofs.Writing.{wrote-as}
 use Rattle.text.proofs.Joined.{joined-start, joined-step}
-use Rattle.edo_lines.specs.Parts.{chainLine}
+use Rattle.edo_lines.specs.Parts.{servedLine}
 use Rattle.edo_lines.proofs.put_chains.Statement.{statement}
 use Rattle.edo_lines.proofs.put_chains.Tie as tie
 
 abbrev Inv-loop : tie.InvT-loop
 Inv-loop out₀ n choices place₀ genchain₀ out place genchain =
-    Wrote out₀ 0 (joined (chainLine n choices) genchain) out place × (place ≤ 44 * genchain) × (genchain ≤ 6) × (length out ≡ length out₀)
+    Wrote out₀ 0 (joined (servedLine n choices) genchain) out place × (place ≤ 44 * genchain) × (genchain ≤ 6) × (length out ≡ length out₀)
 
 abbrev μ-loop : tie.MeasureT-loop
 μ-loop out₀ n choices place₀ genchain₀ out place genchain = 6 - genchain
@@ -46,7 +46,7 @@ same-length c = omega arith
 returns : tie.Need-returns Inv-loop μ-loop
 returns c =
     let s = c .before .before .before in (
-      wrote-as (ap (joined (chainLine (s .args .n) (s .args .choices))) (le-antisymm (c .before .loop .inv .2) (c .loop-test .left))) (c .before .loop .inv .0),
+      wrote-as (ap (joined (servedLine (s .args .n) (s .args .choices))) (le-antisymm (c .before .loop .inv .2) (c .loop-test .left))) (c .before .loop .inv .0),
       omega arith,
     )
 

@@ -1,9 +1,9 @@
 -- The output for what is kept is the output for the line: a refusal, or a mapping.
 use mathlib.Core.Path.{sym, ap, _∙_}
 use Rattle.layout.specs.Parts.{foundOutcome}
-use Rattle.layout_table.proofs.Calls.{line-laid}
+use Rattle.line.proofs.AskedLayouts.{line-laid}
 use Rattle.streams.proofs.Enough.{kept-there}
-use Rattle.kbm.proofs.Printing.{refusing, ready}
+use Rattle.kbm.proofs.Printing.{refusing, mapping}
 use borrow.Author.Needs.{needs}
 use Rattle.kbm.proofs.print.Statement.{statement}
 use Rattle.kbm.proofs.print.Tie as tie
@@ -36,8 +36,8 @@ print-refusal-requires c κs =
 enum-known-found : tie.Need-enum-known-found
 enum-known-found c = search needs
 
-mapping-of-requires : tie.Need-mapping-of-requires
-mapping-of-requires c κs =
+prepare-requires : tie.Need-prepare-requires
+prepare-requires c κs =
     let e = sym (ap foundOutcome (c .before .found .given .1)) ∙ c .before .before .before .ask-line .ensures in
     line-laid _ _ e .is-laid
 
@@ -46,7 +46,7 @@ print-mapping-requires c κs =
     let found = c .before .before in
     let e = sym (ap foundOutcome (found .found .given .1)) ∙ found .before .before .ask-line .ensures in
     let kept = c .before .before .before .before .before .before in
-    ready _ _ _ (kept .before .before .pre) (kept .kept .ensures) _ e _ (c .mapping-of .ensures)
+    mapping _ _ _ (kept .before .before .pre) (kept .kept .ensures) _ e (c .prepare .result) (c .prepare .ensures .0) (c .prepare .ensures .1)
 
 returns : tie.Need-returns
 returns c = search needs
@@ -66,7 +66,7 @@ print-spec =
     cast-print-refusal
     print-refusal-requires
     enum-known-found
-    mapping-of-requires
+    prepare-requires
     print-mapping-requires
     returns
     returns-2)

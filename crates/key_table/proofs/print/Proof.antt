@@ -2,9 +2,9 @@
 use mathlib.Core.Path.{sym, ap, _∙_}
 use native.Mathlib.Omega.{arith}
 use Rattle.layout.specs.Parts.{foundOutcome}
-use Rattle.layout_table.proofs.Calls.{line-laid}
+use Rattle.line.proofs.AskedLayouts.{line-laid}
 use Rattle.streams.proofs.Enough.{kept-there}
-use Rattle.key_table.proofs.Printing.{refusing, ready, zeros-hold}
+use Rattle.key_table.proofs.Printing.{refusing, tabling, zeros-hold}
 use borrow.Author.Needs.{needs}
 use Rattle.key_table.proofs.print.Statement.{statement}
 use Rattle.key_table.proofs.print.Tie as tie
@@ -35,8 +35,8 @@ print-refusal-requires c κs =
 enum-known-found : tie.Need-enum-known-found
 enum-known-found c = search needs
 
-table-of-requires : tie.Need-table-of-requires
-table-of-requires c κs = line-laid _ _ (sym (ap foundOutcome (c .before .found .given .1)) ∙ c .before .before .before .ask-line .ensures) .is-laid
+prepare-requires : tie.Need-prepare-requires
+prepare-requires c κs = line-laid _ _ (sym (ap foundOutcome (c .before .found .given .1)) ∙ c .before .before .before .ask-line .ensures) .is-laid
 
 slice-aggregate-print-table : tie.Need-slice-aggregate-print-table
 slice-aggregate-print-table c = search needs
@@ -45,7 +45,7 @@ print-table-requires : tie.Need-print-table-requires
 print-table-requires c κs =
     let found = c .before .before .before in
     let e = sym (ap foundOutcome (found .found .given .1)) ∙ found .before .before .ask-line .ensures in
-    (ready _ _ _ (c .before .before .before .before .before .before .before .before .before .pre) (c .before .before .before .before .before .before .before .kept .ensures) _ e _ (c .before .table-of .ensures), zeros-hold 65536 65536 (omega arith))
+    (tabling _ _ _ (c .before .before .before .before .before .before .before .before .before .pre) (c .before .before .before .before .before .before .before .kept .ensures) _ e (c .before .prepare .result) (c .before .prepare .ensures .0) (c .before .prepare .ensures .1), zeros-hold 65536 65536 (omega arith))
 
 returns : tie.Need-returns
 returns c = search needs
@@ -65,7 +65,7 @@ print-spec =
     cast-print-refusal
     print-refusal-requires
     enum-known-found
-    table-of-requires
+    prepare-requires
     slice-aggregate-print-table
     print-table-requires
     returns

@@ -6,7 +6,8 @@ use native.Mathlib.Omega.{arith}
 use lib.ListN.{length}
 use borrow.Author.Tests.{not-true}
 use Rattle.text.specs.Writing.{joined}
-use Rattle.layout_table.specs.Parts.{lineOf}
+use Rattle.layout.specs.Parts.{layoutIn}
+use Rattle.layout_table.specs.Tables.{lineIn}
 use Rattle.streams.specs.Streams.{Handed}
 use Rattle.key_table.proofs.Printing.{lines-start, lines-onward, table-printed, not-taken}
 use borrow.Author.Needs.{needs}
@@ -14,17 +15,17 @@ use Rattle.key_table.proofs.print_table.Statement.{statement}
 use Rattle.key_table.proofs.print_table.Tie as tie
 
 abbrev Inv-loop : tie.InvT-loop
-Inv-loop line table out₀ done₀ from₀ out done from =
-    Handed (joined (lineOf table) from) done × (from ≤ table .keys) × (length out ≡ length out₀)
+Inv-loop line prepared out₀ octave done₀ from₀ out done from =
+    Handed (joined (lineIn (layoutIn prepared)) from) done × (from ≤ prepared .found .octave) × (length out ≡ length out₀)
 
 abbrev μ-loop : tie.MeasureT-loop
-μ-loop line table out₀ done₀ from₀ out done from = table .keys - from
+μ-loop line prepared out₀ octave done₀ from₀ out done from = prepared .found .octave - from
 
 begin-requires : tie.Need-begin-requires Inv-loop μ-loop
 begin-requires c κs = search needs
 
 loop-holds : tie.Need-loop-holds Inv-loop μ-loop
-loop-holds c = (lines-start _ _ (c .begin .ensures .none), omega arith, refl)
+loop-holds c = (lines-start (layoutIn (c .before .before .before .args .prepared)) _ (c .begin .ensures .none), omega arith, refl)
 
 sub-at-once : tie.Need-sub-at-once Inv-loop μ-loop
 sub-at-once c = search needs
@@ -34,10 +35,10 @@ at-once-requires c κs = search needs
 
 print-lines-requires : tie.Need-print-lines-requires Inv-loop μ-loop
 print-lines-requires c κs =
-    let loop = c .before .before .before .before .before .loop in
-    let start = c .before .before .before .before .before .before .before .before .before in
+    let loop = c .before .before .before .loop in
+    let start = c .before .before .before .before .before .before .before in
     let once = c .before .at-once .ensures in (
-      record { sound = start .pre .0 .sound; short = start .pre .0 .short; inside = omega (arith, once .0); few = once .1 },
+      record { ready = start .pre .0 .ready; short = start .pre .0 .short; inside = omega (arith, once .0); few = once .1 },
       omega (arith, start .pre .1, loop .inv .2),
     )
 
@@ -49,8 +50,8 @@ same-length c = search needs
 
 returns : tie.Need-returns Inv-loop μ-loop
 returns c =
-    let start = c .before .before .before .before .before .before .before .before .before .before .before .before .before .before in
-    not-taken _ _ (start .pre .0 .read) _ (sym (c .before .taken .ensures) ∙ not-true _ (c .if2 .taken))
+    let start = c .before .before .before .before .before .before .before .before .before .before .before .before in
+    not-taken _ _ (start .pre .0 .read) _ (sym (c .before .taken .ensures) ∙ not-true _ (c .if1 .taken))
 
 add-from : tie.Need-add-from Inv-loop μ-loop
 add-from c = search needs
@@ -62,7 +63,7 @@ loop-less c =
 
 loop-again : tie.Need-loop-again Inv-loop μ-loop
 loop-again c =
-    let loop = c .before .before .before .before .before .before .before .before .before .before .loop in
+    let loop = c .before .before .before .before .before .before .before .before .loop in
     let once = c .before .before .before .before .before .before .at-once .ensures in (
       lines-onward _ _ _ _ _ (loop .inv .0) (c .before .before .before .before .print-lines .ensures),
       omega (arith, once .0),
@@ -74,11 +75,11 @@ same-length-2 c = search needs
 
 returns-2 : tie.Need-returns-2 Inv-loop μ-loop
 returns-2 c =
-    let loop = c .before .before .loop in
-    let start = c .before .before .before .before .before .before in
-    let t = start .args .table in
-    table-printed _ _ t (start .pre .0) _
-    (subst (λ (k : ℕ). Handed (joined (lineOf t) k) (loop .done)) (le-antisymm (loop .inv .1) (c .if1 .left)) (loop .inv .0))
+    let loop = c .before .loop in
+    let start = c .before .before .before .before .before in
+    let p = start .args .prepared in
+    table-printed _ _ p (start .pre .0) _
+    (subst (λ (k : ℕ). Handed (joined (lineIn (layoutIn p)) k) (loop .done)) (le-antisymm (loop .inv .1) (c .loop-test .left)) (loop .inv .0))
 
 pub print-table-spec : {M : Type 1} → statement M
 print-table-spec =

@@ -1,7 +1,7 @@
 -- Questions 1 to 4 and 18, then 10, then the layout's book.
 use mathlib.Core.Path.{refl, sym, ap, _∙_}
 use Rattle.layout.specs.Parts.{foundOutcome}
-use Rattle.layout.proofs.Calls.{laid-of, row-found, filled-as, refused-in-room}
+use Rattle.layout.proofs.Calls.{laid-of, row-found, ready-given, filled-as, refused-in-room}
 use Rattle.answer.proofs.Lent.{filled-refused}
 use Rattle.layout_book.proofs.BookCalls.{book-refused, book-in-room}
 use borrow.Author.Needs.{needs}
@@ -20,13 +20,17 @@ enum-known-q c = search needs
 enum-known-found : tie.Need-enum-known-found
 enum-known-found c = search needs
 
-speller-of-requires : tie.Need-speller-of-requires
-speller-of-requires c κs =
-    let e = sym (ap foundOutcome (c .before .found .given .1)) ∙ c .before .before .before .ask-with-row .ensures in
-    (row-found _ _ e _ (c .before .before .before .before .row .ensures), laid-of _ _ e)
+prepare-requires : tie.Need-prepare-requires
+prepare-requires c κs =
+    laid-of _ _ (sym (ap foundOutcome (c .before .found .given .1)) ∙ c .before .before .before .ask-with-row .ensures)
 
 write-names-requires : tie.Need-write-names-requires
-write-names-requires c κs = search needs
+write-names-requires c κs =
+    let made = c .before in
+    let e = sym (ap foundOutcome (made .before .before .found .given .1)) ∙ made .before .before .before .before .ask-with-row .ensures in (
+      row-found _ _ (ready-given _ _ e (made .prepare .result) (made .prepare .ensures .1)) _ (made .before .before .before .before .before .row .ensures),
+      made .prepare .ensures .0,
+    )
 
 returns : tie.Need-returns
 returns c =
@@ -38,8 +42,9 @@ same-length c = search needs
 returns-2 : tie.Need-returns-2
 returns-2 c =
     let w = c .before .before in
-    let s = w .before .before in
-    filled-as (book-in-room _ _ (sym (ap foundOutcome (s .before .before .found .given .1)) ∙ s .before .before .before .before .ask-with-row .ensures) _ (s .speller-of .ensures) _) (w .write-names .ensures)
+    let made = w .before .before in
+    let e = sym (ap foundOutcome (made .before .before .found .given .1)) ∙ made .before .before .before .before .ask-with-row .ensures in
+    filled-as (book-in-room _ _ (ready-given _ _ e (made .prepare .result) (made .prepare .ensures .1)) _) (w .write-names .ensures)
 
 pub write-book-spec : {M : Type 1} → statement M
 write-book-spec =
@@ -49,7 +54,7 @@ write-book-spec =
     ask-with-row-requires
     enum-known-q
     enum-known-found
-    speller-of-requires
+    prepare-requires
     write-names-requires
     returns
     same-length

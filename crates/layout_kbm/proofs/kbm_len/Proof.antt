@@ -2,7 +2,7 @@
 use mathlib.Core.Path.{sym, ap, _∙_}
 use Rattle.answer.specs.Lent.{counted}
 use Rattle.layout.specs.Parts.{foundOutcome}
-use Rattle.layout.proofs.Calls.{laid-of}
+use Rattle.layout.proofs.Calls.{laid-of, ready-given}
 use Rattle.layout_kbm.proofs.Calls.{kbm-refused, kbm-counted}
 use borrow.Author.Needs.{needs}
 use Rattle.layout_kbm.proofs.kbm_len.Statement.{statement}
@@ -17,8 +17,8 @@ enum-known-q c = search needs
 enum-known-found : tie.Need-enum-known-found
 enum-known-found c = search needs
 
-mapping-of-requires : tie.Need-mapping-of-requires
-mapping-of-requires c κs = laid-of _ _ (sym (ap foundOutcome (c .before .found .given .1)) ∙ c .before .before .before .ask .ensures)
+prepare-requires : tie.Need-prepare-requires
+prepare-requires c κs = laid-of _ _ (sym (ap foundOutcome (c .before .found .given .1)) ∙ c .before .before .before .ask .ensures)
 
 file-len-requires : tie.Need-file-len-requires
 file-len-requires c κs = search needs
@@ -29,7 +29,9 @@ returns c = ap counted (kbm-refused _ _ (sym (ap foundOutcome (c .before .q .giv
 returns-2 : tie.Need-returns-2
 returns-2 c =
     let found = c .before .before .before in
-    kbm-counted _ _ (sym (ap foundOutcome (found .found .given .1)) ∙ found .before .before .ask .ensures) _ (c .before .mapping-of .ensures) _ (c .file-len .ensures)
+    let e = sym (ap foundOutcome (found .found .given .1)) ∙ found .before .before .ask .ensures in
+    let ready = c .before .prepare in
+    kbm-counted _ _ (ready-given _ _ e (ready .result) (ready .ensures .1)) _ (c .file-len .ensures)
 
 pub kbm-len-spec : {M : Type 1} → statement M
 kbm-len-spec =
@@ -38,7 +40,7 @@ kbm-len-spec =
     ask-requires
     enum-known-q
     enum-known-found
-    mapping-of-requires
+    prepare-requires
     file-len-requires
     returns
     returns-2)

@@ -1,9 +1,12 @@
 -- The line's questions and the layout's: one law for each way in which the output is made.
 use mathlib.Core.Path.{sym, ap, _∙_}
 use Rattle.answer.specs.Lent.{heldIn}
-use Rattle.layout.specs.Parts.{foundOutcome}
+use Rattle.layout.specs.Parts.{layoutOf, foundOutcome}
+use Rattle.layout.specs.declared.parts.Found.{Found}
 use Rattle.layout.proofs.Calls.{filled-as}
-use Rattle.layout_table.proofs.Calls.{line-laid, table-is, output-refused, output-given}
+use Rattle.layout_table.specs.Tables.{tableIn}
+use Rattle.layout_table.proofs.Calls.{output-refused, output-given}
+use Rattle.line.proofs.AskedLayouts.{line-laid}
 use borrow.Author.Needs.{needs}
 use Rattle.layout_table.proofs.respond.Statement.{statement}
 use Rattle.layout_table.proofs.respond.Tie as tie
@@ -26,8 +29,8 @@ write-refusal-requires c κs = search needs
 enum-known-found : tie.Need-enum-known-found
 enum-known-found c = search needs
 
-table-of-requires : tie.Need-table-of-requires
-table-of-requires c κs = line-laid _ _ (sym (ap foundOutcome (c .before .found .given .1)) ∙ c .before .before .before .ask-line .ensures) .is-laid
+prepare-requires : tie.Need-prepare-requires
+prepare-requires c κs = line-laid _ _ (sym (ap foundOutcome (c .before .found .given .1)) ∙ c .before .before .before .ask-line .ensures) .is-laid
 
 write-lines-requires : tie.Need-write-lines-requires
 write-lines-requires c κs = search needs
@@ -48,7 +51,8 @@ returns-2 : tie.Need-returns-2
 returns-2 c =
     let found = c .before .before .before .before .before .before in
     let e = sym (ap foundOutcome (found .found .given .1)) ∙ found .before .before .ask-line .ensures in
-    filled-as (ap (heldIn _) (table-is _ _ (c .before .before .before .before .table-of .ensures) ∙ output-given _ _ e)) (c .before .before .write-lines .ensures)
+    let same = ap (λ (f : Found). tableIn (layoutOf f)) (c .before .before .before .before .prepare .ensures .1) in
+    filled-as (ap (heldIn _) (same ∙ output-given _ _ e)) (c .before .before .write-lines .ensures)
 
 pub respond-spec : {M : Type 1} → statement M
 respond-spec =
@@ -60,7 +64,7 @@ respond-spec =
     cast-write-refusal
     write-refusal-requires
     enum-known-found
-    table-of-requires
+    prepare-requires
     write-lines-requires
     same-length
     returns

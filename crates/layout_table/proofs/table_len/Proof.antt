@@ -2,7 +2,7 @@
 use mathlib.Core.Path.{sym, ap, _∙_}
 use Rattle.answer.specs.Lent.{counted}
 use Rattle.layout.specs.Parts.{foundOutcome}
-use Rattle.layout.proofs.Calls.{laid-of}
+use Rattle.layout.proofs.Calls.{laid-of, ready-given}
 use Rattle.layout_table.proofs.Calls.{table-refused, table-counted}
 use borrow.Author.Needs.{needs}
 use Rattle.layout_table.proofs.table_len.Statement.{statement}
@@ -17,8 +17,8 @@ enum-known-q c = search needs
 enum-known-found : tie.Need-enum-known-found
 enum-known-found c = search needs
 
-table-of-requires : tie.Need-table-of-requires
-table-of-requires c κs = laid-of _ _ (sym (ap foundOutcome (c .before .found .given .1)) ∙ c .before .before .before .ask .ensures)
+prepare-requires : tie.Need-prepare-requires
+prepare-requires c κs = laid-of _ _ (sym (ap foundOutcome (c .before .found .given .1)) ∙ c .before .before .before .ask .ensures)
 
 lines-length-requires : tie.Need-lines-length-requires
 lines-length-requires c κs = search needs
@@ -29,7 +29,9 @@ returns c = ap counted (table-refused _ _ (sym (ap foundOutcome (c .before .q .g
 returns-2 : tie.Need-returns-2
 returns-2 c =
     let found = c .before .before .before in
-    table-counted _ _ (sym (ap foundOutcome (found .found .given .1)) ∙ found .before .before .ask .ensures) _ (c .before .table-of .ensures) _ (c .lines-length .ensures)
+    let ready = c .before .prepare in
+    let e = sym (ap foundOutcome (found .found .given .1)) ∙ found .before .before .ask .ensures in
+    table-counted _ _ (ready-given _ _ e (ready .result) (ready .ensures .1)) _ (c .lines-length .ensures)
 
 pub table-len-spec : {M : Type 1} → statement M
 table-len-spec =
@@ -38,7 +40,7 @@ table-len-spec =
     ask-requires
     enum-known-q
     enum-known-found
-    table-of-requires
+    prepare-requires
     lines-length-requires
     returns
     returns-2)

@@ -2,7 +2,7 @@
 use mathlib.Core.Path.{sym, _∙_}
 use Rattle.mos.proofs.Sizes.{pattern-given, pattern-refused}
 use Rattle.mos.specs.Walks.{genesisOf}
-use Rattle.mos.proofs.Sequences.{meets-always}
+use Rattle.mos_walks.proofs.Meeting.{meets-always}
 use borrow.Author.Needs.{needs}
 use Rattle.mos_walks.proofs.genesis.Statement.{statement}
 use Rattle.mos_walks.proofs.genesis.Tie as tie

@@ -2,7 +2,7 @@
 use mathlib.Core.Path.{sym, ap, _∙_}
 use mathlib.Core.Option.{some}
 use Rattle.mos.proofs.Sizes.{pattern-given, pattern-refused}
-use Rattle.mos.proofs.Sequences.{meets-found, meets-nothing}
+use Rattle.mos_walks.proofs.Meeting.{meets-found, meets-nothing}
 use borrow.Author.Needs.{needs}
 use Rattle.mos_walks.proofs.nth_child.Statement.{statement}
 use Rattle.mos_walks.proofs.nth_child.Tie as tie

@@ -2,7 +2,7 @@
 use Prim.Native.Nat.{_≤_}
 use native.Mathlib.Omega.{arith}
 use Rattle.text.proofs.Writing.{put-there}
-use Rattle.layout_table.proofs.Lines.{refusal-room}
+use Rattle.line.proofs.RefusalLines.{refusal-room}
 use Rattle.streams.proofs.Onward.{written-as, written-first}
 use borrow.Author.Needs.{needs}
 use Rattle.passed_patterns.proofs.print_refusal.Statement.{statement}

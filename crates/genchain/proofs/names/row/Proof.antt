@@ -1,6 +1,6 @@
 -- The table is the rows of all texts, computed once.
 use mathlib.Core.List.{[]}
-use Rattle.genchain.proofs.Tables.{mapped-at}
+use Rattle.text.proofs.Copying.{mapped-at}
 use Rattle.genchain.specs.Texts.{texts, textAt, textRowOf}
 use borrow.Author.Needs.{needs}
 use Rattle.genchain.proofs.names.row.Statement.{statement}

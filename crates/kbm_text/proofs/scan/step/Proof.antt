@@ -1,7 +1,7 @@
 -- A line that is skipped changes nothing; any other is one line more.
 use borrow.Author.Needs.{needs}
 use mathlib.Core.Path.{sym, _∙_}
-use Rattle.kbm_text.proofs.StepLaws.{next-comment, next-moved}
+use Rattle.kbm_text.proofs.StepLaws.{next-comment, next-with-line}
 use Rattle.kbm_text.proofs.scan.step.Statement.{statement}
 use Rattle.kbm_text.proofs.scan.step.Tie as tie
 
@@ -38,7 +38,7 @@ returns-2 c =
     let a = k .before in
     let f = a .before .before in
     let i = f .before .before in
-    (next-moved _ _ _ (sym (i .before .is-comment .ensures) ∙ i .if1 .left) _ _ _ (f .both .ensures) (f .before .fits-at .ensures) (a .both2 .ensures) (a .before .agrees-at .ensures) (k .key-count .ensures .0), search needs, search needs)
+    (next-with-line _ _ _ (sym (i .before .is-comment .ensures) ∙ i .if1 .left) _ _ _ (f .both .ensures) (f .before .fits-at .ensures) (a .both2 .ensures) (a .before .agrees-at .ensures) (k .key-count .ensures .0), search needs, search needs)
 
 pub step-spec : {M : Type 1} → statement M
 step-spec =

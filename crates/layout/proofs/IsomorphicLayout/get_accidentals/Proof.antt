@@ -2,7 +2,7 @@
 use mir.Syntax.{w32}
 use mathlib.Core.Path.{refl, sym, ap, _∙_}
 use Rattle.math.proofs.Answers.{remainder-read}
-use Rattle.pergen.proofs.CarriedWalk.{walkable}
+use Rattle.pergen.proofs.CarriedWalk.{round-found}
 use Rattle.pergen.proofs.Calls.{accidentals-from-zero}
 use Rattle.layout.specs.Layouts.{accidentalsIn}
 use Rattle.layout.specs.Parts.{foundOutcome}
@@ -31,8 +31,11 @@ rem-u16-requires c κs =
 spelled-requires : tie.Need-spelled-requires
 spelled-requires c κs =
     let found = c .before .before .before in
+    let start = found .before .before .before in
+    let key = start .args .key in
     let p = parts-of _ _ (sym (ap foundOutcome (found .found .given .1)) ∙ found .before .before .ask .ensures) in
-    (walkable _ _ (p .positive) _ (c .before .solve .ensures), p .start-below)
+    let asked = round-found _ _ (p .positive) _ (c .before .solve .ensures) key _ (remainder-read w32 key (start .fits .key) _ _ (c .rem-u16 .ensures)) in
+    (p .start-below, asked .0, asked .1)
 
 returns : tie.Need-returns
 returns c = accidentals-refused _ _ (sym (ap foundOutcome (c .before .q .given .1)) ∙ c .before .before .before .ask .ensures) _

@@ -2,9 +2,11 @@
 use mir.Syntax.{w32}
 use mathlib.Core.Path.{refl, sym, ap, _∙_}
 use Rattle.answer.proofs.Lent.{filled-refused}
+use native.Mathlib.Omega.{arith}
 use Rattle.math.proofs.Answers.{remainder-read}
+use Rattle.math.proofs.Division.{remainder-below}
 use Rattle.layout.specs.Parts.{foundOutcome}
-use Rattle.layout.proofs.Calls.{name-refused, parts-of, laid-of, row-found, name-in-room, filled-as, refused-in-room}
+use Rattle.layout.proofs.Calls.{name-refused, parts-of, laid-of, row-found, name-held, filled-as, refused-in-room}
 use borrow.Author.Needs.{needs}
 use Rattle.layout.proofs.IsomorphicLayout.get_note_name.Statement.{statement}
 use Rattle.layout.proofs.IsomorphicLayout.get_note_name.Tie as tie
@@ -28,7 +30,10 @@ rem-u16-requires c κs =
 write-name-requires : tie.Need-write-name-requires
 write-name-requires c κs =
     let e = sym (ap foundOutcome (c .before .before .before .found .given .1)) ∙ c .before .before .before .before .before .ask-with-row .ensures in
-    (row-found _ _ e _ (c .before .before .before .before .before .before .row .ensures), laid-of _ _ e)
+    let start = c .before .before .before .before .before .before .before .before in
+    let key = start .args .key in
+    let round = remainder-read w32 key (start .fits .key) _ _ (c .before .rem-u16 .ensures) in
+    record { row-is = row-found _ _ e _ (c .before .before .before .before .before .before .row .ensures); laid = laid-of _ _ e; below = omega (arith, round, remainder-below key _ (parts-of _ _ e .positive)) }
 
 returns : tie.Need-returns
 returns c = filled-refused _ _ (refused-in-room _ _ _ (name-refused _ _ (sym (ap foundOutcome (c .before .q .given .1)) ∙ c .before .before .before .ask-with-row .ensures) _)) refl
@@ -41,7 +46,7 @@ returns-2 c =
     let asked = c .before .before .before .before .before .before .before .before in
     let key = asked .before .before .before .args .key in
     filled-as
-    (name-in-room _ _ (sym (ap foundOutcome (c .before .before .before .before .before .before .found .given .1)) ∙ asked .ask-with-row .ensures)
+    (name-held _ _ (sym (ap foundOutcome (c .before .before .before .before .before .before .found .given .1)) ∙ asked .ask-with-row .ensures)
     key _ (remainder-read w32 key (asked .before .before .before .fits .key) _ _ (c .before .before .before .before .rem-u16 .ensures)) _)
     (c .before .before .write-name .ensures)
 

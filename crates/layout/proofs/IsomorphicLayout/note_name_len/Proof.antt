@@ -2,9 +2,11 @@
 use mir.Syntax.{w32}
 use mathlib.Core.Path.{sym, ap, _∙_}
 use Rattle.answer.specs.Lent.{counted}
+use native.Mathlib.Omega.{arith}
 use Rattle.math.proofs.Answers.{remainder-read}
+use Rattle.math.proofs.Division.{remainder-below}
 use Rattle.layout.specs.Parts.{foundOutcome}
-use Rattle.layout.proofs.Calls.{name-refused, parts-of, laid-of, row-found, name-count}
+use Rattle.layout.proofs.Calls.{name-refused, parts-of, laid-of, row-found, name-measured}
 use borrow.Author.Needs.{needs}
 use Rattle.layout.proofs.IsomorphicLayout.note_name_len.Statement.{statement}
 use Rattle.layout.proofs.IsomorphicLayout.note_name_len.Tie as tie
@@ -28,7 +30,10 @@ rem-u16-requires c κs =
 name-length-requires : tie.Need-name-length-requires
 name-length-requires c κs =
     let e = sym (ap foundOutcome (c .before .before .found .given .1)) ∙ c .before .before .before .before .ask-with-row .ensures in
-    (row-found _ _ e _ (c .before .before .before .before .before .row .ensures), laid-of _ _ e)
+    let start = c .before .before .before .before .before .before in
+    let key = start .args .key in
+    let round = remainder-read w32 key (start .fits .key) _ _ (c .rem-u16 .ensures) in
+    record { row-is = row-found _ _ e _ (c .before .before .before .before .before .row .ensures); laid = laid-of _ _ e; below = omega (arith, round, remainder-below key _ (parts-of _ _ e .positive)) }
 
 returns : tie.Need-returns
 returns c = ap counted (name-refused _ _ (sym (ap foundOutcome (c .before .q .given .1)) ∙ c .before .before .before .ask-with-row .ensures) _)
@@ -37,7 +42,7 @@ returns-2 : tie.Need-returns-2
 returns-2 c =
     let asked = c .before .before .before .before .before in
     let key = asked .before .before .args .key in
-    name-count _ _ (sym (ap foundOutcome (c .before .before .before .found .given .1)) ∙ asked .ask-with-row .ensures)
+    name-measured _ _ (sym (ap foundOutcome (c .before .before .before .found .given .1)) ∙ asked .ask-with-row .ensures)
     key _ (remainder-read w32 key (asked .before .before .fits .key) _ _ (c .before .rem-u16 .ensures)) _ (c .name-length .ensures)
 
 pub note-name-len-spec : {M : Type 1} → statement M

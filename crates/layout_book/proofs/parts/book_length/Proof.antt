@@ -1,14 +1,15 @@
 -- The count, the pairs and the text.
-use Prim.Native.Nat.{ℕ}
 use native.Mathlib.Omega.{arith}
-use mathlib.Core.Path.{ap}
-use lib.ListN.{length}
-use Rattle.text.specs.Writing.{joined}
 use Rattle.book.proofs.Written.{length-book}
-use Rattle.layout_speller.specs.Parts.{nameOf}
+use Rattle.layout.specs.Names.{listedName}
+use Rattle.layout.specs.Parts.{layoutIn}
+use Rattle.layout_book.specs.LayoutBooks.{bookIn}
 use borrow.Author.Needs.{needs}
 use Rattle.layout_book.proofs.parts.book_length.Statement.{statement}
 use Rattle.layout_book.proofs.parts.book_length.Tie as tie
+
+cast-result : tie.Need-cast-result
+cast-result c = search needs
 
 mul-result : tie.Need-mul-result
 mul-result c = search needs
@@ -23,15 +24,11 @@ add-result-2 : tie.Need-add-result-2
 add-result-2 c = search needs
 
 returns : tie.Need-returns
+unfolding bookIn
 returns c =
-    let s = c .before in
-    omega (
-      arith,
-      c .names-length .ensures .length-is,
-      ap (λ (k : ℕ). length (joined (nameOf (s .args .speller)) k)) (s .pre .1),
-      length-book (nameOf (s .args .speller)) (s .args .keys),
-    )
+    let p = c .before .before .args .prepared in
+    omega (arith, c .names-length .ensures .length-is, length-book (listedName (layoutIn p)) (p .found .octave))
 
 pub book-length-spec : {M : Type 1} → statement M
 book-length-spec =
-    tie.close (tie.spec mul-result add-result names-length-requires add-result-2 returns)
+    tie.close (tie.spec cast-result mul-result add-result names-length-requires add-result-2 returns)

@@ -3,6 +3,7 @@ use Prim.Native.Nat.{ℕ}
 use mathlib.Core.Path.{ap}
 use lib.Dec.{leb}
 use Rattle.layout_kbm.proofs.Calls.{surely-held}
+use Rattle.layout.specs.Parts.{layoutIn}
 use borrow.Author.Needs.{needs}
 use Rattle.layout_kbm.proofs.parts.has_room.Statement.{statement}
 use Rattle.layout_kbm.proofs.parts.has_room.Tie as tie
@@ -17,7 +18,7 @@ add-if1 : tie.Need-add-if1
 add-if1 c = search needs
 
 returns : tie.Need-returns
-returns c = let s = c .before .before in surely-held (s .args .mapping) _ (search needs) (c .if1 .taken)
+returns c = let s = c .before .before in surely-held (layoutIn (s .args .prepared)) _ (search needs) (c .if1 .taken)
 
 file-len-requires : tie.Need-file-len-requires
 file-len-requires c κs = search needs

@@ -5,8 +5,8 @@ use lib.ListN.{length, length-set}
 use native.Mathlib.Nat.{le-antisymm}
 use native.Mathlib.Omega.{arith}
 use Rattle.text.specs.Writing.{Wrote}
-use Rattle.layout_reach.specs.Reach.{run}
-use Rattle.layout_reach.proofs.Passing.{length-run}
+use Rattle.math.specs.Passing.{run}
+use Rattle.math.proofs.Passing.{length-run}
 use Rattle.layout_reach.proofs.Spans.{run-start, run-step}
 use Rattle.layout_reach.proofs.parts.put_run.Statement.{statement}
 use Rattle.layout_reach.proofs.parts.put_run.Tie as tie

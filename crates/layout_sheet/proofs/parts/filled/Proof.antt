@@ -1,87 +1,49 @@
--- The key round the strip, and within the octave; then its spellings and its lamp.
-use mathlib.Core.Path.{refl}
+-- The key, brought round the strip, and its record.
+use mathlib.Core.Path.{refl, ap, _∙_}
 use native.Mathlib.Omega.{arith}
 use mir.Syntax.{w32}
+use Rattle.math.specs.Division.{remainder}
+use Rattle.math.proofs.Division.{remainder-below}
 use Rattle.math.proofs.Answers.{remainder-read}
-use Rattle.math.proofs.Signed.{read-back}
-use Rattle.pergen.proofs.Calls.{degree-small}
-use Rattle.layout_sheet.proofs.Records.{
-  some-keys,
-  start-below,
-  strip-few,
-  entries-some,
-  some-cycles,
-  some-degrees,
-  place-below,
-  step-stands,
-  record-filled,
-}
+use Rattle.layout_layers.proofs.PreparedPlans.{entries-positive, entry-found}
 use borrow.Author.Needs.{needs}
 use Rattle.layout_sheet.proofs.parts.filled.Statement.{statement}
 use Rattle.layout_sheet.proofs.parts.filled.Tie as tie
 
-rem-u32-requires : tie.Need-rem-u32-requires
-rem-u32-requires c κs = let start = c .before .before .before in entries-some (start .args .common) (start .pre)
+entry-count-requires : tie.Need-entry-count-requires
+entry-count-requires c κs = search needs
 
-within-octave-requires : tie.Need-within-octave-requires
-within-octave-requires c κs =
+rem-u32-requires : tie.Need-rem-u32-requires
+rem-u32-requires c κs =
+    let start = c .before .before .before in
+    entries-positive (start .args .source .prepared) (start .pre .0 .0) (start .args .asked .key) _ _ (c .before .entry-count .ensures .0) refl
+
+key-after-requires : tie.Need-key-after-requires
+key-after-requires c κs =
     let start = c .before .before .before .before in
     let key = start .args .asked .key in
     let round = remainder-read w32 key (record { sfits = c .before .struct-told .given .0 .1 }) _ _ (c .rem-u32 .ensures) in
-    omega (
-      arith,
-      place-below (start .args .common) (start .pre) key _ _ round refl,
-      strip-few (start .args .common) (start .pre),
-    )
+    let found = entry-found (start .args .source .prepared) (start .pre .0 .0) key _ _ (c .before .before .entry-count .ensures .0) round in
+    (found .0, start .pre .1, start .pre .2, found .1)
 
-generation-requires : tie.Need-generation-requires
-generation-requires c κs =
+record-at-requires : tie.Need-record-at-requires
+record-at-requires c κs =
     let start = c .before .before .before .before .before in
-    (some-cycles (start .args .common) (start .pre), some-degrees (start .args .common) (start .pre))
-
-stars-requires : tie.Need-stars-requires
-stars-requires c κs = search needs
-
-accidentals-requires : tie.Need-accidentals-requires
-accidentals-requires c κs =
-    let start = c .before .before .before .before .before .before .before in (
-      start-below (start .args .common) (start .pre),
-      degree-small _ _ _ (start .pre .solved-is) _ _ (some-keys (start .args .common) (start .pre)) (c .before .generation .ensures),
-    )
-
-lamp-at-requires : tie.Need-lamp-at-requires
-lamp-at-requires c κs =
-    let start = c .before .before .before .before .before .before .before .before in
     let key = start .args .asked .key in
-    let fits = c .before .before .before .before .before .struct-told .given .0 .1 in
-    let round = remainder-read w32 key (record { sfits = fits }) _ _ (c .before .before .before .before .rem-u32 .ensures) in
-    let within = c .before .before .before .within-octave .ensures in (
-      start .pre,
-      place-below (start .args .common) (start .pre) key _ _ round within,
-      within,
-      step-stands (start .args .common) (start .pre) key _ _ round within _ (c .before .before .generation .ensures) _ (c .before .stars .ensures),
-    )
+    let round = remainder-read w32 key (record { sfits = c .before .before .struct-told .given .0 .1 }) _ _ (c .before .rem-u32 .ensures) in
+    let after = c .key-after .ensures in
+    (start .pre .0, after .0, after .1 ∙ round ∙ ap (remainder key) (c .before .before .before .entry-count .ensures .0))
 
 returns : tie.Need-returns
 returns c =
-    let start = c .before .before .before .before .before .before .before .before .before in
+    let start = c .before .before .before .before .before .before in
     let key = start .args .asked .key in
-    let fits = c .before .before .before .before .before .before .struct-told .given .0 .1 in
-    let round = remainder-read w32 key (record { sfits = fits }) _ _ (c .before .before .before .before .before .rem-u32 .ensures) in
-    let within = c .before .before .before .before .within-octave .ensures in
-    record-filled (start .args .common) (start .pre) key _ _ round within
-    _ (c .before .before .before .generation .ensures) _ (c .before .before .stars .ensures)
-    _ (c .before .accidentals .ensures) _ (c .lamp-at .ensures)
-    _ (read-back w32 key (record { sfits = fits })) (start .args .asked) refl
+    let fits = c .before .before .before .struct-told .given .0 .1 in
+    let round = remainder-read w32 key (record { sfits = fits }) _ _ (c .before .before .rem-u32 .ensures) in
+    let after = c .before .key-after .ensures in
+    let count = c .before .before .before .before .entry-count .ensures in
+    let some = entries-positive (start .args .source .prepared) (start .pre .0 .0) key _ _ (count .0) round in
+    (c .record-at .ensures, (start .pre .0, after .0, omega (arith, after .1, round, remainder-below key _ some, count .1)))
 
 pub filled-spec : {M : Type 1} → statement M
-filled-spec =
-    tie.close
-    (tie.spec
-    rem-u32-requires
-    within-octave-requires
-    generation-requires
-    stars-requires
-    accidentals-requires
-    lamp-at-requires
-    returns)
+filled-spec = tie.close (tie.spec entry-count-requires rem-u32-requires key-after-requires record-at-requires returns)

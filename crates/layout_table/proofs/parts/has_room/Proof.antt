@@ -4,7 +4,8 @@ use mathlib.Core.Path.{ap}
 use native.Mathlib.Nat.{mul-le-mul}
 use native.Mathlib.Omega.{arith}
 use lib.Dec.{leb}
-use Rattle.layout_table.proofs.Calls.{surely-held}
+use Rattle.layout.specs.Parts.{layoutIn}
+use Rattle.layout_table.proofs.Fitting.{surely-held}
 use borrow.Author.Needs.{needs}
 use Rattle.layout_table.proofs.parts.has_room.Statement.{statement}
 use Rattle.layout_table.proofs.parts.has_room.Tie as tie
@@ -17,12 +18,14 @@ add-if1 c = search needs
 
 mul-if1 : tie.Need-mul-if1
 mul-if1 c =
-    let k = c .before .args .table .keys in
+    let k = c .before .args .prepared .found .octave in
     let few : k ≤ 65535 = search needs in
     omega (arith, mul-le-mul {n₁ = k / 5 + 21} {m₁ = k} {n₂ = 13128} {m₂ = 65535} (omega (arith, few)) few)
 
 returns : tie.Need-returns
-returns c = let start = c .before .before in surely-held (start .args .table) (start .pre .1) _ (c .if1 .taken)
+returns c =
+    let start = c .before .before in
+    surely-held (layoutIn (start .args .prepared)) (start .pre .laid) (search needs) _ (c .if1 .taken)
 
 lines-length-requires : tie.Need-lines-length-requires
 lines-length-requires c κs = search needs

@@ -1,4 +1,4 @@
--- After `key` turns the step stands at that key, and the total is the length of what is beside the names in the lines before it.
+-- The key that is carried says of how many lines the numbers are measured.
 use Prim.Native.Nat.{ℕ, _*_, _-_, _≤_}
 use mathlib.Core.Path.{_≡_, sym, ap, _∙_}
 use native.Mathlib.Nat.{le-antisymm}
@@ -7,29 +7,48 @@ use lib.ListN.{length}
 use Rattle.text.specs.Writing.{joined}
 use Rattle.text.proofs.Joined.{joined-none, length-joined-more}
 use Rattle.pergen.specs.Parts.{At}
-use Rattle.pergen.proofs.CarriedWalk.{at-next}
-use Rattle.layout_speller.proofs.Spelled.{on-walk}
-use Rattle.layout_table.specs.Parts.{numbersOf}
+use Rattle.layout.specs.Parts.{layoutIn}
+use Rattle.layout.proofs.Readiness.{ready-walkable}
+use Rattle.layout_table.specs.Parts.{numbersIn}
 use Rattle.layout_table.proofs.Lines.{length-numbers}
 use borrow.Author.Needs.{needs}
 use Rattle.layout_table.proofs.parts.numbers_length.Statement.{statement}
 use Rattle.layout_table.proofs.parts.numbers_length.Tie as tie
 
 abbrev Inv-loop : tie.InvT-loop
-Inv-loop table solved total₀ step₀ key₀ total step key =
-    At (table .speller .solved) key step × (total ≡ length (joined (numbersOf table) key)) × (total ≤ 13 * key) × (key ≤ table .keys)
+Inv-loop prepared solved layers octave total₀ key₀ total key =
+    At (prepared .solved) key
+    × (total ≡ length (joined (numbersIn (layoutIn prepared)) (key .number)))
+    × (total ≤ 13 * key .number)
+    × (key .number ≤ prepared .found .octave)
 
 abbrev μ-loop : tie.MeasureT-loop
-μ-loop table solved total₀ step₀ key₀ total step key = table .keys - key
+μ-loop prepared solved layers octave total₀ key₀ total key = prepared .found .octave - key .number
+
+total-of-requires : tie.Need-total-of-requires Inv-loop μ-loop
+total-of-requires c κs = search needs
+
+cast-octave : tie.Need-cast-octave Inv-loop μ-loop
+cast-octave c = search needs
 
 first-requires : tie.Need-first-requires Inv-loop μ-loop
-first-requires c κs = c .before .pre .names .walkable
+first-requires c κs = ready-walkable _ (c .before .before .before .pre)
 
 loop-holds : tie.Need-loop-holds Inv-loop μ-loop
-loop-holds c = (c .first .ensures, sym (ap length (joined-none (numbersOf (c .before .before .args .table)))), omega arith, omega arith)
+loop-holds c =
+    let first = c .first .ensures in
+    let f = numbersIn (layoutIn (c .before .before .before .before .args .prepared)) in
+    let none : 0 ≡ length (joined f (c .first .result .number))
+    = sym (ap length (joined-none f)) ∙ ap (λ (k : ℕ). length (joined f k)) (sym (first .1)) in
+    (first .0, none, omega (arith, first .1), omega (arith, first .1))
 
-lamp-at-requires : tie.Need-lamp-at-requires Inv-loop μ-loop
-lamp-at-requires c κs = (c .before .before .before .before .before .pre, c .before .before .loop .inv .0)
+lamp-of-requires : tie.Need-lamp-of-requires Inv-loop μ-loop
+lamp-of-requires c κs =
+    let l = c .before .before in
+    (l .before .before .before .before .before .pre, l .before .before .before .total-of .ensures, l .loop .inv .0, omega (arith, c .if1 .taken))
+
+cast-number-len : tie.Need-cast-number-len Inv-loop μ-loop
+cast-number-len c = omega (arith, c .before .before .before .before .loop .inv .3)
 
 number-len-requires : tie.Need-number-len-requires Inv-loop μ-loop
 number-len-requires c κs = search needs
@@ -44,46 +63,44 @@ add-total-2 : tie.Need-add-total-2 Inv-loop μ-loop
 add-total-2 c = search needs
 
 add-total-3 : tie.Need-add-total-3 Inv-loop μ-loop
-add-total-3 c = search needs
+add-total-3 c = omega (arith, c .before .before .before .before .before .before .loop .inv .2, c .before .before .before .before .before .before .loop .inv .3, c .before .number-len .ensures .few, c .number-len2 .ensures .few)
 
 next-requires : tie.Need-next-requires Inv-loop μ-loop
 next-requires c κs =
-    let names = c .before .before .before .before .before .before .before .before .pre .names in
-    let w = on-walk _ names _ _ (c .before .before .before .before .before .loop .inv .0) in
-    (names .walkable, w .degree-below, w .cycle-below)
-
-add-key : tie.Need-add-key Inv-loop μ-loop
-add-key c = search needs
+    let l = c .before .before .before .before .before .before in
+    (ready-walkable _ (l .before .before .before .before .before .pre), l .loop .inv .0, omega (arith, l .loop .inv .3))
 
 loop-less : tie.Need-loop-less Inv-loop μ-loop
-loop-less c = search needs
+loop-less c = omega (arith, c .next .ensures .1, c .before .before .before .before .before .if1 .taken)
 
 loop-again : tie.Need-loop-again Inv-loop μ-loop
 loop-again c =
-    let l = c .before .before .before .before .before .before in
-    let start = c .before .before .before .before .before .before .before .before .before in
-    let t = start .args .table in
+    let l = c .before .before .before .before .before .before .before in
+    let lay = layoutIn (l .before .before .before .before .before .args .prepared) in
+    let k = l .loop .key .number in
     let x = c .before .before .number-len .ensures in
-    let y = c .before .number-len2 .ensures in (
-      rw (c .next .ensures) (at-next _ (start .pre .names .walkable) _ _ (l .loop .inv .0)),
+    let y = c .before .number-len2 .ensures in
+    let on = c .next .ensures in (
+      on .0,
       omega (
         arith,
         l .loop .inv .1,
         x .is-length,
         y .is-length,
-        length-joined-more (numbersOf t) (l .loop .key),
-        length-numbers t (l .loop .key) _ (c .before .before .before .lamp-at .ensures),
+        length-joined-more (numbersIn lay) k,
+        length-numbers lay k _ (c .before .before .before .before .lamp-of .ensures),
+        ap (λ (n : ℕ). length (joined (numbersIn lay) n)) (on .1),
       ),
-      omega (arith, l .loop .inv .2, x .few, y .few),
-      omega arith,
+      omega (arith, l .loop .inv .2, x .few, y .few, on .1),
+      omega (arith, on .1, c .before .before .before .before .before .if1 .taken),
     )
 
 returns : tie.Need-returns Inv-loop μ-loop
 returns c =
-    let loop = c .before .before .loop in
-    let t = c .before .before .before .before .before .args .table in
-    let all = le-antisymm (loop .inv .3) (c .if1 .left) in
-    (loop .inv .1 ∙ ap (λ (k : ℕ). length (joined (numbersOf t) k)) all, omega (arith, loop .inv .2, all))
+    let l = c .before .before in
+    let f = numbersIn (layoutIn (l .before .before .before .before .before .args .prepared)) in
+    let all = le-antisymm (l .loop .inv .3) (c .if1 .left) in
+    (l .loop .inv .1 ∙ ap (λ (k : ℕ). length (joined f k)) all, omega (arith, l .loop .inv .2, all))
 
 pub numbers-length-spec : {M : Type 1} → statement M
 numbers-length-spec =
@@ -91,16 +108,18 @@ numbers-length-spec =
     (tie.spec
     Inv-loop
     μ-loop
+    total-of-requires
+    cast-octave
     first-requires
     loop-holds
-    lamp-at-requires
+    lamp-of-requires
+    cast-number-len
     number-len-requires
     number-len-requires-2
     add-total
     add-total-2
     add-total-3
     next-requires
-    add-key
     loop-less
     loop-again
     returns)

@@ -1,15 +1,15 @@
--- After `past` turns the step stands at the key that follows, and the lines before it are written.
+-- The key that is carried says how many lines are written.
 use Prim.Native.Nat.{ℕ, _+_, _-_, _≤_}
-use mathlib.Core.Path.{_≡_, refl, sym, ap, subst, _∙_}
-use native.Mathlib.Nat.{le-antisymm, add-zero, add-assoc}
+use mathlib.Core.Path.{_≡_, refl, sym, ap, _∙_}
 use native.Mathlib.Omega.{arith}
 use lib.ListN.{length}
 use Rattle.text.specs.Writing.{Wrote, joined}
 use Rattle.text.proofs.Writing.{wrote-as, wrote-length}
 use Rattle.text.proofs.Joined.{joined-start, joined-step, joined-room}
-use Rattle.layout_speller.proofs.Spelled.{on-walk, name-planned}
 use Rattle.pergen.specs.Parts.{At}
-use Rattle.pergen.proofs.CarriedWalk.{at-next}
+use Rattle.layout.specs.Parts.{layoutIn}
+use Rattle.layout.proofs.Readiness.{parts-ready, ready-walkable, found-twice, planned-text}
+use Rattle.layout_table.specs.Tables.{lineIn}
 use Rattle.layout_table.specs.Parts.{lineFrom}
 use Rattle.layout_table.proofs.Lines.{line-is}
 use borrow.Author.Needs.{needs}
@@ -17,74 +17,114 @@ use Rattle.layout_table.proofs.parts.put_lines.Statement.{statement}
 use Rattle.layout_table.proofs.parts.put_lines.Tie as tie
 
 abbrev Inv-loop : tie.InvT-loop
-Inv-loop out₀ table from count solved place₀ step₀ past₀ out place step past =
-    At (table .speller .solved) (from + past) step × Wrote out₀ 0 (joined (lineFrom table from) past) out place × (past ≤ count) × (length out ≡ length out₀)
+Inv-loop out₀ prepared from count solved row layers end place₀ key₀ out place key =
+    At (prepared .solved) key
+    × Wrote out₀ 0 (joined (lineFrom (layoutIn prepared) from) (key .number - from)) out place
+    × (from ≤ key .number)
+    × (key .number ≤ from + count)
+    × (length out ≡ length out₀)
+    × (from + count ≤ 65535)
 
 abbrev μ-loop : tie.MeasureT-loop
-μ-loop out₀ table from count solved place₀ step₀ past₀ out place step past = count - past
+μ-loop out₀ prepared from count solved row layers end place₀ key₀ out place key = from + count - key .number
 
-step-at-requires : tie.Need-step-at-requires Inv-loop μ-loop
-step-at-requires c κs = c .before .before .pre .0 .names .walkable
+row-requires : tie.Need-row-requires Inv-loop μ-loop
+row-requires c κs = search needs
+
+total-of-requires : tie.Need-total-of-requires Inv-loop μ-loop
+total-of-requires c κs = search needs
+
+add-end : tie.Need-add-end Inv-loop μ-loop
+add-end c = search needs
+
+key-at-requires : tie.Need-key-at-requires Inv-loop μ-loop
+key-at-requires c κs =
+    let start = c .before .before .before .before in
+    found-twice _ (start .pre .0) (start .args .from) (omega (arith, start .pre .1, parts-ready _ (start .pre .0) .positive))
 
 loop-holds : tie.Need-loop-holds Inv-loop μ-loop
 loop-holds c =
-    let start = c .before .before .before in
-    (subst (λ (k : ℕ). At (start .args .table .speller .solved) k (c .step-at .result)) (sym (add-zero (start .args .from))) (c .step-at .ensures), joined-start _ (start .args .out .now) 0, omega arith, refl)
+    let start = c .before .before .before .before .before in
+    let found = c .key-at .ensures in (
+      found .0,
+      wrote-as (ap (joined _) (let e : 0 ≡ c .key-at .result .number - start .args .from = omega (arith, found .1) in e))
+          (joined-start _ (start .args .out .now) 0),
+      omega (arith, found .1),
+      omega (arith, found .1),
+      refl,
+      (let few : start .args .prepared .found .octave ≤ 65535 = search needs in omega (arith, few, start .pre .1)),
+    )
 
-add-key : tie.Need-add-key Inv-loop μ-loop
-add-key c = let start = c .before .before .before .before .before in omega (arith, start .pre .1, start .pre .0 .keys-are, start .pre .0 .names .fits)
+plan-name-requires : tie.Need-plan-name-requires Inv-loop μ-loop
+plan-name-requires c κs =
+    let l = c .before .before in
+    let start = l .before .before .before .before .before .before in
+    (l .before .before .before .row .ensures, start .pre .0, l .loop .inv .0)
 
-plan-at-requires : tie.Need-plan-at-requires Inv-loop μ-loop
-plan-at-requires c κs =
-    let names = c .before .before .before .before .before .pre .0 .names in
-    (names, on-walk _ names _ _ (c .before .loop .inv .0))
+lamp-of-requires : tie.Need-lamp-of-requires Inv-loop μ-loop
+lamp-of-requires c κs =
+    let l = c .before .before .before in
+    let start = l .before .before .before .before .before .before in
+    (start .pre .0, l .before .before .total-of .ensures, l .loop .inv .0, omega (arith, l .loop .inv .3, start .pre .1, parts-ready _ (start .pre .0) .positive))
 
-lamp-at-requires : tie.Need-lamp-at-requires Inv-loop μ-loop
-lamp-at-requires c κs = (c .before .before .before .before .before .before .pre .0, c .before .before .loop .inv .0)
+cast-put-line : tie.Need-cast-put-line Inv-loop μ-loop
+cast-put-line c =
+    let l = c .before .before .before .before .before .before in
+    omega (arith, l .loop .inv .3, l .loop .inv .5)
 
 put-line-requires : tie.Need-put-line-requires Inv-loop μ-loop
 put-line-requires c κs =
-    let l = c .before .before .before .before in
-    let start = l .before .before .before .before in
-    let t = start .args .table in
+    let l = c .before .before .before .before .before .before in
+    let start = l .before .before .before .before .before .before in
+    let lay = layoutIn (start .args .prepared) in
     let from = start .args .from in
-    let name = name-planned _ (start .pre .0 .names) _ _ (l .loop .inv .0) _ (c .before .before .plan-at .ensures) in
-    let e = ap length (line-is t (from + l .loop .past) _ _ name (c .before .lamp-at .ensures)) in
-    let r = joined-room (lineFrom t from) (l .loop .past) (start .args .count) (c .before .before .before .loop-test .taken) (l .loop .inv .1) (start .pre .2) in
-    (c .before .before .plan-at .ensures .short, omega arith)
+    let key = l .loop .key in
+    let name = planned-text (start .args .prepared) key _ (c .before .before .before .plan-name .ensures) in
+    let past = key .number - from in
+    let here : from + past ≡ key .number = omega (arith, l .loop .inv .2) in
+    let e = ap length (line-is lay (key .number) _ _ name (c .before .before .lamp-of .ensures) ∙ ap (lineIn lay) (sym here)) in
+    let r = joined-room (lineFrom lay from) past (start .args .count) (omega (arith, c .before .before .before .before .if1 .taken, l .loop .inv .2)) (l .loop .inv .1) (start .pre .2) in
+    (c .before .before .before .plan-name .ensures .short, omega (arith, e, r))
 
 next-requires : tie.Need-next-requires Inv-loop μ-loop
 next-requires c κs =
-    let names = c .before .before .before .before .before .before .before .before .before .before .before .pre .0 .names in
-    let w = on-walk _ names _ _ (c .before .before .before .before .before .before .before .loop .inv .0) in
-    (names .walkable, w .degree-below, w .cycle-below)
-
-add-past : tie.Need-add-past Inv-loop μ-loop
-add-past c = search needs
+    let l = c .before .before .before .before .before .before .before .before .before in
+    let start = l .before .before .before .before .before .before in
+    (ready-walkable _ (start .pre .0), l .loop .inv .0, omega (arith, l .loop .inv .3, start .pre .1))
 
 loop-less : tie.Need-loop-less Inv-loop μ-loop
-loop-less c = search needs
+loop-less c = omega (arith, c .next .ensures .1, c .before .before .before .before .before .before .before .before .if1 .taken)
 
 loop-again : tie.Need-loop-again Inv-loop μ-loop
 loop-again c =
     let p = c .before .before .before in
-    let l = c .before .before .before .before .before .before .before .before in
-    let start = c .before .before .before .before .before .before .before .before .before .before .before .before in
-    let t = start .args .table in
+    let l = c .before .before .before .before .before .before .before .before .before .before in
+    let start = l .before .before .before .before .before .before in
+    let lay = layoutIn (start .args .prepared) in
     let from = start .args .from in
-    let name = name-planned _ (start .pre .0 .names) _ _ (l .loop .inv .0) _ (c .before .before .before .before .before .before .plan-at .ensures) in
-    let w = wrote-as (line-is t (from + l .loop .past) _ _ name (c .before .before .before .before .before .lamp-at .ensures)) (p .put-line .ensures) in (
-      subst (λ (k : ℕ). At (t .speller .solved) k (c .next .result)) (add-assoc from (l .loop .past) 1) (rw (c .next .ensures) (at-next _ (start .pre .0 .names .walkable) _ _ (l .loop .inv .0))),
-      joined-step _ _ (l .loop .inv .1) w,
-      omega arith,
-      wrote-length w ∙ l .loop .inv .3,
+    let key = l .loop .key in
+    let name = planned-text (start .args .prepared) key _ (c .before .before .before .before .before .before .before .plan-name .ensures) in
+    let past = key .number - from in
+    let here : from + past ≡ key .number = omega (arith, l .loop .inv .2) in
+    let w = wrote-as (line-is lay (key .number) _ _ name (c .before .before .before .before .before .before .lamp-of .ensures) ∙ ap (lineIn lay) (sym here)) (p .put-line .ensures) in
+    let on = c .next .ensures in (
+      on .0,
+      wrote-as (ap (joined _) (let e : past + 1 ≡ c .next .result .number - from = omega (arith, on .1, l .loop .inv .2) in e))
+          (joined-step _ _ (l .loop .inv .1) w),
+      omega (arith, on .1, l .loop .inv .2),
+      omega (arith, on .1, c .before .before .before .before .before .before .before .before .if1 .taken),
+      wrote-length w ∙ l .loop .inv .4,
+      l .loop .inv .5,
     )
 
 same-length : tie.Need-same-length Inv-loop μ-loop
-same-length c = c .before .loop .inv .3
+same-length c = c .before .before .loop .inv .4
 
 returns : tie.Need-returns Inv-loop μ-loop
-returns c = wrote-as (ap (joined _) (le-antisymm (c .before .loop .inv .2) (c .loop-test .left))) (c .before .loop .inv .1)
+returns c =
+    let l = c .before .before in
+    let start = l .before .before .before .before .before .before in
+    wrote-as (ap (joined _) (let e : l .loop .key .number - start .args .from ≡ start .args .count = omega (arith, l .loop .inv .3, c .if1 .left) in e)) (l .loop .inv .1)
 
 pub put-lines-spec : {M : Type 1} → statement M
 put-lines-spec =
@@ -92,14 +132,16 @@ put-lines-spec =
     (tie.spec
     Inv-loop
     μ-loop
-    step-at-requires
+    row-requires
+    total-of-requires
+    add-end
+    key-at-requires
     loop-holds
-    add-key
-    plan-at-requires
-    lamp-at-requires
+    plan-name-requires
+    lamp-of-requires
+    cast-put-line
     put-line-requires
     next-requires
-    add-past
     loop-less
     loop-again
     same-length

@@ -1,52 +1,28 @@
--- A bound on the number of patterns, or their count.
+-- The walk of parents is as long as the dual's walk of children.
+use mathlib.Core.Path.{ap, _∙_}
+use Prim.Native.Nat.{ℕ}
+use lib.Dec.{leb}
+use lib.ListN.{length}
 use borrow.Author.Needs.{needs}
-use Rattle.mos.specs.Walks.{parents}
-use Rattle.mos.proofs.Sequences.{parents-few}
-use Rattle.mos_listings.proofs.Listings.{fits-most, fits-count}
+use Rattle.mos.specs.declared.Mos.{Mos}
+use Rattle.mos.specs.Patterns.{isPattern}
+use Rattle.mos.specs.Walks.{children, listed}
+use Rattle.mos.proofs.Sizes.{dual-pattern}
+use Rattle.mos_listings.proofs.Leaping.{dual-listed}
 use Rattle.mos_listings.proofs.parts.parents_fit.Statement.{statement}
 use Rattle.mos_listings.proofs.parts.parents_fit.Tie as tie
 
-cast-most : tie.Need-cast-most
-cast-most c = search needs
+dual-of-requires : tie.Need-dual-of-requires
+dual-of-requires c κs = search needs
 
-cast-most-2 : tie.Need-cast-most-2
-cast-most-2 c = search needs
-
-add-most : tie.Need-add-most
-add-most c = search needs
-
-add-most-2 : tie.Need-add-most-2
-add-most-2 c = search needs
-
-mul-most : tie.Need-mul-most
-mul-most c = search needs
+children-fit-requires : tie.Need-children-fit-requires
+children-fit-requires c κs = ap isPattern (c .dual-of .ensures) ∙ dual-pattern (c .before .args .m) ∙ c .before .pre
 
 returns : tie.Need-returns
-returns c = fits-most (parents (c .before .before .before .args .m)) _ _ (parents-few (c .before .before .before .args .m)) (c .if1 .taken)
-
-count-parents-requires : tie.Need-count-parents-requires
-count-parents-requires c κs = search needs
-
-cast-result : tie.Need-cast-result
-cast-result c = search needs
-
-mul-result : tie.Need-mul-result
-mul-result c = search needs
-
-returns-2 : tie.Need-returns-2
-returns-2 c = fits-count (parents (c .before .before .before .before .args .m)) _ _ (c .count-parents .ensures)
+returns c =
+    let start = c .before .before .args in
+    c .children-fit .ensures
+    ∙ ap (λ (n : ℕ). leb n (start .room)) (ap (λ (x : Mos). length (listed (children x))) (c .before .dual-of .ensures) ∙ dual-listed (start .m))
 
 pub parents-fit-spec : {M : Type 1} → statement M
-parents-fit-spec =
-    tie.close
-    (tie.spec
-    cast-most
-    cast-most-2
-    add-most
-    add-most-2
-    mul-most
-    returns
-    count-parents-requires
-    cast-result
-    mul-result
-    returns-2)
+parents-fit-spec = tie.close (tie.spec dual-of-requires children-fit-requires returns)

@@ -7,7 +7,8 @@ use borrow.Fn.Kinds.{In}
 use borrow.Fn.PlainCycle.{Measures, is, falls, and}
 use Rattle.mos.specs.Patterns.{countOf}
 use Rattle.mos.proofs.Descent.{parent-falls, parent-keeps-pattern}
-use Rattle.mos.proofs.Sequences.{parent-here, parent-later, parent-never, meets-here, meets-none, meets-as}
+use Rattle.mos.proofs.Sequences.{parent-here, parent-later, parent-never}
+use Rattle.mos_walks.proofs.Meeting.{meets-here, meets-none, meets-as}
 use Rattle.mos_walks.proofs.parts.ascend.Reads as ascend
 use Rattle.mos_walks.proofs.parts.ascend.Kinds as ascend-kinds
 use Rattle.mos_walks.proofs.parts.+ascend.Lts-ascend as ascend-lts

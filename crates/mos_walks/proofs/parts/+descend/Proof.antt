@@ -7,7 +7,8 @@ use borrow.Fn.Kinds.{In}
 use borrow.Fn.PlainCycle.{Measures, is, falls, and}
 use Rattle.mos.specs.Patterns.{stepsOf}
 use Rattle.mos.proofs.Descent.{child-at, child-falls, child-keeps-pattern}
-use Rattle.mos.proofs.Sequences.{child-here, child-later, child-never, meets-here, meets-none, meets-as}
+use Rattle.mos.proofs.Sequences.{child-here, child-later, child-never}
+use Rattle.mos_walks.proofs.Meeting.{meets-here, meets-none, meets-as}
 use Rattle.mos_walks.proofs.parts.descend.Reads as descend
 use Rattle.mos_walks.proofs.parts.descend.Kinds as descend-kinds
 use Rattle.mos_walks.proofs.parts.+descend.Lts-descend as descend-lts

@@ -7,7 +7,8 @@ use borrow.Fn.Kinds.{In}
 use borrow.Fn.PlainCycle.{Measures, is, falls, and}
 use Rattle.mos.specs.Patterns.{countOf}
 use Rattle.mos.proofs.Descent.{parent-falls, parent-keeps-pattern}
-use Rattle.mos.proofs.Sequences.{genesis-here, genesis-next, meets-here, meets-as}
+use Rattle.mos.proofs.Sequences.{genesis-here, genesis-next}
+use Rattle.mos_walks.proofs.Meeting.{meets-here, meets-as}
 use Rattle.mos_walks.proofs.parts.root.Reads as root
 use Rattle.mos_walks.proofs.parts.root.Kinds as root-kinds
 use Rattle.mos_walks.proofs.parts.+root.Lts-root as root-lts

@@ -7,7 +7,7 @@ use borrow.Fn.Kinds.{In}
 use borrow.Fn.PlainCycle.{Measures, is, falls, and}
 use Rattle.mos.specs.Patterns.{mos, stepsOf}
 use Rattle.mos.proofs.Descent.{child-at, child-falls, child-keeps-pattern}
-use Rattle.mos.proofs.Sequences.{meets-here, meets-none, meets-as}
+use Rattle.mos_walks.proofs.Meeting.{meets-here, meets-none, meets-as}
 use Rattle.mos_walks.proofs.Searches.{find-here, find-past, find-end, find-next}
 use Rattle.mos_walks.proofs.parts.seek.Reads as seek
 use Rattle.mos_walks.proofs.parts.seek.Kinds as seek-kinds

@@ -15,12 +15,6 @@ abbrev μ-loop : tie.MeasureT-loop
 loop-holds : tie.Need-loop-holds Inv-loop μ-loop
 loop-holds c = search needs
 
-space-requires : tie.Need-space-requires Inv-loop μ-loop
-space-requires c κs = search needs
-
-cast-put-name : tie.Need-cast-put-name Inv-loop μ-loop
-cast-put-name c = search needs
-
 put-name-requires : tie.Need-put-name-requires Inv-loop μ-loop
 put-name-requires c κs = search needs
 
@@ -32,9 +26,6 @@ loop-less c = search needs
 
 loop-again : tie.Need-loop-again Inv-loop μ-loop
 loop-again c = search needs
-
-end-line-requires : tie.Need-end-line-requires Inv-loop μ-loop
-end-line-requires c κs = search needs
 
 same-length : tie.Need-same-length Inv-loop μ-loop
 same-length c = search needs
@@ -49,12 +40,9 @@ put-names-spec =
     Inv-loop
     μ-loop
     loop-holds
-    space-requires
-    cast-put-name
     put-name-requires
     add-key
     loop-less
     loop-again
-    end-line-requires
     same-length
     returns)

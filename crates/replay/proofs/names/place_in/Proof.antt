@@ -1,15 +1,15 @@
--- No more names were passed, and no more bytes of one read, than bytes were.
-use Prim.Native.Nat.{_≤_, _-_}
+-- No more names were passed, and no more bytes of the line read from its start, than bytes of the names were.
+use Prim.Native.Nat.{_≤_, _+_, _-_}
 use lib.ListN.{length}
 use borrow.Author.Needs.{needs}
 use Rattle.replay.proofs.names.place_in.Statement.{statement}
 use Rattle.replay.proofs.names.place_in.Tie as tie
 
 abbrev Inv-loop : tie.InvT-loop
-Inv-loop names line end place₀ read₀ like₀ i₀ place read like i = (place ≤ i) × (read ≤ i) × (i ≤ length names)
+Inv-loop names line from end place₀ read₀ like₀ i₀ place read like i = (place ≤ i) × (read ≤ from + i) × (i ≤ length names)
 
 abbrev μ-loop : tie.MeasureT-loop
-μ-loop names line end place₀ read₀ like₀ i₀ place read like i = length names - i
+μ-loop names line from end place₀ read₀ like₀ i₀ place read like i = length names - i
 
 loop-holds : tie.Need-loop-holds Inv-loop μ-loop
 loop-holds c = search needs

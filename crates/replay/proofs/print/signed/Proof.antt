@@ -7,23 +7,20 @@ use borrow.Author.Needs.{needs}
 use Rattle.replay.proofs.print.signed.Statement.{statement}
 use Rattle.replay.proofs.print.signed.Tie as tie
 
-slice-aggregate-text : tie.Need-slice-aggregate-text
-slice-aggregate-text c = search needs
-
-text-requires : tie.Need-text-requires
-text-requires c κs = search needs
+letter-requires : tie.Need-letter-requires
+letter-requires c κs = search needs
 
 sub-mirror : tie.Need-sub-mirror
-sub-mirror c = mirror-fits w64 (c .before .before .before .args .n) (c .before .before .before .fits .n) (c .before .before .if1 .taken)
+sub-mirror c = mirror-fits w64 (c .before .before .args .n) (c .before .before .fits .n) (c .before .if1 .taken)
 
 cast-mirror : tie.Need-cast-mirror
-cast-mirror c = mirror-cast w64 (c .before .before .before .args .n) (c .before .before .before .fits .n) (c .before .before .if1 .taken)
+cast-mirror c = mirror-cast w64 (c .before .before .args .n) (c .before .before .fits .n) (c .before .if1 .taken)
 
 add-number : tie.Need-add-number
 add-number c =
-    let n = c .before .before .before .args .n in
-    let fits = c .before .before .before .fits .n in
-    let below = c .before .before .if1 .taken in
+    let n = c .before .before .args .n in
+    let fits = c .before .before .fits .n in
+    let below = c .before .if1 .taken in
     record { fits = omega (arith, not-negative-below w64 _ (mirror-fits w64 n fits below) (mirror-cast w64 n fits below .0)) }
 
 number-requires : tie.Need-number-requires
@@ -45,8 +42,7 @@ pub signed-spec : {M : Type 1} → statement M
 signed-spec =
     tie.close
     (tie.spec
-    slice-aggregate-text
-    text-requires
+    letter-requires
     sub-mirror
     cast-mirror
     add-number

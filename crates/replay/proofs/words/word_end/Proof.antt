@@ -1,4 +1,4 @@
--- The place is within the line; each turn moves it one byte on.
+-- Each turn moves the place one byte on.
 use Prim.Native.Nat.{_≤_, _-_}
 use lib.ListN.{length}
 use borrow.Author.Needs.{needs}
@@ -6,10 +6,10 @@ use Rattle.replay.proofs.words.word_end.Statement.{statement}
 use Rattle.replay.proofs.words.word_end.Tie as tie
 
 abbrev Inv-loop : tie.InvT-loop
-Inv-loop line at₀ at = at ≤ length line
+Inv-loop line from at₀ at = from ≤ at
 
 abbrev μ-loop : tie.MeasureT-loop
-μ-loop line at₀ at = length line - at
+μ-loop line from at₀ at = length line - at
 
 loop-holds : tie.Need-loop-holds Inv-loop μ-loop
 loop-holds c = search needs

@@ -1,9 +1,0 @@
-pub mod Turning
-pub mod Rounds
-pub mod Spelled
-pub mod BareNames
-pub mod LettersRead
-pub mod BareLengths
-pub mod PlacesAlong
-pub mod NamesLength
-pub mod Spellers
