@@ -52,6 +52,7 @@ static uint8_t text[512];
 
 static void call_numbers(void)
 {
+    IS(vn_version(), VN_VERSION);
     IS(vn_gcd(65535, 51), 51);
     IS(vn_rem(-65537, 12), 7);
 }
@@ -222,6 +223,14 @@ static void call_fractional_children(void)
     PATTERN(65534, 65535, 1, least, 1.0);
     patterns_untouched(__LINE__, 65535);
     IS(walk_from(least, 65534), -VN_ROOM);
+
+    /* The same lengths, without a slice. */
+    IS(vn_fractional_children_len(0.625), 4);
+    IS(vn_fractional_children_len(of_bits(0x3FE2B803473F7AD1)), 43);
+    IS(vn_fractional_children_len(-1.0), 1);
+    IS(vn_fractional_children_len(least), 65535);
+    IS(vn_fractional_children_len(infinity), -VN_FRACTIONAL_GENERATOR);
+    IS(vn_fractional_children_len(nothing), -VN_FRACTIONAL_GENERATOR);
 
     /* 22 goes before 10. */
     IS(walk_from(infinity, 64), -VN_FRACTIONAL_GENERATOR);

@@ -28,9 +28,9 @@ static int refused(const char *what, int64_t answer)
 /* Shows the layouts of an octave of so many steps: a school types this number alone. */
 static void show_division(uint16_t steps)
 {
-    uint16_t found[6 * 3]; /* chain, tritave, 1 for the second choice, of at most six layouts */
+    uint16_t found[5 * 3]; /* chain, tritave, 1 for the second choice, of at most five layouts */
     uint8_t chain[12], scale[12];
-    int64_t count = vn_find_by_edo(steps, found, 6 * 3), i;
+    int64_t count = vn_find_by_edo(steps, found, 5 * 3), i;
 
     if (refused("layouts", count))
         return;

@@ -27,6 +27,7 @@ static uint32_t found[2];
 /* Two neighbours of Fibonacci's sequence make the listings call themselves most often; nothing else that is left calls itself
  * more than once a digit. */
 #define CALLS(CALL) \
+    CALL(vn_version()) \
     CALL(vn_gcd(46368, 28657)) \
     CALL(vn_rem(-65537, 12)) \
     CALL(vn_pergen(46368, 28657, numbers, 3)) \
@@ -44,6 +45,8 @@ static uint32_t found[2];
     CALL(vn_mos_layers(5, 2, 9000, 7000, numbers, sizeof numbers / 2)) \
     CALL(vn_mos_key(5, 2, 2, 1, -32768, 32767, key, 1)) \
     CALL(vn_fractional_child(pattern, patterns, 1)) \
+    CALL(vn_fractional_children_len(1e-300)) \
+    CALL(vn_fractional_children_len(-1234567.891)) \
     CALL(vn_fractional_children(0.5849625007211562, patterns, sizeof patterns / 24)) \
     CALL(vn_fractional_children(-1234567.891, patterns, sizeof patterns / 24)) \
     CALL(vn_fractional_children(1e-300, patterns, sizeof patterns / 24)) \

@@ -4,7 +4,8 @@
  *
  * What the library runs on
  *   x86-64 Linux, C calling convention, size_t of 64 bits. It needs memset, memcpy and fmod, which a C library has (fmod often
- *   in a part of its own: link with -lm), and nothing else; it makes no system calls. Only vn_fractional_children calls fmod.
+ *   in a part of its own: link with -lm), and nothing else; it makes no system calls. Only
+ *   vn_fractional_children and vn_fractional_children_len call fmod.
  *   Stack: at most 1.125 KiB for any call, measured (1,080 bytes for vn_edo_report, 920 for vn_find_by_edo, 856 for
  *   vn_tritaves, 776 for vn_key_table, at most 472 for any other, with the memset and memcpy of glibc); examples/check
  *   measures it again.
@@ -20,8 +21,9 @@
  *   VN_PATTERN       4  Does the walk of step patterns meet one with as many steps as the chain has letters?
  *   VN_SYMBOLS       5  Is a free format's symbol count at least 1?
  *   VN_ORIGIN        6  Is its origin below that count?
- *   VN_SIZE          7  Are both products and the size of a given step pattern at most 65,535?
- *   VN_COPRIME_SIZE  8  Is the size after coprime at most 65,535?
+ *   VN_SIZE          7  Are both products of a step pattern that the caller gives, each of a count and its step, and their sum,
+ *                       the size, at most 65,535? (A layout's own pattern is never asked this.)
+ *   VN_COPRIME_SIZE  8  Is that sum after coprime at most 65,535?
  *   VN_LAMP_LAYER    9  Reserved: no call asks it since 7.0.0. It asked whether every sharp and flat layer number of the lamp
  *                       strip is below 100, and codes of 16 bits have room for all.
  *   VN_ROOM         10  Does the output slice hold the whole output? (Of a list that is put in another order: do both lists
@@ -44,6 +46,38 @@
  *   A signed number of 32 bits, and each of them is a key. It is first brought round the octave (in a pergen the period, for
  *   a layer all entries of vn_layout_layers, for a lamp all codes of vn_lamp_strip) with the remainder that is never negative:
  *   in 12 steps key -1 is named as key 11 is. A book alone has the keys from 0 to its count - 1 and no others (question 13).
+ *
+ * What the words mean
+ *   A period and a generator:
+ *     cycles          the greatest common divisor of both: so many chains of generators reach all keys
+ *     reduced period  the period divided by it: so many keys each chain has
+ *     inverse         so many generators, brought round the period, make as many keys as there are cycles
+ *     cycle           of a key: which chain it is in, from 0; absent where there is one chain
+ *     degree          of a key: how many generators, from 0, lead to it from its chain's first key, the one below the cycles
+ *   A step pattern, of a primary and a secondary count and a primary and a secondary step:
+ *     size            primary count x primary step + secondary count x secondary step
+ *     reduced size    the size divided by the greatest common divisor of the steps, which is 1 where both are 0
+ *     sharpness       the primary step minus the secondary one: by how many keys a sharp raises a note; below 0 it lowers it
+ *     child           the next finer pattern: the sum of the counts becomes the count of the shorter step, and the difference of
+ *                     the steps the longer step; none where a step is 0 or both are equal
+ *     parent          the next coarser one: the difference of the counts becomes the larger count, and the sum of the steps the
+ *                     step of the smaller count; none where a count is 0 or both are equal
+ *     genesis         of a period and a generator: counts 1 and 1, the generator's remainder by the period, and the rest of it
+ *     coprime         the pattern with another secondary step, close to the primary one and on the same side of it, such that
+ *                     no number above 1 divides both; the same pattern where none does already
+ *   A spelling is a letter with signs, which are sharps or flats, and with stars, which tell the cycle.
+ *
+ * How long an output is
+ *   At each call stands how many elements it writes, or at most; vn_note_name_len, vn_fractional_children_len, vn_kbm_len and
+ *   vn_book_len tell it for names, fractional walks, mappings and books. Where a slice is too short, the call is refused with
+ *   10, and may be made again with a longer one.
+ *
+ * How long a call takes
+ *   Each call that is given a layout makes it anew; that takes hardly longer in a large octave than in a small one, and so do the
+ *   calls that give one number, but for vn_kbm_len and vn_fractional_children_len, which take about as long as what they
+ *   measure. A call that writes takes a time that grows with what it writes. Walks go from pattern to pattern, vn_mos_find up
+ *   to the one that it finds and vn_mos_genesis to the end; at vn_mos_children and vn_mos_parents stands how many there are at
+ *   most.
  *
  * What a start is
  *   The index of key 0's letter among the chain's letters, from 0; each letter may stand on key 0. The chain's own start, which
@@ -95,36 +129,21 @@ extern "C" {
 #define VN_FLAT 3
 
 /* The version of this header. The first number changes where a call, a number above or an answer is changed or taken away,
- * the second where some are added, the third where neither is so.
- *   7.7.0: vn_fractional_child, vn_fractional_children, which asks 22, and struct vn_fractional are added. The library needs
- *          fmod from here on, so programs are linked with -lm.
- *   7.6.0: vn_sheet and struct vn_record are added.
- *   7.5.0: vn_kbm_len, vn_kbm and vn_kbm_read are added, of which the last asks 19 and 20.
- *   7.4.0: vn_moved, vn_move_table and vn_largest_move are added.
- *   7.3.0: vn_tritaves, vn_find_by_edo and vn_edo_report are added, of which the first two ask 15, VN_DIVISION.
- *   7.2.0: vn_to_chain_order, vn_to_key_order, vn_moves and vn_walk_moves are added.
- *   7.1.0: vn_nearest_natural and vn_keys_in_reach are added.
- *   7.0.0: a lamp code is a uint16_t; it was a uint8_t. Home, natural, sharp 0 and flat 99 keep 0, 1, 2 and 201, and all other
- *          codes are new ones. vn_lamp_strip, vn_lamp and the key table ask 9 no more, and so answer for layouts that they
- *          refused with it. vn_widen_strip and vn_narrow_strip, which ask 17, convert strips that were stored before.
- *   6.0.0: a key whole octaves from key 0 is home, whatever its layer: in a strip of two octaves the code at the octave is 0,
- *          and so is vn_lamp of its keys. All other codes are what they were.
- *   5.0.0: at sharpness 0, where both steps are equal, vn_lamp_strip writes two octaves, and vn_lamp repeats after both. All
- *          other strips, and the first octave of these, have the codes that they had.
- *   4.0.0: a layout has a start, a uint16_t behind its tritave in every call, and each of these calls asks 18. With the
- *          chain's own start they have the answers that they had.
- *   3.0.0: a key is an int32_t; it was a uint16_t, and a uint32_t in vn_book_find. Keys from 0 to 65,535 have the answers
- *          that they had.
- *   2.0.0: vn_sounded_key takes signs as one number, and asks 16 and 21.
- *   1.0.0, before these numbers stood here: it took sharps and flats as two numbers, and asked 15, VN_SPELLING. */
+ * the second where some are added, the third where neither is so. docs/CHANGELOG.md tells what each version brought. vn_version
+ * tells the library's own. */
 #define VN_VERSION_MAJOR 7
-#define VN_VERSION_MINOR 7
+#define VN_VERSION_MINOR 8
 #define VN_VERSION_PATCH 0
+#define VN_VERSION (VN_VERSION_MAJOR * 65536 + VN_VERSION_MINOR * 256 + VN_VERSION_PATCH)
 
 /* The library was built for a size_t of 64 bits; with any other this line does not compile. */
 typedef char vn_size_t_has_64_bits[sizeof(size_t) == 8 ? 1 : -1];
 
 /* ---- numbers */
+
+/* The version of the library that is linked, as VN_VERSION has the header's. Where the two are not the same, the header is not this
+ * library's: an older one answers another number, and before 7.8.0 there is no such function. Never refused. */
+int64_t vn_version(void);
 
 /* The greatest common divisor; 0 and 0 give 1. Never refused. */
 int64_t vn_gcd(uint16_t x, uint16_t y);
@@ -155,7 +174,7 @@ int64_t vn_mos_child(uint16_t primary_count, uint16_t secondary_count, uint16_t 
 int64_t vn_mos_parent(uint16_t primary_count, uint16_t secondary_count, uint16_t primary_step, uint16_t secondary_step,
                       uint16_t *out, size_t len);
 
-/* Writes the 4 numbers of the pattern that the walk of parents ends with. Asks 7, 10. */
+/* Writes the 4 numbers of the pattern that the walk of parents ends with: of a layout's pattern the genesis. Asks 7, 10. */
 int64_t vn_mos_genesis(uint16_t primary_count, uint16_t secondary_count, uint16_t primary_step, uint16_t secondary_step,
                        uint16_t *out, size_t len);
 
@@ -169,21 +188,22 @@ int64_t vn_mos_find(uint16_t period, uint16_t generator, uint16_t steps, uint16_
 
 /* Writes the moves of every pattern on that walk, the genesis first, 4 numbers a pattern: octaves and generators of the primary
  * move, then of the secondary one. Octaves times the period plus generators times the generator are the pattern's step. The
- * patterns are those that vn_mos_children writes for the genesis, in its order; there are at most as many as the period. Each
- * number lies between -65,535 and 65,536. Asks 2, 10. */
+ * patterns are those that vn_mos_children writes for the genesis, in its order; there are at most as many as the period, so room
+ * for 4 x period numbers is always enough. Each number lies between -65,535 and 65,536. Asks 2, 10. */
 int64_t vn_walk_moves(uint16_t period, uint16_t generator, int32_t *out, size_t len);
 
 /* Writes the whole walk of children, the given pattern first, 4 numbers a pattern. There are at most
- * primary_step + secondary_step + 1 patterns. Asks 7, 10. */
+ * primary_step + secondary_step + 1 patterns, so room for four times as many numbers is always enough. Asks 7, 10. */
 int64_t vn_mos_children(uint16_t primary_count, uint16_t secondary_count, uint16_t primary_step, uint16_t secondary_step,
                         uint16_t *out, size_t len);
 
 /* Writes the whole walk of parents, the given pattern first, 4 numbers a pattern. There are at most
- * primary_count + secondary_count + 1 patterns. Asks 7, 10. */
+ * primary_count + secondary_count + 1 patterns, so room for four times as many numbers is always enough. Asks 7, 10. */
 int64_t vn_mos_parents(uint16_t primary_count, uint16_t secondary_count, uint16_t primary_step, uint16_t secondary_step,
                        uint16_t *out, size_t len);
 
-/* Writes each layer's number, from 0, as often as the layer's size: as many numbers as the reduced size. Asks 7, 10. */
+/* Writes each layer's number, from 0, as often as the layer's size: as many numbers as the reduced size, so the size is always
+ * enough. Asks 7, 10. */
 int64_t vn_mos_layers(uint16_t primary_count, uint16_t secondary_count, uint16_t primary_step, uint16_t secondary_step,
                       uint16_t *out, size_t len);
 
@@ -211,10 +231,13 @@ typedef char vn_double_has_8_bytes[sizeof(double) == 8 ? 1 : -1];
  * longer step. Any struct is answered, also with steps that are infinite or below 0. Asks 10. */
 int64_t vn_fractional_child(struct vn_fractional pattern, struct vn_fractional *out, size_t len);
 
+/* How many patterns the walk of children from a generator has, which vn_fractional_children writes: at most 65,535. Asks 22. */
+int64_t vn_fractional_children_len(double generator);
+
 /* Writes the whole walk of children from a generator, the genesis first: counts 1 and 1; the primary step is the generator's
  * remainder by 1, with 1 added where that is below 0, and the secondary one 1 minus it. A generator of k / 65,536, k from 0 to
- * 65,535, has the walk of period 65,536 and generator k, each step divided by 65,536. There are at most 65,535 patterns.
- * Asks 22, 10. */
+ * 65,535, has the walk of period 65,536 and generator k, each step divided by 65,536. There are as many patterns as
+ * vn_fractional_children_len says. Asks 22, 10. */
 int64_t vn_fractional_children(double generator, struct vn_fractional *out, size_t len);
 
 /* ---- chains of letters, by their code from 0 to 5 */
@@ -238,8 +261,8 @@ int64_t vn_tritaves(uint16_t n, uint16_t *out, size_t len);
 
 /* Writes the layouts of n steps, at most one for each chain, by the chain's code, rising; 3 numbers a layout: the chain, the
  * tritave, and 1 where that is the second choice, else 0. A chain has the layout of the tritave, or, where there is none, that of
- * the second choice. There are at most 18 numbers; 1 to 4 and 6 steps have no layout, and 0 numbers. Each layout is asked about by
- * its chain, n, its tritave and a start, such as vn_start gives. Asks 15, 10. */
+ * the second choice. There are at most 15 numbers, since no n has a layout for all six chains; 1 to 4 and 6 steps have no layout,
+ * and 0 numbers. Each layout is asked about by its chain, n, its tritave and a start, such as vn_start gives. Asks 15, 10. */
 int64_t vn_find_by_edo(uint16_t n, uint16_t *out, size_t len);
 
 /* Writes a report over all n from 1 to 400 in ASCII, without a 0 at the end: a line for each chain, rising, of the chain's code and
@@ -260,7 +283,7 @@ int64_t vn_scale_name(uint16_t chain, uint16_t octave, uint16_t tritave, uint16_
 /* How many bytes a key's name has: at most 39,325. Asks 1, 2, 3, 4, 18. */
 int64_t vn_note_name_len(uint16_t chain, uint16_t octave, uint16_t tritave, uint16_t start, int32_t key);
 
-/* Writes a key's name in UTF-8, without a 0 at the end. Asks 1, 2, 3, 4, 18, 10. */
+/* Writes a key's name in UTF-8, without a 0 at the end: as many bytes as vn_note_name_len says. Asks 1, 2, 3, 4, 18, 10. */
 int64_t vn_note_name(uint16_t chain, uint16_t octave, uint16_t tritave, uint16_t start, int32_t key, uint8_t *out,
                      size_t len);
 
@@ -286,34 +309,40 @@ int64_t vn_keys_in_reach(uint16_t chain, uint16_t octave, uint16_t tritave, uint
                          uint16_t *out, size_t len);
 
 /* ---- retunings: two layouts of one chain, octave and start, with one tritave before and another after. A key moves round the
- * octave, the shorter way. The first layout's questions go before the second's, of which only 3 and 4 can have the answer no. */
+ * octave, the shorter way. The first layout's questions go before the second's, of which only 3 and 4 can have the answer no.
+ * What both layouts share comes first: here the start goes before the tritaves, in all other calls behind the tritave. */
 
 /* How many steps the key moves that a spelling sounds: a letter, by its index along the chain from 0; signs, as many sharps as
- * the number is above 0, or flats as it is below; and stars. Asks 1, 2, 3, 4, 18, of the second layout 3, 4, then 16, 21. */
+ * the number is above 0, or flats as it is below; and stars.
+ * Order of arguments: chain, octave, start, then the tritaves; the start comes before them, since both layouts share it.
+ * Asks 1, 2, 3, 4, 18, of the second layout 3, 4, then 16, 21. */
 int64_t vn_moved(uint16_t chain, uint16_t octave, uint16_t start, uint16_t from_tritave, uint16_t to_tritave, uint16_t letter,
                  int32_t signs, uint16_t stars);
 
 /* Writes the moves of all letters with up to eight signs, without stars, on which no move depends: letter by letter along the
- * chain, 17 numbers each, from eight flats to eight sharps; at most 153. Asks 1, 2, 3, 4, 18, of the second layout 3, 4, then
- * 10. */
+ * chain, 17 numbers each, from eight flats to eight sharps: 17 times as many numbers as the chain has letters, at most 153.
+ * Order of arguments: chain, octave, start, then the tritaves; the start comes before them, since both layouts share it.
+ * Asks 1, 2, 3, 4, 18, of the second layout 3, 4, then 10. */
 int64_t vn_move_table(uint16_t chain, uint16_t octave, uint16_t start, uint16_t from_tritave, uint16_t to_tritave,
                       uint16_t *out, size_t len);
 
-/* The largest number that vn_move_table writes. Asks 1, 2, 3, 4, 18, of the second layout 3, 4. */
+/* The largest number that vn_move_table writes.
+ * Order of arguments: chain, octave, start, then the tritaves; the start comes before them, since both layouts share it.
+ * Asks 1, 2, 3, 4, 18, of the second layout 3, 4. */
 int64_t vn_largest_move(uint16_t chain, uint16_t octave, uint16_t start, uint16_t from_tritave, uint16_t to_tritave);
 
 /* ---- chain order of a layout's keys, and moves on its board */
 
 /* Writes a list's entries, the first one for each key of the octave, in the order of the chain: the entry of key i goes to
  * cycle x reduced period + degree, as vn_generation gives them (an absent cycle is 0). Entries are any numbers; what the list
- * has past the octave is not read. Both lists have at least as many entries as the octave has keys, else 10 has the answer no.
- * Asks 1, 2, 3, 4, 18, 10. */
+ * has past the octave is not read. Both lists have at least as many entries as the octave has keys, else 10 has the answer no,
+ * and so many are written. Asks 1, 2, 3, 4, 18, 10. */
 int64_t vn_to_chain_order(uint16_t chain, uint16_t octave, uint16_t tritave, uint16_t start, const uint16_t *keys,
                           size_t keys_len, uint16_t *out, size_t len);
 
 /* Writes a list that is in the order of the chain in the order of keys again: key i gets the entry at
  * cycle x reduced period + degree. Each of the two calls undoes the other. Both lists have at least as many entries as the
- * octave has keys, else 10 has the answer no. Asks 1, 2, 3, 4, 18, 10. */
+ * octave has keys, else 10 has the answer no, and so many are written. Asks 1, 2, 3, 4, 18, 10. */
 int64_t vn_to_key_order(uint16_t chain, uint16_t octave, uint16_t tritave, uint16_t start, const uint16_t *keys,
                         size_t keys_len, uint16_t *out, size_t len);
 
@@ -330,7 +359,8 @@ int64_t vn_moves(uint16_t chain, uint16_t octave, uint16_t tritave, uint16_t sta
 /* How many layer numbers there are: T. Asks 1, 2, 3, 4, 18. */
 int64_t vn_layer_count(uint16_t chain, uint16_t octave, uint16_t tritave, uint16_t start);
 
-/* Writes the layer number of each key of the octave, of two octaves at sharpness 0. Asks 1, 2, 3, 4, 18, 10. */
+/* Writes the layer number of each key of the octave, of two octaves at sharpness 0. Room for 2 x octave numbers is always enough.
+ * Asks 1, 2, 3, 4, 18, 10. */
 int64_t vn_layout_layers(uint16_t chain, uint16_t octave, uint16_t tritave, uint16_t start, uint16_t *out, size_t len);
 
 /* The layer number of one key, of any octave: what vn_layout_layers writes repeats, upwards and downwards, after all of its
@@ -357,8 +387,8 @@ int64_t vn_lamp(uint16_t chain, uint16_t octave, uint16_t tritave, uint16_t star
  * 65,535. Any bytes are answered: 17 has the answer no where a code is from 202 to 254. Asks 17, 10. */
 int64_t vn_widen_strip(const uint8_t *strip, size_t strip_len, uint16_t *out, size_t len);
 
-/* Writes the strip that vn_widen_strip makes these codes of, a byte for each code. 17 has the answer no where there is none:
- * where a code is from 202 to 65,534. Asks 17, 10. */
+/* Writes the strip that vn_widen_strip makes these codes of, a byte for each code, as many of them. 17 has the answer no where
+ * there is none: where a code is from 202 to 65,534. Asks 17, 10. */
 int64_t vn_narrow_strip(const uint16_t *strip, size_t strip_len, uint8_t *out, size_t len);
 
 /* ---- Scala keyboard mappings (.kbm files) of a layout, for other synthesizers. Seven lines come first: size, first and last
@@ -369,7 +399,7 @@ int64_t vn_narrow_strip(const uint16_t *strip, size_t strip_len, uint8_t *out, s
 /* How many bytes the mapping of a layout has: at most 6 x octave + 35. Asks 1, 2, 3, 4, 18. */
 int64_t vn_kbm_len(uint16_t chain, uint16_t octave, uint16_t tritave, uint16_t start);
 
-/* Writes the mapping of a layout in ASCII, without a 0 at the end. Asks 1, 2, 3, 4, 18, 10. */
+/* Writes the mapping of a layout in ASCII, without a 0 at the end: as many bytes as vn_kbm_len says. Asks 1, 2, 3, 4, 18, 10. */
 int64_t vn_kbm(uint16_t chain, uint16_t octave, uint16_t tritave, uint16_t start, uint8_t *out, size_t len);
 
 /* Writes the keys that a mapping for a layout maps, rising: any choice of keys, at most as many as the octave has. Of what vn_kbm
@@ -405,11 +435,12 @@ int64_t vn_sheet(uint16_t chain, uint16_t octave, uint16_t tritave, uint16_t sta
 
 /* ---- books of key names, and key tables */
 
-/* How many bytes the book of a layout's key names has. Asks 1, 2, 3, 4, 18. */
+/* How many bytes the book of a layout's key names has. The longest of all has 307,321,697, with chain 5, octave 65,534 and tritave
+ * 56,172; with chain 1, twelve keys have 132 (tritave 19) and 31 have 333 (tritave 49). Asks 1, 2, 3, 4, 18. */
 int64_t vn_book_len(uint16_t chain, uint16_t octave, uint16_t tritave, uint16_t start);
 
 /* Writes the book: a count, an offset and a length for each key of the octave (4 bytes each, least first), then the
- * names. Asks 1, 2, 3, 4, 18, 10. */
+ * names; as many bytes as vn_book_len says. Asks 1, 2, 3, 4, 18, 10. */
 int64_t vn_book(uint16_t chain, uint16_t octave, uint16_t tritave, uint16_t start, uint8_t *out, size_t len);
 
 /* Writes 2 numbers: at which offset of the book, and in how many bytes, a key's name stands. Any bytes are answered, and the

@@ -1,11 +1,81 @@
-//! The C interface, as `include/vetchnoon.h` declares it.
+//! The C interface, as `include/vetchnoon.h` declares it, for callers who lend slices of their own.
+//!
+//! A function returns the answer, or how many elements it wrote; or, below 0, minus the number of
+//! the first question that has the answer no. [`answered`] reads it.
+//!
+//! # Safety
+//!
+//! A slice is a pointer to its first element and the number of its elements. All of them are
+//! readable, and those of an output slice writable. The pointer is aligned and not null, even where
+//! the number is 0. An output slice overlaps no other slice of the call.
+//!
+//! ```
+//! use vetchnoon::c;
+//!
+//! let mut numbers = [0; 3];
+//! // SAFETY: the slice has so many elements, and is lent for the call.
+//! let answer = unsafe { c::vn_pergen(12, 9, numbers.as_mut_ptr(), numbers.len()) };
+//! assert_eq!(c::answered(answer), Ok(3));
+//! assert_eq!(numbers, [3, 4, 3]);
+//! ```
+
+// The header says what each function does.
+#![allow(missing_docs)]
 
 use crate::Fractional;
+use crate::Question;
 use crate::Record;
+use crate::Refused;
 
+/// What a function's answer says: the number that it is, or the question that refused it.
+///
+/// ```
+/// use vetchnoon::{Question, Refused, c};
+///
+/// assert_eq!(c::answered(12), Ok(12));
+/// assert_eq!(c::answered(-4), Err(Refused(Question::Pattern)));
+/// ```
+///
+/// # Panics
+///
+/// Where no question of this version has the number: the library is of another version.
+pub fn answered(answer: i64) -> Result<usize, Refused> {
+    usize::try_from(answer).map_err(|_| {
+        let question = u8::try_from(answer.unsigned_abs()).ok();
+        let question = question.and_then(Question::from_number);
+        Refused(question.expect("a refusal's number is a question's"))
+    })
+}
+
+/// Lends a slice to a call, as its first element and the number of its elements.
+pub(crate) fn lent<T>(
+    out: &mut [T],
+    call: impl FnOnce(*mut T, usize) -> i64,
+) -> Result<usize, Refused> {
+    answered(call(out.as_mut_ptr(), out.len()))
+}
+
+/// What a call writes into room for `N` elements, and how many it writes; the others are as they
+/// were made.
+pub(crate) fn written<T: Copy + Default, const N: usize>(
+    call: impl FnOnce(*mut T, usize) -> i64,
+) -> Result<(usize, [T; N]), Refused> {
+    let mut out = [T::default(); N];
+    let length = lent(&mut out, call)?;
+    Ok((length, out))
+}
+
+/// A number that the library answers, which fits its type.
+pub(crate) fn number(answer: i64) -> Result<u16, Refused> {
+    let number = answered(answer)?;
+    Ok(u16::try_from(number).expect("a number of the octave has 16 bits"))
+}
+
+// SAFETY: these are the header's declarations; a function that takes numbers alone may be called with any.
 unsafe extern "C" {
-    pub fn vn_gcd(x: u16, y: u16) -> i64;
-    pub fn vn_rem(numer: i32, denom: u16) -> i64;
+    pub safe fn vn_version() -> i64;
+    pub safe fn vn_gcd(x: u16, y: u16) -> i64;
+    pub safe fn vn_rem(numer: i32, denom: u16) -> i64;
 
     pub fn vn_pergen(period: u16, generator: u16, out: *mut u16, len: usize) -> i64;
     pub fn vn_generation(period: u16, generator: u16, key: i32, out: *mut u16, len: usize) -> i64;
@@ -40,11 +110,12 @@ unsafe extern "C" {
     pub fn vn_walk_moves(period: u16, generator: u16, out: *mut i32, len: usize) -> i64;
 
     pub fn vn_fractional_child(pattern: Fractional, out: *mut Fractional, len: usize) -> i64;
+    pub safe fn vn_fractional_children_len(generator: f64) -> i64;
     pub fn vn_fractional_children(generator: f64, out: *mut Fractional, len: usize) -> i64;
 
     pub fn vn_chain_letters(chain: u16, out: *mut u16, len: usize) -> i64;
     pub fn vn_chain_name(chain: u16, out: *mut u8, len: usize) -> i64;
-    pub fn vn_start(chain: u16) -> i64;
+    pub safe fn vn_start(chain: u16) -> i64;
 
     pub fn vn_tritaves(n: u16, out: *mut u16, len: usize) -> i64;
     pub fn vn_find_by_edo(n: u16, out: *mut u16, len: usize) -> i64;
@@ -75,7 +146,13 @@ unsafe extern "C" {
         out: *mut u8,
         len: usize,
     ) -> i64;
-    pub fn vn_note_name_len(chain: u16, octave: u16, tritave: u16, start: u16, key: i32) -> i64;
+    pub safe fn vn_note_name_len(
+        chain: u16,
+        octave: u16,
+        tritave: u16,
+        start: u16,
+        key: i32,
+    ) -> i64;
     pub fn vn_layout_accidentals(
         chain: u16,
         octave: u16,
@@ -85,7 +162,7 @@ unsafe extern "C" {
         out: *mut u16,
         len: usize,
     ) -> i64;
-    pub fn vn_sounded_key(
+    pub safe fn vn_sounded_key(
         chain: u16,
         octave: u16,
         tritave: u16,
@@ -95,7 +172,7 @@ unsafe extern "C" {
         stars: u16,
     ) -> i64;
 
-    pub fn vn_nearest_natural(
+    pub safe fn vn_nearest_natural(
         chain: u16,
         octave: u16,
         tritave: u16,
@@ -114,7 +191,7 @@ unsafe extern "C" {
         len: usize,
     ) -> i64;
 
-    pub fn vn_moved(
+    pub safe fn vn_moved(
         chain: u16,
         octave: u16,
         start: u16,
@@ -133,7 +210,7 @@ unsafe extern "C" {
         out: *mut u16,
         len: usize,
     ) -> i64;
-    pub fn vn_largest_move(
+    pub safe fn vn_largest_move(
         chain: u16,
         octave: u16,
         start: u16,
@@ -170,7 +247,7 @@ unsafe extern "C" {
         len: usize,
     ) -> i64;
 
-    pub fn vn_layer_count(chain: u16, octave: u16, tritave: u16, start: u16) -> i64;
+    pub safe fn vn_layer_count(chain: u16, octave: u16, tritave: u16, start: u16) -> i64;
     pub fn vn_layout_layers(
         chain: u16,
         octave: u16,
@@ -179,7 +256,7 @@ unsafe extern "C" {
         out: *mut u16,
         len: usize,
     ) -> i64;
-    pub fn vn_layer(chain: u16, octave: u16, tritave: u16, start: u16, key: i32) -> i64;
+    pub safe fn vn_layer(chain: u16, octave: u16, tritave: u16, start: u16, key: i32) -> i64;
     pub fn vn_layer_kind(total: u16, number: u16, out: *mut u16, len: usize) -> i64;
     pub fn vn_lamp_strip(
         chain: u16,
@@ -189,10 +266,10 @@ unsafe extern "C" {
         out: *mut u16,
         len: usize,
     ) -> i64;
-    pub fn vn_lamp(chain: u16, octave: u16, tritave: u16, start: u16, key: i32) -> i64;
+    pub safe fn vn_lamp(chain: u16, octave: u16, tritave: u16, start: u16, key: i32) -> i64;
     pub fn vn_widen_strip(strip: *const u8, strip_len: usize, out: *mut u16, len: usize) -> i64;
     pub fn vn_narrow_strip(strip: *const u16, strip_len: usize, out: *mut u8, len: usize) -> i64;
-    pub fn vn_kbm_len(chain: u16, octave: u16, tritave: u16, start: u16) -> i64;
+    pub safe fn vn_kbm_len(chain: u16, octave: u16, tritave: u16, start: u16) -> i64;
     pub fn vn_kbm(
         chain: u16,
         octave: u16,
@@ -221,7 +298,7 @@ unsafe extern "C" {
         len: usize,
     ) -> i64;
 
-    pub fn vn_book_len(chain: u16, octave: u16, tritave: u16, start: u16) -> i64;
+    pub safe fn vn_book_len(chain: u16, octave: u16, tritave: u16, start: u16) -> i64;
     pub fn vn_book(
         chain: u16,
         octave: u16,

@@ -1,7 +1,7 @@
 -- Calls on fractional patterns: a listing in a slice, and what a child comes to.
-use Prim.Native.Nat.{ℕ, _≤_, _<_}
+use Prim.Native.Nat.{ℕ, _≤_, _<_, _^_}
 use mathlib.Core.Path.{_≡_, refl, sym, ap, _∙_}
-use mathlib.Core.Bool.{true, false}
+use mathlib.Core.Bool.{Bool, true, false}
 use mathlib.Core.Option.{none, some}
 use mathlib.Core.List.{List, [], _∷_}
 use native.Mathlib.Omega.{arith}
@@ -9,20 +9,33 @@ use lib.Ieee.{Float}
 use lib.IntN.{ℤ, pos, negℤ}
 use lib.ListN.{length, drop, set}
 use borrow.Author.Tests.{le-leb, lt-leb}
-use Rattle.answer.specs.Outcome.{Outcome, given, refused}
+use Rattle.answer.specs.Outcome.{Outcome, given, refused, ask}
 use Rattle.answer.specs.Lent.{heldIn, inRoom, counted, written}
+use Rattle.answer.specs.Refusals.{countOutcome}
+use Rattle.answer.specs.declared.CountAnswer.{CountAnswer}
+use Rattle.answer.specs.declared.CountAnswer.the-variants as Count
 use Rattle.answer.proofs.Asked.{ask-then}
 use Rattle.mos_fractional.specs.declared.FractionalMos.{FractionalMos}
 use Rattle.mos_fractional.specs.Fractional.{isFinite, childOf}
 use Rattle.mos_fractional.specs.Walk.{childrenFrom}
-use Rattle.mos_fractional.specs.Answers.{ofGenerator, listingOutcome}
-use Rattle.vetchnoon_codes.specs.Codes.{codeOf}
+use Rattle.mos_fractional.specs.Answers.{ofGenerator, lengthOutcome, listingOutcome}
+use Rattle.mos_fractional.proofs.Theorems.{walk-is-whole}
+use Rattle.vetchnoon_codes.specs.Codes.{codeOf, SmallCount}
 use Rattle.vetchnoon.specs.FractionalPatterns.{childPatterns, putFirst, PlansChild}
 
 -- ---- a listing
 
 pub patterns-in-room : (room : ℕ) (g : Float) → inRoom room (ofGenerator g (childrenFrom g)) ≡ listingOutcome g room
 patterns-in-room room g = ask-then 22 (isFinite g) (given (childrenFrom g)) (heldIn room)
+
+-- how many there are fits
+pub small-length : (g : Float) (a : CountAnswer) → countOutcome a ≡ lengthOutcome g → SmallCount a
+small-length g (Count.Given n) e = by (isFinite g) e
+  where
+    by : (b : Bool) → given n ≡ ask 22 b (given (length (childrenFrom g))) → n < 2 ^ 63
+    by true e = let same : n ≡ length (childrenFrom g) = cc in omega (arith, same, walk-is-whole .ends g)
+    by false e = absurd (let y : _≡_ {A = ℕ} 0 1 = cc in omega arith)
+small-length g (Count.Refused q) e = tt
 
 -- ---- a child
 

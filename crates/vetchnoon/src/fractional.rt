@@ -2,11 +2,12 @@
 use answer::Refusal;
 use mos_fractional::ChildAnswer;
 use mos_fractional::FractionalMos;
+ghost use mathlib.Core.Path.{_≡_};
 ghost use Rattle.answer.specs.Outcome.{given};
 ghost use Rattle.mos_fractional.specs.Fractional.{childOf};
 ghost use Rattle.mos_fractional.specs.Walk.{childrenFrom};
-ghost use Rattle.mos_fractional.specs.Answers.{ofGenerator};
-ghost use Rattle.vetchnoon_codes.specs.Codes.{Fills};
+ghost use Rattle.mos_fractional.specs.Answers.{ofGenerator, lengthOutcome};
+ghost use Rattle.vetchnoon_codes.specs.Codes.{codeOf, Fills};
 ghost use Rattle.vetchnoon.specs.FractionalPatterns.{childPatterns, PlansChild};
 
 // What is answered for a child, and whether it is stored.
@@ -57,7 +58,15 @@ pub extern "C" fn vn_fractional_child(pattern: FractionalMos, out: &mut [Fractio
     plan.code
 }
 
-// All patterns of a generator's walk, the genesis first (22, 10).
+// How many patterns a generator's walk has (22).
+#[no_mangle]
+pub extern "C" fn vn_fractional_children_len(generator: f64) -> i64
+    ensures { λ r. ⌜ r ≡ codeOf (lengthOutcome generator) ⌝ }
+{
+    vetchnoon_codes::count(mos_fractional::children_len(generator))
+}
+
+// All patterns of that walk, the genesis first (22, 10).
 #[no_mangle]
 pub extern "C" fn vn_fractional_children(generator: f64, out: &mut [FractionalMos]) -> i64
     ensures { λ r. ⌜ Fills (ofGenerator generator (childrenFrom generator)) r (now (out .entry)) (now (out .exit)) ⌝ }

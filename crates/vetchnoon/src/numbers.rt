@@ -6,6 +6,7 @@ use pergen::GenerationAnswer;
 use pergen::PerGen;
 use pergen::euclid;
 ghost use mathlib.Core.Path.{_≡_};
+ghost use Prim.Native.Nat.{_+_, _*_};
 ghost use lib.IntN.{pos};
 ghost use Rattle.math.specs.Answers.{remOutcome};
 ghost use Rattle.math.specs.Gcd.{gcdOrOne};
@@ -13,6 +14,14 @@ ghost use Rattle.pergen.specs.Answers.{getGeneration, getAccidentals};
 ghost use Rattle.vetchnoon_codes.specs.Codes.{codeOf, Fills};
 ghost use Rattle.vetchnoon_codes.specs.Numbers.{asNumbers, accidentalsNumbers};
 ghost use Rattle.vetchnoon.specs.Written.{pergen, format, pergenOutput, presence, generationNumbers};
+
+// The version, 7.8.0, in one number, as VN_VERSION of the header is.
+#[no_mangle]
+pub extern "C" fn vn_version() -> i64
+    ensures { λ r. ⌜ r ≡ pos (7 * 65536 + 8 * 256 + 0) ⌝ }
+{
+    460800
+}
 
 // The greatest common divisor; 0 and 0 give 1.
 #[no_mangle]

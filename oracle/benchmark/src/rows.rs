@@ -29,6 +29,8 @@ use tune::layout::IsomorphicLayout;
 use tune::layout::Layer;
 use tune::pergen::Mos;
 use tune::temperament::Val;
+use vetchnoon::Move;
+use vetchnoon::Moves;
 use vetchnoon::Pattern;
 use vetchnoon::Record;
 use vetchnoon::Retuning;
@@ -53,7 +55,7 @@ pub struct Numbers(u16, u16, u16);
 const SMALL: Numbers = Numbers(1, 12, 19);
 const MIDDLE: Numbers = Numbers(1, 311, 493);
 const LARGE: Numbers = Numbers(1, 2400, 3800);
-/// The layout with the longest names and the longest book.
+/// The layout with the longest names.
 const LARGEST: Numbers = Numbers(2, 65534, 65535);
 /// Larger layouts had too many layers for a strip of one-byte codes.
 const LARGEST_OLD_STRIP: Numbers = Numbers(0, 1817, 3432);
@@ -146,7 +148,7 @@ impl Numbers {
 
     /// What ours takes.
     fn layout(self) -> vetchnoon::Layout {
-        vetchnoon::Layout::new(self.0, self.1, self.2)
+        vetchnoon::Layout::new(self.0, self.1, self.2).expect("a chain")
     }
 
     /// What the original makes a layout from, prepared beforehand.
@@ -207,9 +209,8 @@ fn make(what: &'static str, sweep: Vec<(Numbers, Val)>) -> Row {
         "octaves 5 to 72",
         (sweep.len(), "layout"),
         move || {
-            let mut numbers = [0; 8];
             ours.iter()
-                .filter(|given| vetchnoon::layout(**given, &mut numbers).is_ok())
+                .filter(|given| vetchnoon::layout(**given).is_ok())
                 .count()
         },
         move || {
@@ -292,14 +293,13 @@ fn accidentals<L: Borrow<IsomorphicLayout>>(
     let given = n.layout();
     let keys = octave.keys(n);
     let same_keys = keys.clone();
-    let mut spelled = [0; 4];
     n.row_of_keys(
         what,
         move || {
             keys.clone()
                 .map(|key| {
-                    vetchnoon::layout_accidentals(given, key, &mut spelled).unwrap();
-                    usize::from(spelled[1]) + usize::from(spelled[3])
+                    let spelled = vetchnoon::layout_accidentals(given, key).unwrap();
+                    usize::from(spelled.sharp_count) + usize::from(spelled.flat_count)
                 })
                 .sum()
         },
@@ -541,7 +541,7 @@ fn pattern_layers(n: Numbers) -> Row {
         "layers of the pattern",
         n.words(),
         (mos.reduced_size().into(), "note"),
-        move || vetchnoon::mos_layers(patterns::numbers(mos), &mut layers).unwrap(),
+        move || vetchnoon::mos_layers(pattern(mos), &mut layers).unwrap(),
         move || mos.get_layers().len(),
     )
 }
@@ -628,24 +628,19 @@ fn sheet(n: Numbers) -> Row {
 fn sheet_and_single_calls(n: Numbers) -> Row {
     let given = n.layout();
     let mut records = records(n);
-    let mut numbers = [0; 8];
     n.row_of_keys("a sheet of an octave", filled(n), move || {
-        vetchnoon::layout(given, &mut numbers).unwrap();
-        let generator = numbers[0];
+        let generator = vetchnoon::layout(given).unwrap().generator;
         for record in &mut records {
             let key = record.key;
-            let mut spelt = [0; 4];
-            let mut generation = [0; 3];
-            vetchnoon::layout_accidentals(given, key, &mut spelt).unwrap();
-            vetchnoon::generation(given.octave, generator, key, &mut generation).unwrap();
-            let [sharp_index, sharp_count, flat_index, flat_count] = spelt;
+            let spelt = vetchnoon::layout_accidentals(given, key).unwrap();
+            let generation = vetchnoon::generation(given.octave, generator, key).unwrap();
             *record = Record {
                 key,
-                sharp_index,
-                sharp_count,
-                flat_index,
-                flat_count,
-                stars: generation[2],
+                sharp_index: spelt.sharp_index,
+                sharp_count: spelt.sharp_count,
+                flat_index: spelt.flat_index,
+                flat_count: spelt.flat_count,
+                stars: generation.cycle.unwrap_or(0),
                 lamp: vetchnoon::lamp(given, key).unwrap(),
             };
         }
@@ -713,7 +708,7 @@ fn parents(input: &str, from: Vec<Mos>) -> Row {
     )
 }
 
-type OurWalk = fn(Pattern, &mut [u16]) -> Result<usize, vetchnoon::Refused>;
+type OurWalk = fn(Pattern, &mut [Pattern]) -> Result<usize, vetchnoon::Refused>;
 
 /// The original's iterator writes into a lent slice too, so that neither side allocates.
 fn walk(
@@ -721,16 +716,16 @@ fn walk(
     input: &str,
     from: Vec<Mos>,
     ours: OurWalk,
-    theirs: impl Fn(Mos, &mut [u16]) -> usize + 'static,
+    theirs: impl Fn(Mos, &mut [Pattern]) -> usize + 'static,
 ) -> Row {
-    let mut out = vec![0; 4 * 65_536];
+    let mut out = vec![Pattern::default(); 65_536];
     let mut same_out = out.clone();
-    let patterns: Vec<Pattern> = from.iter().copied().map(patterns::numbers).collect();
-    let numbers: usize = from.iter().map(|mos| theirs(*mos, &mut out)).sum();
+    let patterns: Vec<Pattern> = from.iter().copied().map(pattern).collect();
+    let count: usize = from.iter().map(|mos| theirs(*mos, &mut out)).sum();
     Row::new(
         what,
         input,
-        (numbers / 4, "pattern"),
+        (count, "pattern"),
         move || {
             patterns
                 .iter()
@@ -751,27 +746,23 @@ fn walks_of_moves() -> Vec<Row> {
 
 /// The original has no moves: its caller makes them of the counts and steps of its patterns.
 fn moves(input: &str, from: Vec<(u16, u16)>) -> Row {
-    let mut out = vec![0; 4 * 65_536];
+    let mut out = vec![Moves::default(); 65_536];
     let mut same_out = out.clone();
-    let ours = |(period, generator), out: &mut [i32]| {
+    let ours = |(period, generator), out: &mut [Moves]| {
         vetchnoon::walk_moves(period, generator, out).unwrap()
     };
-    let theirs = |(period, generator), out: &mut [i32]| {
+    let theirs = |(period, generator), out: &mut [Moves]| {
         let walk = Mos::<u16>::new_genesis(period, generator).children();
-        walk.zip(out.chunks_exact_mut(4))
-            .map(|(mos, place)| {
-                let moves = patterns::moves(mos, period, generator);
-                place.copy_from_slice(&moves.unwrap());
-            })
+        walk.zip(out)
+            .map(|(mos, place)| *place = moves_of(mos, period, generator))
             .count()
-            * 4
     };
-    let numbers: usize = from.iter().map(|pergen| theirs(*pergen, &mut out)).sum();
+    let count: usize = from.iter().map(|pergen| theirs(*pergen, &mut out)).sum();
     let same = from.clone();
     Row::new(
         "moves of a walk; of the original's counts and steps",
         input,
-        (numbers / 4, "pattern"),
+        (count, "pattern"),
         move || from.iter().map(|pergen| ours(*pergen, &mut out)).sum(),
         move || {
             same.iter()
@@ -781,9 +772,24 @@ fn moves(input: &str, from: Vec<(u16, u16)>) -> Row {
     )
 }
 
-fn put_all(walk: impl Iterator<Item = Mos>, out: &mut [u16]) -> usize {
-    walk.zip(out.chunks_exact_mut(4))
-        .map(|(mos, place)| place.copy_from_slice(&patterns::numbers(mos)))
+fn moves_of(mos: Mos, period: u16, generator: u16) -> Moves {
+    let moves = patterns::moves(mos, period, generator).unwrap();
+    let [primary, secondary] =
+        [[moves[0], moves[1]], [moves[2], moves[3]]].map(|[octaves, generators]| Move {
+            octaves,
+            generators,
+        });
+    Moves { primary, secondary }
+}
+
+fn put_all(walk: impl Iterator<Item = Mos>, out: &mut [Pattern]) -> usize {
+    walk.zip(out)
+        .map(|(mos, place)| *place = pattern(mos))
         .count()
-        * 4
+}
+
+/// A pattern of the original, as ours has it.
+fn pattern(mos: Mos) -> Pattern {
+    let [a, b, p, s] = patterns::numbers(mos);
+    Pattern::new(a, b, p, s)
 }

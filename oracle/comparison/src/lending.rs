@@ -182,12 +182,14 @@ fn filled<T: Element>(
 
 #[cfg(test)]
 mod tests {
+    use vetchnoon::Question;
+
     use super::*;
 
     /// Writes 1, 2, 3 as a call of the library does.
     fn well_behaved(out: &mut [u16]) -> Result<usize, Refused> {
         out.get_mut(..3)
-            .ok_or(Refused(10))?
+            .ok_or(Refused(Question::Room))?
             .copy_from_slice(&[1, 2, 3]);
         Ok(3)
     }
@@ -195,7 +197,10 @@ mod tests {
     #[test]
     fn output_and_refusals_are_handed_on() {
         assert_eq!(lent(3, well_behaved), Ok(Ok(vec![1, 2, 3])));
-        assert_eq!(lent::<u8>(0, |_| Err(Refused(4))), Ok(Err(4)));
+        assert_eq!(
+            lent::<u8>(0, |_| Err(Refused(Question::Pattern))),
+            Ok(Err(4))
+        );
         // The reading expected fewer elements: a refusal with 10 that a longer
         // slice does not get.
         assert!(lent(2, well_behaved).is_err());

@@ -7,6 +7,7 @@ mod lending;
 mod plan;
 mod question;
 mod randoms;
+mod raw;
 mod report;
 mod subjects;
 mod tally;

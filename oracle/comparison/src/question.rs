@@ -2,122 +2,87 @@
 
 use std::fmt;
 
-/// The calls of the library, in the order of `include/vetchnoon.h`.
-#[derive(Clone, Copy, Debug, PartialEq, Eq, PartialOrd, Ord)]
-pub enum Call {
-    Gcd,
-    Rem,
-    Pergen,
-    Generation,
-    Accidentals,
-    MosChild,
-    MosParent,
-    MosGenesis,
-    MosCoprime,
-    MosChildren,
-    MosParents,
-    MosLayers,
-    MosKey,
-    MosFind,
-    WalkMoves,
-    FractionalChild,
-    FractionalChildren,
-    ChainLetters,
-    ChainName,
-    Start,
-    Tritaves,
-    FindByEdo,
-    EdoReport,
-    Layout,
-    ScaleName,
-    NoteName,
-    NoteNameLen,
-    LayoutAccidentals,
-    SoundedKey,
-    NearestNatural,
-    KeysInReach,
-    Moved,
-    MoveTable,
-    LargestMove,
-    ToChainOrder,
-    ToKeyOrder,
-    Moves,
-    LayerCount,
-    LayoutLayers,
-    Layer,
-    LayerKind,
-    LampStrip,
-    Lamp,
-    WidenStrip,
-    NarrowStrip,
-    KbmLen,
-    Kbm,
-    KbmRead,
-    Sheet,
-    BookLen,
-    Book,
-    BookFind,
-    KeyTable,
+use reading::Whole;
+use reading::chains;
+use reading::fitted;
+
+/// Declares the calls, each with its name in C.
+macro_rules! calls {
+    ($($call:ident = $name:literal,)*) => {
+        /// The calls of the library, in the order of `include/vetchnoon.h`.
+        #[derive(Clone, Copy, Debug, PartialEq, Eq, PartialOrd, Ord)]
+        pub enum Call {
+            $($call,)*
+        }
+
+        impl Call {
+            pub const ALL: &[Self] = &[$(Self::$call,)*];
+
+            pub fn name(self) -> &'static str {
+                match self {
+                    $(Self::$call => $name,)*
+                }
+            }
+        }
+    };
 }
 
-impl Call {
-    pub fn name(self) -> &'static str {
-        match self {
-            Self::Gcd => "vn_gcd",
-            Self::Rem => "vn_rem",
-            Self::Pergen => "vn_pergen",
-            Self::Generation => "vn_generation",
-            Self::Accidentals => "vn_accidentals",
-            Self::MosChild => "vn_mos_child",
-            Self::MosParent => "vn_mos_parent",
-            Self::MosGenesis => "vn_mos_genesis",
-            Self::MosCoprime => "vn_mos_coprime",
-            Self::MosChildren => "vn_mos_children",
-            Self::MosParents => "vn_mos_parents",
-            Self::MosLayers => "vn_mos_layers",
-            Self::MosKey => "vn_mos_key",
-            Self::MosFind => "vn_mos_find",
-            Self::WalkMoves => "vn_walk_moves",
-            Self::FractionalChild => "vn_fractional_child",
-            Self::FractionalChildren => "vn_fractional_children",
-            Self::ChainLetters => "vn_chain_letters",
-            Self::ChainName => "vn_chain_name",
-            Self::Start => "vn_start",
-            Self::Tritaves => "vn_tritaves",
-            Self::FindByEdo => "vn_find_by_edo",
-            Self::EdoReport => "vn_edo_report",
-            Self::Layout => "vn_layout",
-            Self::ScaleName => "vn_scale_name",
-            Self::NoteName => "vn_note_name",
-            Self::NoteNameLen => "vn_note_name_len",
-            Self::LayoutAccidentals => "vn_layout_accidentals",
-            Self::SoundedKey => "vn_sounded_key",
-            Self::NearestNatural => "vn_nearest_natural",
-            Self::KeysInReach => "vn_keys_in_reach",
-            Self::Moved => "vn_moved",
-            Self::MoveTable => "vn_move_table",
-            Self::LargestMove => "vn_largest_move",
-            Self::ToChainOrder => "vn_to_chain_order",
-            Self::ToKeyOrder => "vn_to_key_order",
-            Self::Moves => "vn_moves",
-            Self::LayerCount => "vn_layer_count",
-            Self::LayoutLayers => "vn_layout_layers",
-            Self::Layer => "vn_layer",
-            Self::LayerKind => "vn_layer_kind",
-            Self::LampStrip => "vn_lamp_strip",
-            Self::Lamp => "vn_lamp",
-            Self::WidenStrip => "vn_widen_strip",
-            Self::NarrowStrip => "vn_narrow_strip",
-            Self::KbmLen => "vn_kbm_len",
-            Self::Kbm => "vn_kbm",
-            Self::KbmRead => "vn_kbm_read",
-            Self::Sheet => "vn_sheet",
-            Self::BookLen => "vn_book_len",
-            Self::Book => "vn_book",
-            Self::BookFind => "vn_book_find",
-            Self::KeyTable => "vn_key_table",
-        }
-    }
+calls! {
+    Version = "vn_version",
+    Gcd = "vn_gcd",
+    Rem = "vn_rem",
+    Pergen = "vn_pergen",
+    Generation = "vn_generation",
+    Accidentals = "vn_accidentals",
+    MosChild = "vn_mos_child",
+    MosParent = "vn_mos_parent",
+    MosGenesis = "vn_mos_genesis",
+    MosCoprime = "vn_mos_coprime",
+    MosFind = "vn_mos_find",
+    WalkMoves = "vn_walk_moves",
+    MosChildren = "vn_mos_children",
+    MosParents = "vn_mos_parents",
+    MosLayers = "vn_mos_layers",
+    MosKey = "vn_mos_key",
+    FractionalChild = "vn_fractional_child",
+    FractionalChildrenLen = "vn_fractional_children_len",
+    FractionalChildren = "vn_fractional_children",
+    ChainLetters = "vn_chain_letters",
+    ChainName = "vn_chain_name",
+    Start = "vn_start",
+    Tritaves = "vn_tritaves",
+    FindByEdo = "vn_find_by_edo",
+    EdoReport = "vn_edo_report",
+    Layout = "vn_layout",
+    ScaleName = "vn_scale_name",
+    NoteNameLen = "vn_note_name_len",
+    NoteName = "vn_note_name",
+    LayoutAccidentals = "vn_layout_accidentals",
+    SoundedKey = "vn_sounded_key",
+    NearestNatural = "vn_nearest_natural",
+    KeysInReach = "vn_keys_in_reach",
+    Moved = "vn_moved",
+    MoveTable = "vn_move_table",
+    LargestMove = "vn_largest_move",
+    ToChainOrder = "vn_to_chain_order",
+    ToKeyOrder = "vn_to_key_order",
+    Moves = "vn_moves",
+    LayerCount = "vn_layer_count",
+    LayoutLayers = "vn_layout_layers",
+    Layer = "vn_layer",
+    LayerKind = "vn_layer_kind",
+    LampStrip = "vn_lamp_strip",
+    Lamp = "vn_lamp",
+    WidenStrip = "vn_widen_strip",
+    NarrowStrip = "vn_narrow_strip",
+    KbmLen = "vn_kbm_len",
+    Kbm = "vn_kbm",
+    KbmRead = "vn_kbm_read",
+    Sheet = "vn_sheet",
+    BookLen = "vn_book_len",
+    Book = "vn_book",
+    BookFind = "vn_book_find",
+    KeyTable = "vn_key_table",
 }
 
 /// A call with its arguments, in order. Bytes are arguments as well, and so are the codes
@@ -143,6 +108,46 @@ impl Question<'_> {
     /// Whether it is smaller than one that is kept.
     pub fn is_below(self, kept: &Kept) -> bool {
         (self.arguments, self.call) < (&kept.arguments, kept.call)
+    }
+
+    /// Whether the original has this very question: a call of its own, with a key of its 16
+    /// bits, about a layout that begins on the letter on which it begins that chain. Else an
+    /// answer is made of what it answers to others.
+    pub fn is_the_originals(self) -> bool {
+        match self.call {
+            Call::Gcd
+            | Call::Rem
+            | Call::Pergen
+            | Call::MosChild
+            | Call::MosParent
+            | Call::MosGenesis
+            | Call::MosCoprime
+            | Call::MosChildren
+            | Call::MosParents
+            | Call::MosLayers
+            | Call::MosKey
+            | Call::FractionalChild
+            | Call::FractionalChildren
+            | Call::ChainName
+            | Call::FindByEdo => true,
+            Call::Generation => self.has_16_bits_at(2),
+            Call::Accidentals => self.has_16_bits_at(4),
+            Call::Layout | Call::ScaleName | Call::LayoutLayers => self.begins_on_own_letter(),
+            Call::NoteName | Call::LayoutAccidentals => {
+                self.begins_on_own_letter() && self.has_16_bits_at(4)
+            }
+            _ => false,
+        }
+    }
+
+    fn has_16_bits_at(self, place: usize) -> bool {
+        u16::try_from(self.arguments[place]).is_ok()
+    }
+
+    /// Of a layout's chain, octave, tritave and start: whether the start is the chain's own.
+    fn begins_on_own_letter(self) -> bool {
+        let [code, _, _, start] = [0, 1, 2, 3].map(|place| self.arguments[place]);
+        chains::chain(fitted(code.into())).is_ok_and(|chain| chain.start == Whole::from(start))
     }
 }
 
@@ -177,5 +182,33 @@ impl fmt::Display for Kept {
             0..=SHOWN => Ok(()),
             all => write!(f, " .. ({all} numbers)"),
         }
+    }
+}
+
+#[cfg(test)]
+mod tests {
+    use super::*;
+
+    #[test]
+    fn the_calls_are_those_of_the_header() {
+        let header = include_str!("../../../include/vetchnoon.h");
+        let declared = header
+            .lines()
+            .filter_map(|line| line.strip_prefix("int64_t ")?.split('(').next());
+        let known = Call::ALL.iter().map(|call| call.name());
+        assert!(known.eq(declared));
+    }
+
+    #[test]
+    fn the_original_has_its_own_keys_and_starts() {
+        let has = |call, arguments: &[i64]| Question { call, arguments }.is_the_originals();
+        assert!(has(Call::Generation, &[12, 7, 65_535]));
+        assert!(!has(Call::Generation, &[12, 7, -1]));
+        assert!(!has(Call::Accidentals, &[12, 7, 7, 3, 65_536]));
+        assert!(has(Call::NoteName, &[1, 12, 19, 3, 0]));
+        assert!(!has(Call::NoteName, &[1, 12, 19, 3, -1]));
+        assert!(!has(Call::NoteName, &[1, 12, 19, 1, 0]));
+        assert!(has(Call::LayoutLayers, &[2, 12, 19, 2]));
+        assert!(!has(Call::Layer, &[1, 12, 19, 3, 0]));
     }
 }

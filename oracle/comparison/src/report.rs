@@ -13,42 +13,48 @@ pub fn text(tally: &Tally, mode: Mode, seed: u64) -> String {
     push_classes(&mut text, tally);
     let unexplained = push_unexplained(&mut text, tally);
     let failed = push_failures(&mut text, tally);
-    push_verdict(&mut text, unexplained, failed);
+    push_missing(&mut text, tally);
+    push_verdict(&mut text, tally, unexplained, failed);
     text
 }
 
-/// What was compared. Every question is held against the reading of document 01;
-/// the last column says how many the original was asked too.
+/// What was compared, as the table that docs/DIFFERENCES.md has. Every answer is held against
+/// the reading of document 01; the last three columns say what else it is held against.
 fn push_counts(text: &mut String, tally: &Tally) {
-    push_row(
-        text,
-        "call",
-        ["compared", "given", "refused", "original"].map(str::to_owned),
-    );
+    let heads = [
+        "answers",
+        "refusals",
+        "original itself",
+        "made of its answers",
+        "reading alone",
+    ];
+    push_row(text, "call", &heads.map(str::to_owned));
+    line(text, format_args!("|---|{}", "---:|".repeat(heads.len())));
     let mut sum = Counts::default();
     for (call, counts) in tally.calls() {
-        push_row(text, call.name(), columns(*counts));
-        sum.given += counts.given;
-        sum.refused += counts.refused;
-        sum.judged += counts.judged;
+        push_row(text, &format!("`{}`", call.name()), &columns(*counts));
+        sum += *counts;
     }
-    push_row(text, "all", columns(sum));
+    push_row(text, "all", &columns(sum));
 }
 
-fn push_row(text: &mut String, name: &str, columns: [String; 4]) {
-    let [compared, given, refused, judged] = columns;
+fn push_row(text: &mut String, name: &str, columns: &[String; 5]) {
+    let [answers, refusals, original, made, reading] = columns;
     line(
         text,
-        format_args!("{name:<22} {compared:>12} {given:>12} {refused:>12} {judged:>12}"),
+        format_args!(
+            "| {name:<28} | {answers:>11} | {refusals:>11} | {original:>15} | {made:>19} | {reading:>13} |"
+        ),
     );
 }
 
-fn columns(counts: Counts) -> [String; 4] {
+fn columns(counts: Counts) -> [String; 5] {
     [
-        counts.given + counts.refused,
-        counts.given,
+        counts.all(),
         counts.refused,
-        counts.judged,
+        counts.of_original,
+        counts.made_of_original,
+        counts.of_reading(),
     ]
     .map(in_thousands)
 }
@@ -95,18 +101,30 @@ fn push_failures(text: &mut String, tally: &Tally) -> u64 {
     tally.failures().values().sum()
 }
 
-fn push_verdict(text: &mut String, unexplained: u64, failed: u64) {
-    let unexplained = in_thousands(unexplained);
-    match failed {
-        0 => line(text, format_args!("\n{unexplained} unexplained")),
-        _ => line(
-            text,
-            format_args!(
-                "\n{unexplained} unexplained, {} of the comparison failed",
-                parts(failed)
-            ),
-        ),
+/// What should have been compared and was not.
+fn push_missing(text: &mut String, tally: &Tally) {
+    for call in tally.never_asked() {
+        line(text, format_args!("\nnever asked: {}", call.name()));
     }
+    for class in tally.never_met() {
+        line(text, format_args!("\nnever met: {}", class.name()));
+    }
+}
+
+fn push_verdict(text: &mut String, tally: &Tally, unexplained: u64, failed: u64) {
+    let never_asked = tally.never_asked().len() as u64;
+    let never_met = tally.never_met().len() as u64;
+    let mut verdict = format!("{} unexplained", in_thousands(unexplained));
+    if failed > 0 {
+        verdict += &format!(", {} of the comparison failed", parts(failed));
+    }
+    if never_asked > 0 {
+        verdict += &format!(", calls never asked: {never_asked}");
+    }
+    if never_met > 0 {
+        verdict += &format!(", classes never met: {never_met}");
+    }
+    line(text, format_args!("\n{verdict}"));
 }
 
 fn parts(count: u64) -> String {
@@ -137,6 +155,7 @@ mod tests {
     use judge::asking::Panicked;
 
     use super::*;
+    use crate::question::Call;
 
     #[test]
     fn thousands_are_set_apart() {
@@ -146,9 +165,13 @@ mod tests {
     }
 
     #[test]
-    fn an_empty_tally_ends_with_0_unexplained() {
+    fn an_empty_tally_lacks_every_call_and_class() {
         let text = text(&Tally::default(), Mode::Short, 1);
-        assert!(text.ends_with("\n0 unexplained\n"));
+        let (calls, classes) = (Call::ALL.len(), Class::ALL.len());
+        assert!(text.contains("\nnever asked: vn_gcd\n"));
+        assert!(text.ends_with(&format!(
+            "\n0 unexplained, calls never asked: {calls}, classes never met: {classes}\n"
+        )));
     }
 
     #[test]
@@ -164,6 +187,6 @@ mod tests {
                 "\nfailed, 1 part: panicked: no such number (reading/src/lib.rs line 1)\n"
             )
         );
-        assert!(text.ends_with("\n0 unexplained, 1 part of the comparison failed\n"));
+        assert!(text.contains("\n0 unexplained, 1 part of the comparison failed"));
     }
 }

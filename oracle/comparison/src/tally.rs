@@ -2,6 +2,7 @@
 
 use std::collections::BTreeMap;
 use std::fmt::Debug;
+use std::ops::AddAssign;
 
 use judge::asking::Answer;
 use judge::asking::Panicked;
@@ -85,7 +86,7 @@ impl<T: PartialEq> Original<T> {
 
 /// An answer of the library.
 pub fn outcome<T>(answer: Result<T, Refused>) -> Outcome<T> {
-    answer.map_err(|Refused(number)| number)
+    answer.map_err(|Refused(question)| question.number())
 }
 
 /// The answers to one question.
@@ -111,7 +112,29 @@ pub struct Counts {
     pub given: u64,
     pub refused: u64,
     /// Of these, how many the original was asked as well.
-    pub judged: u64,
+    pub of_original: u64,
+    /// And how many are held against what is made of its answers to other questions.
+    pub made_of_original: u64,
+}
+
+impl Counts {
+    pub fn all(self) -> u64 {
+        self.given + self.refused
+    }
+
+    /// How many are held against the reading alone.
+    pub fn of_reading(self) -> u64 {
+        self.all() - self.of_original - self.made_of_original
+    }
+}
+
+impl AddAssign for Counts {
+    fn add_assign(&mut self, more: Self) {
+        self.given += more.given;
+        self.refused += more.refused;
+        self.of_original += more.of_original;
+        self.made_of_original += more.made_of_original;
+    }
 }
 
 /// How often a class was met, and its smallest input.
@@ -139,7 +162,7 @@ impl Tally {
         answers: &Answers<T>,
         class: Option<Class>,
     ) {
-        self.count(question.call, &answers.reading, &answers.original);
+        self.count(question, &answers.reading, &answers.original);
         if answers.library != answers.reading {
             return self.unexplained(question, || difference(answers));
         }
@@ -230,19 +253,40 @@ impl Tally {
                 self.compare(question, &answers, class);
             }
             Err(misbehaviour) => {
-                self.count(question.call, &reading, &original);
+                self.count(question, &reading, &original);
                 self.unexplained(question, || misbehaviour.clone());
             }
         }
     }
 
-    fn count<T>(&mut self, call: Call, reading: &Outcome<T>, original: &Original<T>) {
-        let counts = self.calls.entry(call).or_default();
+    /// Holds what the Rust package makes of a call against the reading. The call itself is
+    /// compared, and counted, by the slices that are lent to it.
+    pub fn compare_packaged<T: PartialEq + Debug>(
+        &mut self,
+        question: Question,
+        reading: &Outcome<T>,
+        packaged: Result<T, Refused>,
+    ) {
+        let packaged = outcome(packaged);
+        if packaged != *reading {
+            self.unexplained(question, || {
+                let (packaged, reading) = (shown(&packaged), shown(reading));
+                format!("the Rust package gives {packaged}, the reading {reading}")
+            });
+        }
+    }
+
+    fn count<T>(&mut self, question: Question, reading: &Outcome<T>, original: &Original<T>) {
+        let counts = self.calls.entry(question.call).or_default();
         match reading {
             Ok(_) => counts.given += 1,
             Err(_) => counts.refused += 1,
         }
-        counts.judged += u64::from(!matches!(original, Original::Silent));
+        match original {
+            Original::Silent => (),
+            _ if question.is_the_originals() => counts.of_original += 1,
+            _ => counts.made_of_original += 1,
+        }
     }
 
     fn note(&mut self, class: Class, question: Question) {
@@ -281,10 +325,7 @@ impl Tally {
     /// Adds what another thread counted. The order of adding does not matter.
     pub fn add(&mut self, other: Self) {
         for (call, counts) in other.calls {
-            let sum = self.calls.entry(call).or_default();
-            sum.given += counts.given;
-            sum.refused += counts.refused;
-            sum.judged += counts.judged;
+            *self.calls.entry(call).or_default() += counts;
         }
         for (class, noted) in other.classes {
             merge(&mut self.classes, class, noted, |sum, noted| {
@@ -322,9 +363,28 @@ impl Tally {
         &self.failures
     }
 
-    /// Whether everything was compared and explained.
+    /// The calls of the library that no question was put to.
+    pub fn never_asked(&self) -> Vec<Call> {
+        let asked = |call: &Call| self.calls.contains_key(call);
+        Call::ALL
+            .iter()
+            .copied()
+            .filter(|call| !asked(call))
+            .collect()
+    }
+
+    /// The classes that no input belonged to.
+    pub fn never_met(&self) -> Vec<Class> {
+        let met = |class: &Class| self.classes.contains_key(class);
+        Class::ALL.into_iter().filter(|class| !met(class)).collect()
+    }
+
+    /// Whether everything was compared and explained: all calls and classes.
     pub fn is_clean(&self) -> bool {
-        self.unexplained.is_empty() && self.failures.is_empty()
+        self.unexplained.is_empty()
+            && self.failures.is_empty()
+            && self.never_asked().is_empty()
+            && self.never_met().is_empty()
     }
 }
 
@@ -422,7 +482,7 @@ mod tests {
             (noted.count, noted.smallest.to_string()),
             (3, "vn_gcd 3".to_owned())
         );
-        assert!(tally.is_clean());
+        assert!(tally.all_unexplained().is_empty());
 
         let tally = compared(answers(Ok(1), Ok(1), overflow()), None);
         assert_eq!(tally.all_unexplained()[&Call::Gcd].count, 3);
@@ -469,6 +529,52 @@ mod tests {
                 assert_eq!(tally.all_unexplained().is_empty(), excused, "{context}");
             }
         }
+    }
+
+    #[test]
+    fn what_is_made_of_the_original_is_counted_apart() {
+        let counted = |call, arguments: &[i64], original| {
+            let mut tally = Tally::default();
+            let question = Question { call, arguments };
+            tally.compare(question, &answers(Ok(1), Ok(1), original), None);
+            let counts = tally.calls()[&call];
+            [
+                counts.of_original,
+                counts.made_of_original,
+                counts.of_reading(),
+            ]
+        };
+        let answered = || Original::Answered(1);
+        assert_eq!(counted(Call::Gcd, &[1, 1], answered()), [1, 0, 0]);
+        assert_eq!(
+            counted(Call::Lamp, &[1, 12, 19, 3, 0], answered()),
+            [0, 1, 0]
+        );
+        assert_eq!(counted(Call::Gcd, &[1, 1], Original::Silent), [0, 0, 1]);
+    }
+
+    #[test]
+    fn a_tally_that_lacks_a_call_or_a_class_is_not_clean() {
+        let mut tally = Tally::default();
+        assert_eq!(tally.never_asked(), Call::ALL);
+        assert_eq!(tally.never_met(), Class::ALL);
+        for call in Call::ALL {
+            let question = Question {
+                call: *call,
+                arguments: &[0; 8],
+            };
+            tally.compare(question, &answers(Ok(1), Ok(1), Original::Silent), None);
+        }
+        assert_eq!(tally.never_asked(), []);
+        for class in Class::ALL {
+            assert!(!tally.is_clean());
+            let question = Question {
+                call: Call::Gcd,
+                arguments: &[],
+            };
+            tally.note(class, question);
+        }
+        assert!(tally.is_clean());
     }
 
     #[test]

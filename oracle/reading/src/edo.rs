@@ -227,6 +227,12 @@ mod tests {
     }
 
     #[test]
+    fn at_most_five_chains_have_a_layout() {
+        let counts = (1..=400).map(|n| layouts(n).unwrap().len());
+        assert_eq!(counts.max(), Some(5));
+    }
+
+    #[test]
     fn questions_about_one_chain() {
         let refusal = |n, code| layout_of_chain(n, code).err();
         assert_eq!(refusal(401, 6), Some(15));

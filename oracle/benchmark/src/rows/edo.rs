@@ -6,6 +6,7 @@ use std::ops::RangeInclusive;
 use judge::layouts::CHAINS;
 use reading::edo::LARGEST_DIVISION;
 use tune::layout::IsomorphicLayout;
+use vetchnoon::c;
 
 use super::Row;
 
@@ -20,7 +21,7 @@ pub fn rows() -> Vec<Row> {
 
 fn listing(input: String, divisions: RangeInclusive<u16>) -> Row {
     let same_divisions = divisions.clone();
-    let mut numbers = [0; 18];
+    let mut numbers = [0; 15];
     Row::new(
         "layouts of so many steps",
         input,
@@ -28,7 +29,12 @@ fn listing(input: String, divisions: RangeInclusive<u16>) -> Row {
         move || {
             let listed = divisions.clone();
             listed
-                .map(|n| vetchnoon::find_by_edo(n, &mut numbers).unwrap() / 3)
+                .map(|n| {
+                    // SAFETY: the slice has so many elements, and is lent for the call.
+                    let answer =
+                        unsafe { c::vn_find_by_edo(n, numbers.as_mut_ptr(), numbers.len()) };
+                    c::answered(answer).unwrap() / 3
+                })
                 .sum()
         },
         move || {
@@ -45,7 +51,11 @@ fn report() -> Row {
         "report over all numbers of steps; the original's layouts are counted",
         "1 to 400",
         (ALL.count(), "number of steps"),
-        move || vetchnoon::edo_report(&mut text).unwrap(),
+        move || {
+            // SAFETY: the slice has so many elements, and is lent for the call.
+            let answer = unsafe { c::vn_edo_report(text.as_mut_ptr(), text.len()) };
+            c::answered(answer).unwrap()
+        },
         || their_report().len(),
     )
 }

@@ -20,6 +20,7 @@ pub fn plan(tasks: &mut Vec<Task>) {
             tasks.push(Box::new(|tally| compare_input(tally, *input)));
         }
     }
+    tasks.push(Box::new(numbers::version));
     tasks.push(Box::new(others_of_classes));
     tasks.push(Box::new(bench_examples));
 }

@@ -284,14 +284,17 @@ const LARGE: [(u16, u16, u16); 4] = [
     (3, 32_767, 52_427),
 ];
 
-/// The layout with the longest names and the longest book, of 307,321,697 bytes.
+/// The layout with the longest names, of up to 39,325 bytes; its book has 215,331,622.
 const LONGEST_NAMES: (u16, u16, u16) = (2, 65_534, 65_535);
+
+/// The layout with the longest book, of 307,321,697 bytes.
+const LONGEST_BOOK: (u16, u16, u16) = (5, 65_534, 56_172);
 
 /// Layouts of which every key is compared, each with a start: the chain's own, or any.
 fn whole_layouts(mode: Mode, seed: u64) -> Vec<((u16, u16, u16), u16)> {
     let mut large = LARGE.to_vec();
     if mode == Mode::Long {
-        large.push(LONGEST_NAMES);
+        large.extend([LONGEST_NAMES, LONGEST_BOOK]);
     }
     let mut layouts: Vec<_> = large.into_iter().map(with_own_start).collect();
     let mut randoms = Randoms::new(seed, STREAM - 1);
@@ -407,9 +410,19 @@ mod tests {
 
     #[test]
     fn the_large_layouts_are_accepted() {
-        let large = LARGE.into_iter().chain([LONGEST_NAMES]);
+        let large = LARGE.into_iter().chain([LONGEST_NAMES, LONGEST_BOOK]);
         for (code, octave, tritave) in large.chain(MANY_LAYERS) {
             assert!(GivenLayout::new(code, octave, tritave).is_accepted());
         }
+    }
+
+    #[test]
+    fn the_longest_names_do_not_make_the_longest_book() {
+        let length = |(code, octave, tritave)| {
+            let layout = GivenLayout::new(code, octave, tritave);
+            vetchnoon::book_len(layout.given)
+        };
+        assert_eq!(length(LONGEST_NAMES), Ok(215_331_622));
+        assert_eq!(length(LONGEST_BOOK), Ok(307_321_697));
     }
 }

@@ -2,10 +2,10 @@
 
 use judge::asking;
 use reading::books;
-use vetchnoon::Refused;
 
 use crate::question::Call;
 use crate::question::Question;
+use crate::raw;
 use crate::tally::Tally;
 use crate::tally::outcome;
 
@@ -31,7 +31,7 @@ pub fn find(tally: &mut Tally, book: &[u8], key: i32) {
         });
     }
     let reading = reading.map(|pair| pair.to_vec());
-    let call = |out: &mut [u32]| find_into(book, key, out);
+    let call = |out: &mut [u32]| raw::book_find(book, key, out);
     tally.compare_filling_after_room(question, PAIR, reading, call);
 }
 
@@ -44,20 +44,4 @@ pub fn find_all(tally: &mut Tally, book: &[u8], keys: u16) {
     for key in [-keys, i32::MIN, i32::MAX] {
         find(tally, book, key);
     }
-}
-
-/// The C call itself: the Rust package lends a slice of its own.
-fn find_into(book: &[u8], key: i32, out: &mut [u32]) -> Result<usize, Refused> {
-    unsafe extern "C" {
-        fn vn_book_find(
-            book: *const u8,
-            book_len: usize,
-            key: i32,
-            out: *mut u32,
-            len: usize,
-        ) -> i64;
-    }
-    let answer =
-        unsafe { vn_book_find(book.as_ptr(), book.len(), key, out.as_mut_ptr(), out.len()) };
-    usize::try_from(answer).map_err(|_| Refused((-answer) as u8))
 }

@@ -9,12 +9,13 @@ use vetchnoon::Refused;
 use crate::lending::Element;
 use crate::question::Call;
 use crate::question::Question;
+use crate::raw;
 use crate::subjects::layouts::GivenLayout;
 use crate::tally::Original;
 use crate::tally::Tally;
 
-/// How many numbers a division has at most: three of each chain.
-const MOST: usize = 18;
+/// How many numbers a division has at most: three of each of five chains.
+const MOST: usize = 15;
 
 /// How many slices are lent that are longer than the output.
 const LONGER: usize = 2;
@@ -45,7 +46,12 @@ fn compare_tritaves(tally: &mut Tally, n: u16) {
         call: Call::Tritaves,
         arguments: &[n.into()],
     };
-    let call = |out: &mut [u16]| vetchnoon::tritaves(n, out);
+    let packaged = vetchnoon::tritaves(n).map(|found| {
+        let numbers = std::iter::once(found.nearest).chain(found.second_choice);
+        numbers.collect()
+    });
+    tally.compare_packaged(question, &edo::tritaves(n), packaged);
+    let call = |out: &mut [u16]| raw::tritaves(n, out);
     compare_in_every_length(tally, question, edo::tritaves(n), original, call);
 }
 
@@ -68,8 +74,28 @@ fn compare_listing(tally: &mut Tally, n: u16, listed: &Original<Vec<Listed>>) {
         call: Call::FindByEdo,
         arguments: &[n.into()],
     };
-    let call = |out: &mut [u16]| vetchnoon::find_by_edo(n, out);
+    compare_packaged_layouts(tally, question, n);
+    let call = |out: &mut [u16]| raw::find_by_edo(n, out);
     compare_in_every_length(tally, question, reading, original, call);
+}
+
+/// The layouts that the Rust package makes, each with its chain's own start.
+fn compare_packaged_layouts(tally: &mut Tally, question: Question, n: u16) {
+    let reading = edo::layouts(n).map(|listed| {
+        let listed = listed.iter();
+        let layouts = listed.map(|listed| {
+            let layout = GivenLayout::new(listed.code, n, listed.tritave).given;
+            (layout, listed.is_second)
+        });
+        layouts.collect::<Vec<_>>()
+    });
+    let packaged = vetchnoon::find_by_edo(n).map(|found| {
+        let found = found.iter();
+        found
+            .map(|found| (found.layout, found.is_second_choice))
+            .collect()
+    });
+    tally.compare_packaged(question, &reading, packaged);
 }
 
 /// A layout that the original lists: its numbers, among them the steps whose difference is the
@@ -92,7 +118,9 @@ pub fn compare_report(tally: &mut Tally) {
     };
     let reading = Ok(edo::report().into_bytes());
     let original = Original::of(judge::edo::report().map(String::into_bytes));
-    compare_in_every_length(tally, question, reading, original, vetchnoon::edo_report);
+    let packaged = vetchnoon::edo_report().as_bytes().to_vec();
+    tally.compare_packaged(question, &reading, Ok(packaged));
+    compare_in_every_length(tally, question, reading, original, raw::edo_report);
 }
 
 /// A call with slices of all lengths from 0 to more than the output has; a refusal with all

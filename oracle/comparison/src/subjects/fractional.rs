@@ -7,14 +7,20 @@ use reading::fractional::Bits;
 use vetchnoon::Fractional;
 
 use crate::classes::Class;
+use crate::lending::Element;
 use crate::question::Call;
 use crate::question::Question;
+use crate::raw;
+use crate::tally::Answers;
 use crate::tally::Original;
 use crate::tally::Tally;
+use crate::tally::outcome;
 
-/// The walk from a generator.
+/// The walk from a generator, and how many patterns it has.
 pub fn walk(tally: &mut Tally, generator: f64) {
     let reading = fractional::walk(generator);
+    let original = original_walk(generator);
+    walk_length(tally, generator, &reading, &original);
     let call = |out: &mut [Fractional]| vetchnoon::fractional_children(generator, out);
     tally.compare_filling(
         Question {
@@ -22,10 +28,33 @@ pub fn walk(tally: &mut Tally, generator: f64) {
             arguments: &halves(generator.to_bits()),
         },
         reading,
-        original_walk(generator),
+        original,
         (!generator.is_finite()).then_some(Class::FractionalGenerator),
         call,
     );
+}
+
+/// The original's walk is counted. What it has for a generator that is infinite or no number, the
+/// class names for the walk itself.
+fn walk_length(
+    tally: &mut Tally,
+    generator: f64,
+    reading: &Outcome<Vec<Bits>>,
+    original: &Original<Vec<Bits>>,
+) {
+    let question = Question {
+        call: Call::FractionalChildrenLen,
+        arguments: &halves(generator.to_bits()),
+    };
+    let answers = Answers {
+        library: outcome(vetchnoon::fractional_children_len(generator)),
+        reading: reading.as_ref().map(Vec::len).map_err(|number| *number),
+        original: match original {
+            Original::Named(_) => Original::Silent,
+            other => other.then(|walk| Original::Answered(walk.len())),
+        },
+    };
+    tally.compare(question, &answers, None);
 }
 
 /// The same into an empty slice.
@@ -62,7 +91,7 @@ pub fn child(tally: &mut Tally, pattern: Bits) {
         secondary[1],
     ];
     let child = fractional::Fractional::given(pattern).child();
-    let reading = Ok(child.into_iter().map(|child| child.bits()).collect());
+    let reading: Outcome<Vec<Bits>> = Ok(child.into_iter().map(|child| child.bits()).collect());
     let original = original::child(original::given(pattern))
         .map(|child| child.into_iter().map(original::bits).collect());
     let [primary_step, secondary_step] = pattern.steps.map(f64::from_bits);
@@ -72,17 +101,15 @@ pub fn child(tally: &mut Tally, pattern: Bits) {
         primary_step,
         secondary_step,
     };
-    let call = |out: &mut [Fractional]| vetchnoon::fractional_child(given, out);
-    tally.compare_filling(
-        Question {
-            call: Call::FractionalChild,
-            arguments: &arguments,
-        },
-        reading,
-        Original::of(original),
-        None,
-        call,
-    );
+    let question = Question {
+        call: Call::FractionalChild,
+        arguments: &arguments,
+    };
+    let packaged = vetchnoon::fractional_child(given).into_iter();
+    let packaged = packaged.map(Element::read).collect();
+    tally.compare_packaged(question, &reading, Ok(packaged));
+    let call = |out: &mut [Fractional]| raw::fractional_child(given, out);
+    tally.compare_filling(question, reading, Original::of(original), None, call);
 }
 
 /// The upper and the lower 32 of 64 bits.

@@ -12,6 +12,7 @@ use crate::classes;
 use crate::classes::Class;
 use crate::question::Call;
 use crate::question::Question;
+use crate::raw;
 use crate::subjects::layouts::GivenLayout;
 use crate::subjects::pergens;
 use crate::tally::Answers;
@@ -38,7 +39,10 @@ impl GivenLayout {
             call: Call::LayoutAccidentals,
             arguments: &arguments,
         };
-        let call = |out: &mut [u16]| vetchnoon::layout_accidentals(self.given, key, out);
+        let packaged = vetchnoon::layout_accidentals(self.given, key);
+        let packaged = packaged.map(pergens::packaged_spellings);
+        tally.compare_packaged(question, &reading, packaged);
+        let call = |out: &mut [u16]| raw::layout_accidentals(self.given, key, out);
         tally.compare_filling(question, reading, original, self.key_class(key), call);
     }
 
@@ -103,12 +107,7 @@ impl GivenLayout {
     }
 
     fn sounded(&self, spelling: Spelling) -> Outcome<u16> {
-        outcome(vetchnoon::sounded_key(
-            self.given,
-            fitted(spelling.letter),
-            fitted(spelling.signs),
-            fitted(spelling.stars),
-        ))
+        outcome(vetchnoon::sounded_key(self.given, packaged(spelling)))
     }
 
     /// The key that the original is asked for.
@@ -136,6 +135,15 @@ impl GivenLayout {
 
     fn key_class(&self, key: i32) -> Option<Class> {
         self.class(|layout| classes::of_layout_key(layout, self.asked_at(key)))
+    }
+}
+
+/// A spelling, as the Rust package has it.
+pub fn packaged(spelling: Spelling) -> vetchnoon::Spelling {
+    vetchnoon::Spelling {
+        letter: fitted(spelling.letter),
+        signs: fitted(spelling.signs),
+        stars: fitted(spelling.stars),
     }
 }
 

@@ -17,6 +17,7 @@ use reading::layouts::Layout;
 use reading::layouts::repeated;
 use tune::layout::IsomorphicLayout;
 use tune::layout::Layer;
+use vetchnoon::LayerKind;
 use vetchnoon::Refused;
 
 use crate::classes;
@@ -24,6 +25,8 @@ use crate::classes::Class;
 use crate::question::Call;
 use crate::question::Question;
 use crate::randoms::KEY_LIMITS;
+use crate::raw;
+use crate::subjects::pergens;
 use crate::subjects::strips;
 use crate::subjects::strips::Expected;
 use crate::tally::Answers;
@@ -138,7 +141,14 @@ impl GivenLayout {
             Original::of(derived)
         });
         let question = self.asking(Call::Layout);
-        let call = |out: &mut [u16]| vetchnoon::layout(self.given, out);
+        let packaged = vetchnoon::layout(self.given).map(|numbers| {
+            let mut all = vec![numbers.generator];
+            all.extend(pergens::packaged_pergen(numbers.pergen));
+            all.extend(numbers.pattern.numbers());
+            all
+        });
+        tally.compare_packaged(question, &reading, packaged);
+        let call = |out: &mut [u16]| raw::layout(self.given, out);
         tally.compare_filling(question, reading, original, self.class(|_| None), call);
     }
 
@@ -148,7 +158,9 @@ impl GivenLayout {
             Original::of(layouts::scale_name(layout).map(|name| name.as_bytes().to_vec()))
         });
         let question = self.asking(Call::ScaleName);
-        let call = |out: &mut [u8]| vetchnoon::scale_name(self.given, out);
+        let packaged = vetchnoon::scale_name(self.given).map(|name| name.as_bytes().to_vec());
+        tally.compare_packaged(question, &reading, packaged);
+        let call = |out: &mut [u8]| raw::scale_name(self.given, out);
         tally.compare_filling(question, reading, original, self.class(|_| None), call);
     }
 
@@ -337,19 +349,34 @@ fn original_beginning(
 /// What a layer number means of T. A number above 0 from T on, of which document 01
 /// says nothing, counts as flat 0, as the header says.
 pub fn compare_kind(tally: &mut Tally, total: u16, number: u16) {
-    let (kind, level) = match layers::kind(number.into(), total.into()) {
-        Kind::Natural => (vetchnoon::NATURAL, 0),
-        Kind::Sharp(level) => (vetchnoon::SHARP, level),
-        Kind::Enharmonic(level) => (vetchnoon::ENHARMONIC, level),
-        Kind::Flat(level) => (vetchnoon::FLAT, level.max(0)),
+    let kind = match layers::kind(number.into(), total.into()) {
+        Kind::Natural => LayerKind::Natural,
+        Kind::Sharp(level) => LayerKind::Sharp(fitted(level)),
+        Kind::Enharmonic(level) => LayerKind::Enharmonic(fitted(level)),
+        Kind::Flat(level) => LayerKind::Flat(fitted(level.max(0))),
     };
-    let reading = Ok(vec![kind, fitted(level)]);
     let question = Question {
         call: Call::LayerKind,
         arguments: &[total.into(), number.into()],
     };
-    let call = |out: &mut [u16]| vetchnoon::layer_kind(total, number, out);
+    tally.compare_packaged(
+        question,
+        &Ok(kind),
+        Ok(vetchnoon::layer_kind(total, number)),
+    );
+    let call = |out: &mut [u16]| raw::layer_kind(total, number, out);
+    let reading = Ok(in_c(kind).to_vec());
     tally.compare_filling(question, reading, Original::Silent, None, call);
+}
+
+/// A kind and a level as the header has them.
+fn in_c(kind: LayerKind) -> [u16; 2] {
+    match kind {
+        LayerKind::Natural => [0, 0],
+        LayerKind::Sharp(level) => [1, level],
+        LayerKind::Enharmonic(level) => [2, level],
+        LayerKind::Flat(level) => [3, level],
+    }
 }
 
 /// The original's layers by document 01's numbers of T.

@@ -6,10 +6,12 @@
 use judge::layouts;
 use judge::patterns;
 use reading::moves;
+use vetchnoon::owned;
 
 use crate::classes::Class;
 use crate::question::Call;
 use crate::question::Question;
+use crate::raw;
 use crate::subjects::layouts::GivenLayout;
 use crate::tally::Original;
 use crate::tally::Tally;
@@ -25,7 +27,9 @@ impl GivenLayout {
             call: Call::Moves,
             arguments: &self.arguments,
         };
-        let call = |out: &mut [i32]| vetchnoon::moves(self.given, out);
+        let packaged = vetchnoon::moves(self.given).map(|moves| numbers(moves).to_vec());
+        tally.compare_packaged(question, &reading, packaged);
+        let call = |out: &mut [i32]| raw::moves(self.given, out);
         tally.compare_filling(question, reading, original, self.class(|_| None), call);
     }
 }
@@ -45,14 +49,23 @@ pub fn of_walk(tally: &mut Tally, period: u16, generator: u16) {
         whole(moves.map(|moves| moves.concat()))
     });
     let class = (period == 0).then_some(Class::GenesisOfPeriodZero);
-    let call = |out: &mut [i32]| vetchnoon::walk_moves(period, generator, out);
-    tally.compare_filling(
-        question,
-        moves::of_walk(period, generator),
-        original,
-        class,
-        call,
-    );
+    let reading = moves::of_walk(period, generator);
+    let packaged = owned::walk_moves(period, generator);
+    let packaged = packaged.map(|walk| walk.into_iter().flat_map(numbers).collect());
+    tally.compare_packaged(question, &reading, packaged);
+    let call = |out: &mut [i32]| raw::walk_moves(period, generator, out);
+    tally.compare_filling(question, reading, original, class, call);
+}
+
+/// Octaves and generators of the primary move, then of the secondary one.
+fn numbers(moves: vetchnoon::Moves) -> [i32; 4] {
+    let vetchnoon::Moves { primary, secondary } = moves;
+    [
+        primary.octaves,
+        primary.generators,
+        secondary.octaves,
+        secondary.generators,
+    ]
 }
 
 /// What the original's patterns leave.

@@ -1,4 +1,4 @@
-//! Greatest common divisor and remainder.
+//! The version; greatest common divisor and remainder.
 
 use reading::fitted;
 use reading::numbers;
@@ -10,6 +10,31 @@ use crate::tally::Answers;
 use crate::tally::Original;
 use crate::tally::Tally;
 use crate::tally::outcome;
+
+/// The library's version against the header's, which stands in for the reading.
+pub fn version(tally: &mut Tally) {
+    let question = Question {
+        call: Call::Version,
+        arguments: &[],
+    };
+    let version = vetchnoon::version();
+    let numbers = [version.major, version.minor.into(), version.patch.into()];
+    let answers = Answers {
+        library: Ok(numbers.map(u64::from)),
+        reading: Ok(["MAJOR", "MINOR", "PATCH"].map(of_header)),
+        original: Original::Silent,
+    };
+    tally.compare(question, &answers, None);
+}
+
+/// A number of the header's version.
+fn of_header(part: &str) -> u64 {
+    let header = include_str!("../../../../include/vetchnoon.h");
+    let defined = format!("#define VN_VERSION_{part} ");
+    let number = header.lines().find_map(|line| line.strip_prefix(&defined));
+    let number = number.and_then(|number| number.parse().ok());
+    number.expect("the header has its version")
+}
 
 pub fn gcd(tally: &mut Tally, x: u16, y: u16) {
     let question = Question {

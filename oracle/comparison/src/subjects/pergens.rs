@@ -14,6 +14,7 @@ use crate::classes;
 use crate::classes::Class;
 use crate::question::Call;
 use crate::question::Question;
+use crate::raw;
 use crate::tally::Original;
 use crate::tally::Tally;
 
@@ -55,7 +56,10 @@ impl FreePergen {
                     vec![derived.num_cycles, derived.reduced_period, derived.inverse]
                 }))
             });
-        let call = |out: &mut [u16]| vetchnoon::pergen(self.period, self.generator, out);
+        let packaged = vetchnoon::pergen(self.period, self.generator);
+        let packaged = packaged.map(|pergen| packaged_pergen(pergen).to_vec());
+        tally.compare_packaged(question, &reading, packaged);
+        let call = |out: &mut [u16]| raw::pergen(self.period, self.generator, out);
         tally.compare_filling(question, reading, original, self.period_class(), call);
     }
 
@@ -72,7 +76,10 @@ impl FreePergen {
             let answer = spelling::generation(pergen, self.asked_at(key));
             Original::of(answer.map(|found| generation(found.degree, found.cycle)))
         });
-        let call = |out: &mut [u16]| vetchnoon::generation(self.period, self.generator, key, out);
+        let packaged = vetchnoon::generation(self.period, self.generator, key);
+        let packaged = packaged.map(|found| generation(found.degree, found.cycle));
+        tally.compare_packaged(question, &reading, packaged);
+        let call = |out: &mut [u16]| raw::generation(self.period, self.generator, key, out);
         tally.compare_filling(question, reading, original, self.key_class(key), call);
     }
 
@@ -110,8 +117,10 @@ impl FreePergen {
             }
             _ => original,
         };
+        let packaged = vetchnoon::accidentals(self.period, self.generator, symbols, origin, key);
+        tally.compare_packaged(question, &reading, packaged.map(packaged_spellings));
         let call = |out: &mut [u16]| {
-            vetchnoon::accidentals(self.period, self.generator, symbols, origin, key, out)
+            raw::accidentals(self.period, self.generator, symbols, origin, key, out)
         };
         tally.compare_filling(question, reading, original, class, call);
     }
@@ -148,6 +157,21 @@ pub fn spellings(spelt: Spellings) -> Vec<u16> {
     ]
     .map(fitted)
     .to_vec()
+}
+
+/// The same of the Rust package.
+pub fn packaged_spellings(spelt: vetchnoon::Accidentals) -> Vec<u16> {
+    vec![
+        spelt.sharp_index,
+        spelt.sharp_count,
+        spelt.flat_index,
+        spelt.flat_count,
+    ]
+}
+
+/// Cycles, reduced period, inverse.
+pub fn packaged_pergen(pergen: vetchnoon::Pergen) -> [u16; 3] {
+    [pergen.cycles, pergen.reduced_period, pergen.inverse]
 }
 
 /// The same of the original. Its cycle stands in the key's generation and name.

@@ -15,6 +15,7 @@ use reading::retunings;
 
 use crate::question::Call;
 use crate::question::Question;
+use crate::subjects::keys;
 use crate::subjects::layouts::GivenLayout;
 use crate::tally::Answers;
 use crate::tally::Original;
@@ -97,9 +98,8 @@ impl GivenRetuning {
             signs,
             stars,
         } = spelling;
-        let (index, count, marks) = (fitted(letter), fitted(signs), fitted(stars));
         let answers = Answers {
-            library: outcome(vetchnoon::moved(self.given, index, count, marks)),
+            library: outcome(vetchnoon::moved(self.given, keys::packaged(spelling))),
             reading: match &self.reading {
                 Ok(retuning) => retuning.moved(spelling).map(fitted),
                 Err(number) => Err(*number),

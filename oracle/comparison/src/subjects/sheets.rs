@@ -152,28 +152,22 @@ fn read(record: &Record) -> sheets::Record {
 
 /// The sheet that the library's calls for one key make.
 fn by_single_calls(layout: Layout, keys: &[i32]) -> Outcome<Vec<sheets::Record>> {
-    let mut numbers = [0; 8];
-    outcome(vetchnoon::layout(layout, &mut numbers))?;
-    let generator = numbers[0];
+    let generator = outcome(vetchnoon::layout(layout))?.generator;
     keys.iter()
         .map(|key| outcome(single(layout, generator, *key)))
         .collect()
 }
 
 fn single(layout: Layout, generator: u16, key: i32) -> Result<sheets::Record, vetchnoon::Refused> {
-    let mut spelt = [0; 4];
-    let mut generation = [0; 3];
-    vetchnoon::layout_accidentals(layout, key, &mut spelt)?;
-    vetchnoon::generation(layout.octave, generator, key, &mut generation)?;
-    let [sharp_index, sharp_count, flat_index, flat_count] = spelt;
+    let spelt = vetchnoon::layout_accidentals(layout, key)?;
+    let generation = vetchnoon::generation(layout.octave, generator, key)?;
     Ok(sheets::Record {
         key,
-        sharp_index,
-        sharp_count,
-        flat_index,
-        flat_count,
-        // The cycle, or 0 where it is absent.
-        stars: generation[2],
+        sharp_index: spelt.sharp_index,
+        sharp_count: spelt.sharp_count,
+        flat_index: spelt.flat_index,
+        flat_count: spelt.flat_count,
+        stars: generation.cycle.unwrap_or(0),
         lamp: vetchnoon::lamp(layout, key)?,
     })
 }
