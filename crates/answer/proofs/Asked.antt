@@ -9,23 +9,23 @@ use lib.ListN.{length, get_or}
 use Rattle.answer.specs.Outcome.{Outcome, given, ask, and_then}
 use Rattle.answer.specs.Tests.{all_of}
 
-pub given-same : {A : Type 0} {a b : A} → given a ≡ given b → a ≡ b
-given-same e = cc
+pub given_same : {A : Type 0} {a b : A} → given a ≡ given b → a ≡ b
+given_same e = cc
 
 -- where there is an answer, the question was answered with yes
-pub asked-yes : {A : Type 0} {a : A} (n : ℕ) (test : Bool) (rest : Outcome A) → ask n test rest ≡ given a → test ≡ true
-asked-yes n true rest e = refl
-asked-yes n false rest e = let z : ◌≡◌ {A = ℕ} 0 1 = cc in absurd (omega arith)
+pub asked_yes : {A : Type 0} {a : A} (n : ℕ) (test : Bool) (rest : Outcome A) → ask n test rest ≡ given a → test ≡ true
+asked_yes n true rest e = refl
+asked_yes n false rest e = let z : ◌≡◌ {A = ℕ} 0 1 = cc in absurd (omega arith)
 
 -- .. and it is the answer of the later questions
-pub asked-rest : {A : Type 0} {a : A} (n : ℕ) (test : Bool) (rest : Outcome A) → ask n test rest ≡ given a → rest ≡ given a
-asked-rest n true rest e = e
-asked-rest n false rest e = let z : ◌≡◌ {A = ℕ} 0 1 = cc in absurd (omega arith)
+pub asked_rest : {A : Type 0} {a : A} (n : ℕ) (test : Bool) (rest : Outcome A) → ask n test rest ≡ given a → rest ≡ given a
+asked_rest n true rest e = e
+asked_rest n false rest e = let z : ◌≡◌ {A = ℕ} 0 1 = cc in absurd (omega arith)
 
 -- a question comes before those that its value brings
-pub ask-then : {A B : Type 0} (n : ℕ) (test : Bool) (o : Outcome A) (next : A → Outcome B) → and_then (ask n test o) next ≡ ask n test (and_then o next)
-ask-then n true o next = refl
-ask-then n false o next = refl
+pub ask_then : {A B : Type 0} (n : ℕ) (test : Bool) (o : Outcome A) (next : A → Outcome B) → and_then (ask n test o) next ≡ ask n test (and_then o next)
+ask_then n true o next = refl
+ask_then n false o next = refl
 
 -- both of two tests
 pub and_left : (a b : Bool) → (a && b) ≡ true → a ≡ true
@@ -46,7 +46,7 @@ never_true true h = absurd (h refl)
 never_true false h = refl
 
 -- all pass, so the one at any place does
-pub all-at : {A : Type 0} (test : A → Bool) (l : List A) (k : ℕ) (d : A) → all_of test l ≡ true → k < length l → test (get_or l k d) ≡ true
-all-at test [] k d e h = absurd (not-suc-le-zero h)
-all-at test (x ∷ l) zero d e h = and_left (test x) (all_of test l) e
-all-at test (x ∷ l) (suc k) d e h = all-at test l k d (and_right (test x) (all_of test l) e) (le_of_suc-le-suc h)
+pub all_at : {A : Type 0} (test : A → Bool) (l : List A) (k : ℕ) (d : A) → all_of test l ≡ true → k < length l → test (get_or l k d) ≡ true
+all_at test [] k d e h = absurd (not-suc-le-zero h)
+all_at test (x ∷ l) zero d e h = and_left (test x) (all_of test l) e
+all_at test (x ∷ l) (suc k) d e h = all_at test l k d (and_right (test x) (all_of test l) e) (le_of_suc-le-suc h)

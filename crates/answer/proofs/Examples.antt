@@ -2,20 +2,20 @@
 use mathlib.Core.Path.{refl}
 use Rattle.answer.specs.Examples.{ExamplesHold}
 
-pub examples-hold : ExamplesHold
-examples-hold =
+pub examples_hold : ExamplesHold
+examples_hold =
     record {
       numbers = refl;
-      later-numbers = refl;
-      first-no = refl;
+      later_numbers = refl;
+      first_no = refl;
       all_yes = refl;
       goes_on = refl;
       stops = refl;
       enough = refl;
-      one-short = refl;
+      one_short = refl;
       own_first = refl;
       count = refl;
-      no-count = refl;
+      no_count = refl;
       front = refl;
       untouched = refl;
     }

@@ -3,12 +3,12 @@ use Rattle.std.specs.Prelude.{ℕ, ◌≡◌, List, ◌++◌, length, drop, leb}
 use Rattle.answer.specs.Outcome.{Outcome, given, refused, ask, and_then}
 
 -- Question 10: does the output slice, of `room` elements, hold the whole output?
-abbrev pub heldIn : {A : Type 0} → ℕ → List A → Outcome (List A)
-heldIn room output = ask 10 (leb (length output) room) (given output)
+abbrev pub held_in : {A : Type 0} → ℕ → List A → Outcome (List A)
+held_in room output = ask 10 (leb (length output) room) (given output)
 
 -- Question 10 after the questions of the call.
-abbrev pub inRoom : {A : Type 0} → ℕ → Outcome (List A) → Outcome (List A)
-inRoom room output = and_then output (heldIn room)
+abbrev pub in_room : {A : Type 0} → ℕ → Outcome (List A) → Outcome (List A)
+in_room room output = and_then output (held_in room)
 
 -- How many elements were written.
 abbrev pub counted : {A : Type 0} → Outcome (List A) → Outcome ℕ

@@ -62,11 +62,11 @@ number_of TwoKeys = 24
 number_of BoardSize = 25
 
 -- A number that was given, or the number of the question.
-abbrev pub numberOutcome : NumberAnswer → Outcome ℕ
-numberOutcome (Number.Given n) = given n
-numberOutcome (Number.Refused q) = refused (number_of q)
+abbrev pub number_outcome : NumberAnswer → Outcome ℕ
+number_outcome (Number.Given n) = given n
+number_outcome (Number.Refused q) = refused (number_of q)
 
 -- How many elements were written, or the number of the question.
-abbrev pub countOutcome : CountAnswer → Outcome ℕ
-countOutcome (Count.Given n) = given n
-countOutcome (Count.Refused q) = refused (number_of q)
+abbrev pub count_outcome : CountAnswer → Outcome ℕ
+count_outcome (Count.Given n) = given n
+count_outcome (Count.Refused q) = refused (number_of q)

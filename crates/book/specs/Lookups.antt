@@ -4,7 +4,7 @@ use Rattle.std.specs.Borrow.{Bor}
 use Rattle.answer.specs.Outcome.{Outcome, given, refused}
 use Rattle.book.specs.declared.Place.{Place}
 use Rattle.book.specs.declared.Extent.{Extent}
-use Rattle.book.specs.Books.{findOutcome}
+use Rattle.book.specs.Books.{find_outcome}
 
 -- Which bytes of the caller's memory a slice is, and what they hold: their block, where in it the first one stands, and the bytes.
 pub record Slice : Type 0 where
@@ -26,25 +26,25 @@ part_at (given place) book = part book place.offset place.length
 part_at (refused n) book = part book 0 0
 
 -- "A lookup hands back the part of the caller's book that holds the name."
-unfoldable pub namePart : Slice → ℤ → Slice
-unfolding findOutcome
-namePart book key = part_at (findOutcome book.bytes key) book
+unfoldable pub name_part : Slice → ℤ → Slice
+unfolding find_outcome
+name_part book key = part_at (find_outcome book.bytes key) book
 
 -- The number beside the part: 0 where a name is found, else that of the question.
-abbrev pub refusalNumber : Outcome Place → ℕ
-refusalNumber (given place) = 0
-refusalNumber (refused n) = n
+abbrev pub refusal_number : Outcome Place → ℕ
+refusal_number (given place) = 0
+refusal_number (refused n) = n
 
-unfoldable pub nameRefusal : List ℕ → ℤ → ℕ
-unfolding findOutcome
-nameRefusal book key = refusalNumber (findOutcome book key)
+unfoldable pub name_refusal : List ℕ → ℤ → ℕ
+unfolding find_outcome
+name_refusal book key = refusal_number (find_outcome book key)
 
 -- Where that part starts and ends in the book, and the number beside it: what a lookup puts together.
-abbrev pub extentAt : Outcome Place → Extent
-extentAt (given place) = record { start = place.offset; end = place.offset + place.length; refusal = 0 }
-extentAt (refused n) = record { start = 0; end = 0; refusal = n }
+abbrev pub extent_at : Outcome Place → Extent
+extent_at (given place) = record { start = place.offset; end = place.offset + place.length; refusal = 0 }
+extent_at (refused n) = record { start = 0; end = 0; refusal = n }
 
 -- The promise of a lookup: the part that it hands back, and the number beside it.
 pub record LookedUp (book : Slice) (key : ℤ) (name : Slice) (refusal : ℕ) : Type 0 where
-  pub is-part : name ≡ namePart book key
-  pub is-number : refusal ≡ nameRefusal book.bytes key
+  pub is_part : name ≡ name_part book key
+  pub is_number_lem : refusal ≡ name_refusal book.bytes key

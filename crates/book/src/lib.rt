@@ -5,10 +5,12 @@
 // and no byte outside the book's text is ever handed out.
 // specs/: the format and its questions (Books); which part of the caller's book a lookup hands back (Lookups); that the
 // names of an accepted book are its text, and that a written book is read back (Theorems). Nothing is assumed.
+#![tactic(auto)]
+
 ghost use Rattle.std.specs.Prelude.{◌-◌, ◌≤◌, ◌≡◌, length};
-ghost use Rattle.book.specs.Books.{PairsHeld, textCovered, keysOutcome, findOutcome};
-ghost use Rattle.book.specs.Answers.{keysAnswered, findAnswered};
-ghost use Rattle.book.specs.Lookups.{slice, part, extentAt, LookedUp};
+ghost use Rattle.book.specs.Books.{PairsHeld, text_covered, keys_outcome, find_outcome};
+ghost use Rattle.book.specs.Answers.{keys_answered, find_answered};
+ghost use Rattle.book.specs.Lookups.{slice, part, extent_at, LookedUp};
 
 use answer::Refusal;
 use text::little_endian::read_u32;
@@ -45,7 +47,7 @@ pub struct NameAnswer<'a> {
 // Question 12. A usize has 64 bits, so the sum of an offset and a length does not wrap.
 fn covers(book: &[u8], count: u32) -> bool
     requires { PairsHeld book.now count }
-    ensures { result ≡ textCovered book.now }
+    ensures { result ≡ text_covered book.now }
 {
     let mut due = 4 + 8 * (count as usize);
     let mut key: u32 = 0;
@@ -67,7 +69,7 @@ fn covers(book: &[u8], count: u32) -> bool
 
 // How many keys the book has: 11, 12.
 pub fn count(book: &[u8]) -> KeysAnswer
-    ensures { keysAnswered result ≡ keysOutcome book.now }
+    ensures { keys_answered result ≡ keys_outcome book.now }
 {
     if book.len() < 4 {
         return KeysAnswer::Refused(Refusal::BookPairs);
@@ -87,7 +89,7 @@ pub fn count(book: &[u8]) -> KeysAnswer
 
 // Where the key's name stands in the book: 11, 12, 13. A book's keys begin at 0, so 13 refuses a key below 0 too.
 pub fn find(book: &[u8], key: i32) -> FindAnswer
-    ensures { findAnswered result ≡ findOutcome book.now key }
+    ensures { find_answered result ≡ find_outcome book.now key }
 {
     match count(book) {
         KeysAnswer::Given(keys) => {
@@ -117,7 +119,7 @@ struct Extent {
 
 // The extent of the key's name: 11, 12, 13.
 fn extent_of(book: &[u8], key: i32) -> Extent
-    ensures { result ≡ extentAt (findOutcome book.now key) }
+    ensures { result ≡ extent_at (find_outcome book.now key) }
 {
     match find(book, key) {
         FindAnswer::Found(place) => {

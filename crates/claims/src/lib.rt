@@ -13,9 +13,11 @@
 // - Demand 2's first half: what an entry point answers "is an equation with a definition", input by input. The claims below say of these
 //   definitions, from outside, that they are the right ones.
 // - W-205, the search as a loop: `mos_walks::search::first_with` and the walk that calls itself, `mos_walks::parts::seek`, promise the same
-//   `firstWith` of the same walk: "Every answer remains."
+//   `first_with` of the same walk: "Every answer remains."
 //
 // Nothing is assumed.
+#![tactic(auto)]
+
 pub mod beyond;
 
 ghost use Rattle.std.specs.Prelude.{ℕ};

@@ -1,6 +1,8 @@
 // The deepest walks, run to their ends: 65,534 self calls down from the genesis of 65535 and 1, and up from 1, 65535, 4, 0.
 //
 // Each line is what one entry point of `mos_walks` or `mos_listings` answers: the four numbers of a pattern, a count, `nothing`, or `refused`.
+#![tactic(auto)]
+
 use answer::CountAnswer;
 use libc::STDOUT_FILENO;
 use mos::{Mos, MosAnswer, WalkAnswer};

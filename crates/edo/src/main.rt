@@ -4,6 +4,8 @@
 //
 // What is printed is `output` of the whole line that was read, made by `edo_lines`; `streams` reads the line and writes.
 // Which bytes a read hands over, and where written bytes go, rests on the kit's library.
+#![tactic(auto)]
+
 ghost use Rattle.edo_lines.specs.Lines.{output};
 ghost use Rattle.streams.specs.Reading.{LineRead, LineIsEnough};
 ghost use Rattle.streams.specs.Printing.{Printed};

@@ -12,34 +12,34 @@ use Rattle.answer.specs.Outcome.{Outcome, given, refused}
 use Rattle.mos.specs.declared.Mos.{Mos}
 use Rattle.mos.specs.Patterns.{primary, secondary}
 use Rattle.edo_layouts.specs.declared.EdoLayout.{EdoLayout}
-use Rattle.edo_layouts.specs.Layouts.{chainOutcome, given_of, gathered, layoutsOf, one}
-use Rattle.edo_layouts.proofs.Serving.{chain-is}
+use Rattle.edo_layouts.specs.Layouts.{chain_outcome, given_of, gathered, layouts_of, one}
+use Rattle.edo_layouts.proofs.Serving.{chain_is}
 use Rattle.edo_counts.specs.declared.parts.Tally.{Tally}
-use Rattle.edo_counts.specs.Counts.{allLayouts, countPassing, isAbove, isBelow, isEqual, ofChain, tally_of}
+use Rattle.edo_counts.specs.Counts.{all_layouts, count_passing, is_above, is_below, is_equal, of_chain, tally_of}
 use Rattle.edo_counts.specs.Parts.{plus, side, Small}
 
 -- ---- counts of lists
 
-pub count-append : (p : EdoLayout → Bool) (xs ys : List EdoLayout) → countPassing p (xs ++ ys) ≡ countPassing p xs + countPassing p ys
-unfolding countPassing
-count-append p [] ys = sym (zero-add (countPassing p ys))
-count-append p (x ∷ xs) ys = omega (arith, count-append p xs ys)
+pub count_append : (p : EdoLayout → Bool) (xs ys : List EdoLayout) → count_passing p (xs ++ ys) ≡ count_passing p xs + count_passing p ys
+unfolding count_passing
+count_append p [] ys = sym (zero-add (count_passing p ys))
+count_append p (x ∷ xs) ys = omega (arith, count_append p xs ys)
 
-pub count_none : (p : EdoLayout → Bool) → countPassing p [] ≡ 0
-unfolding countPassing
+pub count_none : (p : EdoLayout → Bool) → count_passing p [] ≡ 0
+unfolding count_passing
 count_none p = refl
 
-count-one : (p : EdoLayout → Bool) (c : EdoLayout) → countPassing p (c ∷ []) ≡ one (p c)
-unfolding countPassing
-count-one p c = add-zero (one (p c))
+count_one : (p : EdoLayout → Bool) (c : EdoLayout) → count_passing p (c ∷ []) ≡ one (p c)
+unfolding count_passing
+count_one p c = add-zero (one (p c))
 
-one-small : (b : Bool) → one b ≤ 1
-one-small true = omega arith
-one-small false = omega arith
+one_small : (b : Bool) → one b ≤ 1
+one_small true = omega arith
+one_small false = omega arith
 
-pub count-given : (p : EdoLayout → Bool) (o : Outcome EdoLayout) → countPassing p (given_of o) ≤ 1
-count-given p (given c) = omega (arith, count-one p c, one-small (p c))
-count-given p (refused q) = omega (arith, count_none p)
+pub count_given : (p : EdoLayout → Bool) (o : Outcome EdoLayout) → count_passing p (given_of o) ≤ 1
+count_given p (given c) = omega (arith, count_one p c, one_small (p c))
+count_given p (refused q) = omega (arith, count_none p)
 
 -- ---- of what is gathered, one list counts
 
@@ -51,50 +51,50 @@ pub gathered_none : (f : ℕ → List EdoLayout) → gathered f 0 ≡ []
 unfolding gathered
 gathered_none f = refl
 
-module _ (p : EdoLayout → Bool) (f : ℕ → List EdoLayout) (code : ℕ) (others : (k : ℕ) → (k ≡ code → ⊥) → countPassing p (f k) ≡ 0) where
-  before-it : (m : ℕ) → m ≤ code → countPassing p (gathered f m) ≡ 0
-  before-it zero h = ap (countPassing p) (gathered_none f) ∙ count_none p
-  before-it (suc m) h =
+module _ (p : EdoLayout → Bool) (f : ℕ → List EdoLayout) (code : ℕ) (others : (k : ℕ) → (k ≡ code → ⊥) → count_passing p (f k) ≡ 0) where
+  before_it : (m : ℕ) → m ≤ code → count_passing p (gathered f m) ≡ 0
+  before_it zero h = ap (count_passing p) (gathered_none f) ∙ count_none p
+  before_it (suc m) h =
       omega (
         arith,
-        ap (countPassing p) (gathered_next f m),
-        count-append p (gathered f m) (f m),
-        before-it m (omega arith),
+        ap (count_passing p) (gathered_next f m),
+        count_append p (gathered f m) (f m),
+        before_it m (omega arith),
         others m (λ e. omega arith),
       )
 
-  split : (m : ℕ) → countPassing p (gathered f (suc m)) ≡ countPassing p (gathered f m) + countPassing p (f m)
-  split m = ap (countPassing p) (gathered_next f m) ∙ count-append p (gathered f m) (f m)
+  split : (m : ℕ) → count_passing p (gathered f (suc m)) ≡ count_passing p (gathered f m) + count_passing p (f m)
+  split m = ap (count_passing p) (gathered_next f m) ∙ count_append p (gathered f m) (f m)
 
-  at-or-past : (m : ℕ) → (code ≡ m) ⊎ (code < m) → (code < m → countPassing p (gathered f m) ≡ countPassing p (f code))
-      → countPassing p (gathered f (suc m)) ≡ countPassing p (f code)
-  at-or-past m (inl e) past = omega (arith, split m, before-it m (omega arith), ap (λ (k : ℕ). countPassing p (f k)) e)
-  at-or-past m (inr l) past = omega (arith, split m, past l, others m (λ e. omega arith))
+  at_or_past : (m : ℕ) → (code ≡ m) ⊎ (code < m) → (code < m → count_passing p (gathered f m) ≡ count_passing p (f code))
+      → count_passing p (gathered f (suc m)) ≡ count_passing p (f code)
+  at_or_past m (inl e) past = omega (arith, split m, before_it m (omega arith), ap (λ (k : ℕ). count_passing p (f k)) e)
+  at_or_past m (inr l) past = omega (arith, split m, past l, others m (λ e. omega arith))
 
-  pub only-it : (m : ℕ) → code < m → countPassing p (gathered f m) ≡ countPassing p (f code)
-  only-it zero h = absurd (let z : ⊥ = omega arith in z)
-  only-it (suc m) h = at-or-past m (eq-or-lt_of_le (let z : code ≤ m = omega arith in z)) (λ l. only-it m l)
+  pub only_it : (m : ℕ) → code < m → count_passing p (gathered f m) ≡ count_passing p (f code)
+  only_it zero h = absurd (let z : ⊥ = omega arith in z)
+  only_it (suc m) h = at_or_past m (eq-or-lt_of_le (let z : code ≤ m = omega arith in z)) (λ l. only_it m l)
 
 -- ---- a chain's layouts count for that chain
 
 module _ (n : ℕ) where
-  not-its : (code k : ℕ) (side : Mos → Bool) → (k ≡ code → ⊥) → (o : Outcome EdoLayout) → o ≡ chainOutcome n k → countPassing (ofChain code side) (given_of o) ≡ 0
-  not-its code k side h (refused q) e = count_none (ofChain code side)
-  not-its code k side h (given c) e =
-      count-one (ofChain code side) c
-      ∙ ap (λ (b : Bool). one (b && side c.pattern)) (ne_eqb c.layout.genchain code (λ f. h (sym (chain-is n k c e) ∙ f)))
+  not_its : (code k : ℕ) (side : Mos → Bool) → (k ≡ code → ⊥) → (o : Outcome EdoLayout) → o ≡ chain_outcome n k → count_passing (of_chain code side) (given_of o) ≡ 0
+  not_its code k side h (refused q) e = count_none (of_chain code side)
+  not_its code k side h (given c) e =
+      count_one (of_chain code side) c
+      ∙ ap (λ (b : Bool). one (b && side c.pattern)) (ne_eqb c.layout.genchain code (λ f. h (sym (chain_is n k c e) ∙ f)))
 
-  pub division-counts : (code : ℕ) (side : Mos → Bool) → code < 6
-      → countPassing (ofChain code side) (layoutsOf n) ≡ countPassing (ofChain code side) (given_of (chainOutcome n code))
-  unfolding layoutsOf
-  division-counts code side h =
-      only-it (ofChain code side) (λ (k : ℕ). given_of (chainOutcome n k)) code
-      (λ k e. not-its code k side e (chainOutcome n k) refl) 6 h
+  pub division_counts : (code : ℕ) (side : Mos → Bool) → code < 6
+      → count_passing (of_chain code side) (layouts_of n) ≡ count_passing (of_chain code side) (given_of (chain_outcome n code))
+  unfolding layouts_of
+  division_counts code side h =
+      only_it (of_chain code side) (λ (k : ℕ). given_of (chain_outcome n k)) code
+      (λ k e. not_its code k side e (chain_outcome n k) refl) 6 h
 
-  pub its : (code : ℕ) (side : Mos → Bool) (c : EdoLayout) → given c ≡ chainOutcome n code → countPassing (ofChain code side) (c ∷ []) ≡ one (side c.pattern)
+  pub its : (code : ℕ) (side : Mos → Bool) (c : EdoLayout) → given c ≡ chain_outcome n code → count_passing (of_chain code side) (c ∷ []) ≡ one (side c.pattern)
   its code side c e =
-      count-one (ofChain code side) c
-      ∙ ap (λ (b : Bool). one (b && side c.pattern)) (eq-eqb c.layout.genchain code (chain-is n code c e))
+      count_one (of_chain code side) c
+      ∙ ap (λ (b : Bool). one (b && side c.pattern)) (eq-eqb c.layout.genchain code (chain_is n code c e))
 
 -- ---- tallies
 
@@ -110,116 +110,116 @@ same {a} {b} {e} {x} {y} {z} p q r =
 
 module _ (code n : ℕ) where
   abbrev got : Tally
-  got = tally_of code (given_of (chainOutcome n code))
+  got = tally_of code (given_of (chain_outcome n code))
 
   -- no layout
-  pub counts-none : (past : Tally) (q : ℕ) → refused q ≡ chainOutcome n code → past ≡ plus past got
+  pub counts_none : (past : Tally) (q : ℕ) → refused q ≡ chain_outcome n code → past ≡ plus past got
   unfolding tally_of
-  counts-none past q e =
+  counts_none past q e =
       same
-      (nothing (ofChain code isAbove) past.above)
-      (nothing (ofChain code isBelow) past.below)
-      (nothing (ofChain code isEqual) past.equal)
+      (nothing (of_chain code is_above) past.above)
+      (nothing (of_chain code is_below) past.below)
+      (nothing (of_chain code is_equal) past.equal)
     where
-      nothing : (p : EdoLayout → Bool) (k : ℕ) → k ≡ k + countPassing p (given_of (chainOutcome n code))
+      nothing : (p : EdoLayout → Bool) (k : ℕ) → k ≡ k + count_passing p (given_of (chain_outcome n code))
       nothing p k =
-          omega (arith, ap (λ (o : Outcome EdoLayout). countPassing p (given_of o)) e, count_none p)
+          omega (arith, ap (λ (o : Outcome EdoLayout). count_passing p (given_of o)) e, count_none p)
 
   -- one
-  pub counts-one : (past r : Tally) (c : EdoLayout) → given c ≡ chainOutcome n code → r ≡ plus past (side c.pattern) → r ≡ plus past got
+  pub counts_one : (past r : Tally) (c : EdoLayout) → given c ≡ chain_outcome n code → r ≡ plus past (side c.pattern) → r ≡ plus past got
   unfolding tally_of
-  counts-one past r c e q = q ∙ same (seen isAbove past.above) (seen isBelow past.below) (seen isEqual past.equal)
+  counts_one past r c e q = q ∙ same (seen is_above past.above) (seen is_below past.below) (seen is_equal past.equal)
     where
-      seen : (test : Mos → Bool) (k : ℕ) → k + one (test c.pattern) ≡ k + countPassing (ofChain code test) (given_of (chainOutcome n code))
+      seen : (test : Mos → Bool) (k : ℕ) → k + one (test c.pattern) ≡ k + count_passing (of_chain code test) (given_of (chain_outcome n code))
       seen test k =
           ap (λ (x : ℕ). k + x)
-          (sym (its n code test c e) ∙ ap (λ (o : Outcome EdoLayout). countPassing (ofChain code test) (given_of o)) e)
+          (sym (its n code test c e) ∙ ap (λ (o : Outcome EdoLayout). count_passing (of_chain code test) (given_of o)) e)
 
 -- ---- the three sides
 
 module _ (past : Tally) (m : Mos) where
-  by_tests : (a b e : Bool) → isAbove m ≡ a → isBelow m ≡ b → isEqual m ≡ e
+  by_tests : (a b e : Bool) → is_above m ≡ a → is_below m ≡ b → is_equal m ≡ e
       → made (past.above + one a) (past.below + one b) (past.equal + one e) ≡ plus past (side m)
   by_tests a b e p q r =
       same (ap (λ (x : Bool). past.above + one x) (sym p)) (ap (λ (x : Bool). past.below + one x) (sym q)) (ap (λ (x : Bool). past.equal + one x) (sym r))
 
-  pub side-above : secondary m < primary m → made (past.above + 1) past.below past.equal ≡ plus past (side m)
-  side-above h =
+  pub side_above : secondary m < primary m → made (past.above + 1) past.below past.equal ≡ plus past (side m)
+  side_above h =
       same refl (sym (add-zero past.below)) (sym (add-zero past.equal))
       ∙ by_tests true false false (lt-ltb _ _ h) (le-ltb _ _ (let z : secondary m ≤ primary m = omega arith in z)) (ne_eqb (primary m) (secondary m) (λ (e : primary m ≡ secondary m). omega arith))
 
-  pub side-below : primary m < secondary m → made past.above (past.below + 1) past.equal ≡ plus past (side m)
-  side-below h =
+  pub side_below : primary m < secondary m → made past.above (past.below + 1) past.equal ≡ plus past (side m)
+  side_below h =
       same (sym (add-zero past.above)) refl (sym (add-zero past.equal))
       ∙ by_tests false true false (le-ltb _ _ (let z : primary m ≤ secondary m = omega arith in z)) (lt-ltb _ _ h) (ne_eqb (primary m) (secondary m) (λ (e : primary m ≡ secondary m). omega arith))
 
-  pub side-equal : primary m ≤ secondary m → secondary m ≤ primary m → made past.above past.below (past.equal + 1) ≡ plus past (side m)
-  side-equal h k =
+  pub side_equal : primary m ≤ secondary m → secondary m ≤ primary m → made past.above past.below (past.equal + 1) ≡ plus past (side m)
+  side_equal h k =
       same (sym (add-zero past.above)) (sym (add-zero past.below)) refl
       ∙ by_tests false false true (le-ltb _ _ h) (le-ltb _ _ k) (eq-eqb _ _ (let z : primary m ≡ secondary m = omega arith in z))
 
 -- ---- over the divisions
 
-all_none : allLayouts 0 ≡ []
-unfolding allLayouts
-all_none = gathered_none (λ (before : ℕ). layoutsOf (before + 1))
+all_none : all_layouts 0 ≡ []
+unfolding all_layouts
+all_none = gathered_none (λ (before : ℕ). layouts_of (before + 1))
 
-all_more : (before : ℕ) → allLayouts (before + 1) ≡ allLayouts before ++ layoutsOf (before + 1)
-unfolding allLayouts
-all_more before = ap (gathered (λ (k : ℕ). layoutsOf (k + 1))) (add-one before) ∙ gathered_next (λ (k : ℕ). layoutsOf (k + 1)) before
+all_more : (before : ℕ) → all_layouts (before + 1) ≡ all_layouts before ++ layouts_of (before + 1)
+unfolding all_layouts
+all_more before = ap (gathered (λ (k : ℕ). layouts_of (k + 1))) (add-one before) ∙ gathered_next (λ (k : ℕ). layouts_of (k + 1)) before
 
-pub count-more : (p : EdoLayout → Bool) (before : ℕ) → countPassing p (allLayouts (before + 1)) ≡ countPassing p (allLayouts before) + countPassing p (layoutsOf (before + 1))
-count-more p before = ap (countPassing p) (all_more before) ∙ count-append p (allLayouts before) (layoutsOf (before + 1))
+pub count_more : (p : EdoLayout → Bool) (before : ℕ) → count_passing p (all_layouts (before + 1)) ≡ count_passing p (all_layouts before) + count_passing p (layouts_of (before + 1))
+count_more p before = ap (count_passing p) (all_more before) ∙ count_append p (all_layouts before) (layouts_of (before + 1))
 
-pub count-all-none : (p : EdoLayout → Bool) → countPassing p (allLayouts 0) ≡ 0
-count-all-none p = ap (countPassing p) all_none ∙ count_none p
+pub count_all_none : (p : EdoLayout → Bool) → count_passing p (all_layouts 0) ≡ 0
+count_all_none p = ap (count_passing p) all_none ∙ count_none p
 
-pub tally-none : (code : ℕ) → none ≡ tally_of code (allLayouts 0)
+pub tally_none : (code : ℕ) → none ≡ tally_of code (all_layouts 0)
 unfolding tally_of
-tally-none code =
+tally_none code =
     same
-    (sym (count-all-none (ofChain code isAbove)))
-    (sym (count-all-none (ofChain code isBelow)))
-    (sym (count-all-none (ofChain code isEqual)))
+    (sym (count_all_none (of_chain code is_above)))
+    (sym (count_all_none (of_chain code is_below)))
+    (sym (count_all_none (of_chain code is_equal)))
 
 module _ (code : ℕ) (h : code < 6) where
   -- one division more: its layouts count as the chain's one does
   one_more : (test : Mos → Bool) (before : ℕ)
-      → countPassing (ofChain code test) (allLayouts before) + countPassing (ofChain code test) (given_of (chainOutcome (before + 1) code))
-      ≡ countPassing (ofChain code test) (allLayouts (before + 1))
+      → count_passing (of_chain code test) (all_layouts before) + count_passing (of_chain code test) (given_of (chain_outcome (before + 1) code))
+      ≡ count_passing (of_chain code test) (all_layouts (before + 1))
   one_more test before =
-      ap (λ (k : ℕ). countPassing (ofChain code test) (allLayouts before) + k) (sym (division-counts (before + 1) code test h))
-      ∙ sym (count-more (ofChain code test) before)
+      ap (λ (k : ℕ). count_passing (of_chain code test) (all_layouts before) + k) (sym (division_counts (before + 1) code test h))
+      ∙ sym (count_more (of_chain code test) before)
 
-  pub tally-more : (before : ℕ) (past r : Tally) → past ≡ tally_of code (allLayouts before)
-      → r ≡ plus past (tally_of code (given_of (chainOutcome (before + 1) code))) → r ≡ tally_of code (allLayouts (before + 1))
+  pub tally_more : (before : ℕ) (past r : Tally) → past ≡ tally_of code (all_layouts before)
+      → r ≡ plus past (tally_of code (given_of (chain_outcome (before + 1) code))) → r ≡ tally_of code (all_layouts (before + 1))
   unfolding tally_of
-  tally-more before past r e q =
+  tally_more before past r e q =
       q
-      ∙ ap (λ (t : Tally). plus t (tally_of code (given_of (chainOutcome (before + 1) code)))) e
-      ∙ same (one_more isAbove before) (one_more isBelow before) (one_more isEqual before)
+      ∙ ap (λ (t : Tally). plus t (tally_of code (given_of (chain_outcome (before + 1) code)))) e
+      ∙ same (one_more is_above before) (one_more is_below before) (one_more is_equal before)
 
   -- at most one of each division
-  few : (test : Mos → Bool) (before : ℕ) → countPassing (ofChain code test) (allLayouts before) ≤ before
-  few test zero = omega (arith, count-all-none (ofChain code test))
+  few : (test : Mos → Bool) (before : ℕ) → count_passing (of_chain code test) (all_layouts before) ≤ before
+  few test zero = omega (arith, count_all_none (of_chain code test))
   few test (suc before) =
       rw (← (add-one before))
       (omega (
         arith,
         one_more test before,
         few test before,
-        count-given (ofChain code test) (chainOutcome (before + 1) code),
+        count_given (of_chain code test) (chain_outcome (before + 1) code),
       ))
 
-  pub tally-few : (before : ℕ) (t : Tally) → t ≡ tally_of code (allLayouts before) → (t.above ≤ before) × (t.below ≤ before) × (t.equal ≤ before)
+  pub tally_few : (before : ℕ) (t : Tally) → t ≡ tally_of code (all_layouts before) → (t.above ≤ before) × (t.below ≤ before) × (t.equal ≤ before)
   unfolding tally_of
-  tally-few before t e = (
-    omega (arith, ap (λ (x : Tally). x.above) e, few isAbove before),
-    omega (arith, ap (λ (x : Tally). x.below) e, few isBelow before),
-    omega (arith, ap (λ (x : Tally). x.equal) e, few isEqual before),
+  tally_few before t e = (
+    omega (arith, ap (λ (x : Tally). x.above) e, few is_above before),
+    omega (arith, ap (λ (x : Tally). x.below) e, few is_below before),
+    omega (arith, ap (λ (x : Tally). x.equal) e, few is_equal before),
   )
 
-  pub tally-small : (before : ℕ) (t : Tally) → t ≡ tally_of code (allLayouts before) → before < 400 → Small t
-  tally-small before t e l =
-      let f = tally-few before t e in
+  pub tally_small : (before : ℕ) (t : Tally) → t ≡ tally_of code (all_layouts before) → before < 400 → Small t
+  tally_small before t e l =
+      let f = tally_few before t e in
       record { above = omega (arith, f.0); below = omega (arith, f.1); equal = omega (arith, f.2) }

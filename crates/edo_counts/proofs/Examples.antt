@@ -1,8 +1,8 @@
 -- The worked examples hold by computation.
 use mathlib.Core.Path.{refl}
-use Rattle.edo_counts.specs.Counts.{allLayouts, tally_of, reportLine}
+use Rattle.edo_counts.specs.Counts.{all_layouts, tally_of, report_line}
 use Rattle.edo_counts.specs.Examples.{ExamplesHold}
 
-pub examples-hold : ExamplesHold
-unfolding allLayouts tally_of reportLine
-examples-hold = record { tallies = refl; line = refl }
+pub examples_hold : ExamplesHold
+unfolding all_layouts tally_of report_line
+examples_hold = record { tallies = refl; line = refl }

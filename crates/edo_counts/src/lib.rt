@@ -4,11 +4,13 @@
 // at 0. The layouts are those of `edo_layouts`.
 // specs/: Counts defines the report, Theorems states that it counts each layout once, Examples has small counts.
 // The entry point answers every input; `parts` asks for more, as its head says. Nothing is assumed.
+#![tactic(auto)]
+
 pub mod parts;
 
 ghost use Rattle.std.specs.Prelude.{length};
-ghost use Rattle.answer.specs.Lent.{heldIn, Filled};
-ghost use Rattle.answer.specs.Refusals.{countOutcome};
+ghost use Rattle.answer.specs.Lent.{held_in, Filled};
+ghost use Rattle.answer.specs.Refusals.{count_outcome};
 ghost use Rattle.edo_counts.specs.Counts.{report};
 
 use answer::{CountAnswer, Refusal};
@@ -16,7 +18,7 @@ use text::writer;
 
 // The report at the front of a slice that holds it (10). It is short, so it is made first and measured.
 pub fn report(out: &mut [u8]) -> CountAnswer
-    ensures { Filled (heldIn (length out.old) report) (countOutcome result) out.old out.new }
+    ensures { Filled (held_in (length out.old) report) (count_outcome result) out.old out.new }
 {
     let mut text = [0u8; 144];
     let count = parts::put_report(&mut text);

@@ -2,8 +2,8 @@
 // which holds the report: six lines of four numbers with at most five digits.
 ghost use Rattle.std.specs.Prelude.{◌≡◌, ◌+◌, ◌≤◌, ◌<◌, length};
 ghost use Rattle.text.specs.Writing.{Wrote};
-ghost use Rattle.edo_layouts.specs.Layouts.{chainOutcome, given_of};
-ghost use Rattle.edo_counts.specs.Counts.{allLayouts, tally_of, reportLine, report};
+ghost use Rattle.edo_layouts.specs.Layouts.{chain_outcome, given_of};
+ghost use Rattle.edo_counts.specs.Counts.{all_layouts, tally_of, report_line, report};
 ghost use Rattle.edo_counts.specs.Parts.{plus, side, Small};
 
 use edo_layouts::EdoAnswer;
@@ -47,7 +47,7 @@ fn count_pattern(past: Tally, pattern: Mos) -> Tally
 // The layout of a chain where n steps make an octave, if there is one.
 fn count_chain(past: Tally, n: u16, genchain: u16) -> Tally
     requires { Small past }
-    ensures { result ≡ plus past (tally_of genchain (given_of (chainOutcome n genchain))) }
+    ensures { result ≡ plus past (tally_of genchain (given_of (chain_outcome n genchain))) }
 {
     match edo_layouts::find_chain_by_edo(n, genchain) {
         EdoAnswer::Refused(_) => past,
@@ -61,7 +61,7 @@ fn count_chain(past: Tally, n: u16, genchain: u16) -> Tally
 // The layouts of a chain, over all divisions.
 fn tally_chain(genchain: u16) -> Tally
     requires { genchain < 6 }
-    ensures { result ≡ tally_of genchain (allLayouts 400) }
+    ensures { result ≡ tally_of genchain (all_layouts 400) }
 {
     let mut tally = Tally {
         above: 0,
@@ -80,7 +80,7 @@ fn tally_chain(genchain: u16) -> Tally
 // A chain's line; the place after it. No number has more than five digits.
 fn put_line(out: &mut [u8], at: usize, genchain: u16, above: u16, below: u16, equal: u16) -> usize
     requires { at + 24 ≤ length out.old }
-    ensures { Wrote out.old at (reportLine genchain above below equal) out.new result }
+    ensures { Wrote out.old at (report_line genchain above below equal) out.new result }
 {
     let first = decimal::put_number_then(out, at, genchain, b' ');
     let second = decimal::put_number_then(out, first, above, b' ');

@@ -8,64 +8,64 @@ use mathlib.Core.List.{List, [], ◌∷◌, ◌++◌, append_assoc, append-nil}
 use lib.ListN.{length, set, take, drop, length-append}
 use lib.Seq.{take-append_seam}
 use Rattle.answer.specs.Outcome.{Outcome, given, refused, ask, and_then}
-use Rattle.answer.specs.Lent.{heldIn, inRoom}
-use Rattle.answer.proofs.Asked.{asked-yes}
+use Rattle.answer.specs.Lent.{held_in, in_room}
+use Rattle.answer.proofs.Asked.{asked_yes}
 use Rattle.text.specs.Writing.{Wrote, joined}
-use Rattle.text.proofs.Writing.{wrote_one, then, wrote_as, wrote-length, wrote-front}
+use Rattle.text.proofs.Writing.{wrote_one, then, wrote_as, wrote_length, wrote_front}
 use Rattle.text.proofs.Joined.{joined_same}
 use Rattle.edo_tritaves.specs.declared.Choices.{Choices}
-use Rattle.edo_tritaves.specs.Tritaves.{isDivision, choicesOf, tritavesOf}
+use Rattle.edo_tritaves.specs.Tritaves.{is_division, choices_of, tritaves_of}
 use Rattle.edo_layouts.specs.declared.EdoLayout.{EdoLayout}
-use Rattle.edo_layouts.specs.Layouts.{chainServed, chainOutcome, given_of, gathered, layoutsOf, one, numbersOf, joinedOver, findByEdo}
-use Rattle.edo_layouts.specs.Parts.{chainNumbers}
-use Rattle.edo_layouts.proofs.Serving.{chain-served}
+use Rattle.edo_layouts.specs.Layouts.{chain_served, chain_outcome, given_of, gathered, layouts_of, one, numbers_of, joined_over, find_by_edo}
+use Rattle.edo_layouts.specs.Parts.{chain_numbers}
+use Rattle.edo_layouts.proofs.Serving.{chain_served_lem}
 
 -- ---- what is said of a list that is gathered
 
-pub joined-over-append : (said : EdoLayout → List ℕ) (xs ys : List EdoLayout) → joinedOver said (xs ++ ys) ≡ joinedOver said xs ++ joinedOver said ys
-unfolding joinedOver
-joined-over-append said [] ys = refl
-joined-over-append said (x ∷ xs) ys =
-    ap (λ (l : List ℕ). said x ++ l) (joined-over-append said xs ys) ∙ sym (append_assoc (said x) (joinedOver said xs) (joinedOver said ys))
+pub joined_over_append : (said : EdoLayout → List ℕ) (xs ys : List EdoLayout) → joined_over said (xs ++ ys) ≡ joined_over said xs ++ joined_over said ys
+unfolding joined_over
+joined_over_append said [] ys = refl
+joined_over_append said (x ∷ xs) ys =
+    ap (λ (l : List ℕ). said x ++ l) (joined_over_append said xs ys) ∙ sym (append_assoc (said x) (joined_over said xs) (joined_over said ys))
 
-pub joined-over-gathered : (said : EdoLayout → List ℕ) (list : ℕ → List EdoLayout) (k : ℕ)
-    → joinedOver said (gathered list k) ≡ joined (λ (i : ℕ). joinedOver said (list i)) k
-unfolding gathered joined joinedOver
-joined-over-gathered said list zero = refl
-joined-over-gathered said list (suc k) =
-    joined-over-append said (gathered list k) (list k) ∙ ap (λ (l : List ℕ). l ++ joinedOver said (list k)) (joined-over-gathered said list k)
+pub joined_over_gathered : (said : EdoLayout → List ℕ) (list : ℕ → List EdoLayout) (k : ℕ)
+    → joined_over said (gathered list k) ≡ joined (λ (i : ℕ). joined_over said (list i)) k
+unfolding gathered joined joined_over
+joined_over_gathered said list zero = refl
+joined_over_gathered said list (suc k) =
+    joined_over_append said (gathered list k) (list k) ∙ ap (λ (l : List ℕ). l ++ joined_over said (list k)) (joined_over_gathered said list k)
 
-pub joined-over-one : (said : EdoLayout → List ℕ) (c : EdoLayout) → joinedOver said (c ∷ []) ≡ said c
-unfolding joinedOver
-joined-over-one said c = append-nil (said c)
+pub joined_over_one : (said : EdoLayout → List ℕ) (c : EdoLayout) → joined_over said (c ∷ []) ≡ said c
+unfolding joined_over
+joined_over_one said c = append-nil (said c)
 
-pub joined-over-none : (said : EdoLayout → List ℕ) → joinedOver said [] ≡ []
-unfolding joinedOver
-joined-over-none said = refl
+pub joined_over_none : (said : EdoLayout → List ℕ) → joined_over said [] ≡ []
+unfolding joined_over
+joined_over_none said = refl
 
 -- ---- the numbers of one chain
 
 module _ (n : ℕ) (t : Choices) (code : ℕ) where
-  pub chain-numbers : (c : EdoLayout) → given c ≡ chainServed n code t → numbersOf c ≡ chainNumbers n t code
-  unfolding chainNumbers
-  chain-numbers c e = sym (joined-over-one numbersOf c) ∙ ap (λ (o : Outcome EdoLayout). joinedOver numbersOf (given_of o)) e
+  pub chain_numbers_lem : (c : EdoLayout) → given c ≡ chain_served n code t → numbers_of c ≡ chain_numbers n t code
+  unfolding chain_numbers
+  chain_numbers_lem c e = sym (joined_over_one numbers_of c) ∙ ap (λ (o : Outcome EdoLayout). joined_over numbers_of (given_of o)) e
 
-  pub no-numbers : (q : ℕ) → refused q ≡ chainServed n code t → [] ≡ chainNumbers n t code
-  unfolding chainNumbers
-  no-numbers q e = sym (joined-over-none numbersOf) ∙ ap (λ (o : Outcome EdoLayout). joinedOver numbersOf (given_of o)) e
+  pub no_numbers : (q : ℕ) → refused q ≡ chain_served n code t → [] ≡ chain_numbers n t code
+  unfolding chain_numbers
+  no_numbers q e = sym (joined_over_none numbers_of) ∙ ap (λ (o : Outcome EdoLayout). joined_over numbers_of (given_of o)) e
 
-  at_most : (o : Outcome EdoLayout) → length (joinedOver numbersOf (given_of o)) ≤ 3
-  at_most (given c) = omega (arith, ap length (joined-over-one numbersOf c))
-  at_most (refused q) = omega (arith, ap length (joined-over-none numbersOf))
+  at_most : (o : Outcome EdoLayout) → length (joined_over numbers_of (given_of o)) ≤ 3
+  at_most (given c) = omega (arith, ap length (joined_over_one numbers_of c))
+  at_most (refused q) = omega (arith, ap length (joined_over_none numbers_of))
 
-  pub few-numbers : length (chainNumbers n t code) ≤ 3
-  unfolding chainNumbers
-  few-numbers = at_most (chainServed n code t)
+  pub few_numbers : length (chain_numbers n t code) ≤ 3
+  unfolding chain_numbers
+  few_numbers = at_most (chain_served n code t)
 
 -- three numbers, stored one by one
-pub three-stored : (xs : List ℕ) (at : ℕ) (c : EdoLayout) (second : ℕ) → second ≡ one c.second
-    → Wrote xs at (numbersOf c) (set (set (set xs at c.layout.genchain) (at + 1) c.layout.tritave) (at + 2) second) (at + 3)
-three-stored xs at c second e =
+pub three_stored : (xs : List ℕ) (at : ℕ) (c : EdoLayout) (second : ℕ) → second ≡ one c.second
+    → Wrote xs at (numbers_of c) (set (set (set xs at c.layout.genchain) (at + 1) c.layout.tritave) (at + 2) second) (at + 3)
+three_stored xs at c second e =
     let g = c.layout.genchain in
     let k = c.layout.tritave in
     let a = set xs at g in
@@ -80,49 +80,49 @@ three-stored xs at c second e =
 -- ---- of all chains
 
 -- at most 18
-few-joined : (n : ℕ) (t : Choices) (k : ℕ) → length (joined (chainNumbers n t) k) ≤ 3 * k
+few_joined : (n : ℕ) (t : Choices) (k : ℕ) → length (joined (chain_numbers n t) k) ≤ 3 * k
 unfolding joined
-few-joined n t zero = omega arith
-few-joined n t (suc k) =
-    omega (arith, length-append (joined (chainNumbers n t) k) (chainNumbers n t k), few-joined n t k, few-numbers n t k)
+few_joined n t zero = omega arith
+few_joined n t (suc k) =
+    omega (arith, length-append (joined (chain_numbers n t) k) (chain_numbers n t k), few_joined n t k, few_numbers n t k)
 
 -- they stand at the front of a slice of 18
 module _ (n : ℕ) (t : Choices) {xs ys : List ℕ} {next : ℕ} (long : length xs ≡ 18)
-    (w : Wrote xs 0 (joined (chainNumbers n t) 6) ys next)
+    (w : Wrote xs 0 (joined (chain_numbers n t) 6) ys next)
   where
-    fits : length (joined (chainNumbers n t) 6) ≤ length xs
-    fits = omega (arith, few-joined n t 6)
+    fits : length (joined (chain_numbers n t) 6) ≤ length xs
+    fits = omega (arith, few_joined n t 6)
 
-    pub all_there : (next ≤ length ys) × (take next ys ≡ joined (chainNumbers n t) 6)
+    pub all_there : (next ≤ length ys) × (take next ys ≡ joined (chain_numbers n t) 6)
     all_there =
-        let text = joined (chainNumbers n t) 6 in
+        let text = joined (chain_numbers n t) 6 in
         let is : next ≡ length text = w.end ∙ zero-add (length text) in (
-          omega (arith, is, fits, wrote-length w),
-          ap (λ (k : ℕ). take k ys) is ∙ ap (take (length text)) (wrote-front fits w) ∙ take-append_seam text (drop (length text) xs),
+          omega (arith, is, fits, wrote_length w),
+          ap (λ (k : ℕ). take k ys) is ∙ ap (take (length text)) (wrote_front fits w) ∙ take-append_seam text (drop (length text) xs),
         )
 
 module _ (n : ℕ) where
-  pub find-refused : (q : ℕ) → refused q ≡ tritavesOf n → refused q ≡ findByEdo n
-  unfolding findByEdo tritavesOf
-  find-refused q e = by (isDivision n) e
+  pub find_refused : (q : ℕ) → refused q ≡ tritaves_of n → refused q ≡ find_by_edo n
+  unfolding find_by_edo tritaves_of
+  find_refused q e = by (is_division n) e
     where
-      by : (test : Bool) → refused q ≡ ask 15 test (given (choicesOf n)) → refused q ≡ ask 15 test (given (joinedOver numbersOf (layoutsOf n)))
+      by : (test : Bool) → refused q ≡ ask 15 test (given (choices_of n)) → refused q ≡ ask 15 test (given (joined_over numbers_of (layouts_of n)))
       by true f = absurd (let z : ◌≡◌ {A = ℕ} 0 1 = cc in omega arith)
       by false f = let same : q ≡ 15 = cc in ap refused same
 
-  module _ (t : Choices) (e : given t ≡ tritavesOf n) where
-    all-numbers : joined (chainNumbers n t) 6 ≡ joinedOver numbersOf (layoutsOf n)
-    unfolding layoutsOf chainNumbers
-    all-numbers =
-        joined_same (chainNumbers n t) (λ (code : ℕ). joinedOver numbersOf (given_of (chainOutcome n code))) 6
-        (λ code h. ap (λ (o : Outcome EdoLayout). joinedOver numbersOf (given_of o)) (chain-served n code t e))
-        ∙ sym (joined-over-gathered numbersOf (λ (code : ℕ). given_of (chainOutcome n code)) 6)
+  module _ (t : Choices) (e : given t ≡ tritaves_of n) where
+    all_numbers : joined (chain_numbers n t) 6 ≡ joined_over numbers_of (layouts_of n)
+    unfolding layouts_of chain_numbers
+    all_numbers =
+        joined_same (chain_numbers n t) (λ (code : ℕ). joined_over numbers_of (given_of (chain_outcome n code))) 6
+        (λ code h. ap (λ (o : Outcome EdoLayout). joined_over numbers_of (given_of o)) (chain_served_lem n code t e))
+        ∙ sym (joined_over_gathered numbers_of (λ (code : ℕ). given_of (chain_outcome n code)) 6)
 
-    pub find-given : given (joined (chainNumbers n t) 6) ≡ findByEdo n
-    unfolding findByEdo tritavesOf
-    find-given =
-        ap given all-numbers
-        ∙ ap (λ (test : Bool). ask 15 test (given (joinedOver numbersOf (layoutsOf n)))) (sym (asked-yes 15 (isDivision n) _ (sym e)))
+    pub find_given : given (joined (chain_numbers n t) 6) ≡ find_by_edo n
+    unfolding find_by_edo tritaves_of
+    find_given =
+        ap given all_numbers
+        ∙ ap (λ (test : Bool). ask 15 test (given (joined_over numbers_of (layouts_of n)))) (sym (asked_yes 15 (is_division n) _ (sym e)))
 
-    pub find-in-room : (room : ℕ) → heldIn room (joined (chainNumbers n t) 6) ≡ inRoom room (findByEdo n)
-    find-in-room room = ap (λ (o : Outcome (List ℕ)). and_then o (heldIn room)) find-given
+    pub find_in_room : (room : ℕ) → held_in room (joined (chain_numbers n t) 6) ≡ in_room room (find_by_edo n)
+    find_in_room room = ap (λ (o : Outcome (List ℕ)). and_then o (held_in room)) find_given

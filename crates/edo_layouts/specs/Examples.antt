@@ -4,15 +4,15 @@ use Rattle.answer.specs.Outcome.{Outcome, given, refused}
 use Rattle.mos.specs.declared.Mos.{Mos}
 use Rattle.mos.specs.Patterns.{mos}
 use Rattle.edo_layouts.specs.declared.EdoLayout.{EdoLayout}
-use Rattle.edo_layouts.specs.Layouts.{edoLayout, chainOutcome, findByEdo}
+use Rattle.edo_layouts.specs.Layouts.{edo_layout, chain_outcome, find_by_edo}
 
 pub record ListExample : Type 0 where
   pub steps : ℕ
   pub layouts : Outcome (List ℕ)
 
 -- Of each layout the chain's code, the tritave, and 1 for the second choice.
-abbrev pub listExamples : List ListExample
-listExamples =
+abbrev pub list_examples : List ListExample
+list_examples =
     -- 12 gives Meantone[7] and Meantone[5] with 19; 31 with 49
     record { steps = 12; layouts = given (1 ∷ 19 ∷ 0 ∷ 2 ∷ 19 ∷ 0 ∷ []) }
     ∷ record { steps = 31; layouts = given (1 ∷ 49 ∷ 0 ∷ 2 ∷ 49 ∷ 0 ∷ []) }
@@ -32,10 +32,10 @@ pub record ChainExample : Type 0 where
 
 abbrev pub of : (code octave tritave start : ℕ) → Bool → Mos → Outcome EdoLayout
 of code octave tritave start second pattern =
-    given (edoLayout (record { genchain = code; octave = octave; tritave = tritave; start = start }) second pattern)
+    given (edo_layout (record { genchain = code; octave = octave; tritave = tritave; start = start }) second pattern)
 
-abbrev pub chainExamples : List ChainExample
-chainExamples =
+abbrev pub chain_examples : List ChainExample
+chain_examples =
     record { steps = 12; chain = 1; layout = of 1 12 19 3 false (mos 5 2 2 1) }
     ∷ record { steps = 13; chain = 0; layout = of 0 13 20 4 true (mos 7 2 1 3) }
     ∷ record { steps = 13; chain = 2; layout = of 2 13 21 2 false (mos 3 2 3 2) }
@@ -51,6 +51,6 @@ chainExamples =
 
 -- Theorem.
 pub record ExamplesHold : Type 0 where
-  pub chains : map (λ (e : ChainExample). chainOutcome e.steps e.chain) chainExamples
-      ≡ map (λ (e : ChainExample). e.layout) chainExamples
-  pub lists : map (λ (e : ListExample). findByEdo e.steps) listExamples ≡ map (λ (e : ListExample). e.layouts) listExamples
+  pub chains : map (λ (e : ChainExample). chain_outcome e.steps e.chain) chain_examples
+      ≡ map (λ (e : ChainExample). e.layout) chain_examples
+  pub lists : map (λ (e : ListExample). find_by_edo e.steps) list_examples ≡ map (λ (e : ListExample). e.layouts) list_examples

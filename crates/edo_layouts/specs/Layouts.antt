@@ -4,10 +4,10 @@ use Rattle.answer.specs.Outcome.{Outcome, given, refused, ask, and_then}
 use Rattle.answer.specs.Refusals.{number_of}
 use Rattle.answer.specs.Choice.{pick}
 use Rattle.layout.specs.declared.IsomorphicLayout.{IsomorphicLayout}
-use Rattle.layout.specs.Layouts.{Layout, layoutOutcome, defaultLayout}
+use Rattle.layout.specs.Layouts.{Layout, layout_outcome, default_layout}
 use Rattle.mos.specs.declared.Mos.{Mos}
 use Rattle.edo_tritaves.specs.declared.Choices.{Choices}
-use Rattle.edo_tritaves.specs.Tritaves.{isDivision, tritavesOf}
+use Rattle.edo_tritaves.specs.Tritaves.{is_division, tritaves_of}
 use Rattle.edo_layouts.specs.declared.EdoLayout.{EdoLayout}
 use Rattle.edo_layouts.specs.declared.EdoAnswer.{EdoAnswer}
 use Rattle.edo_layouts.specs.declared.EdoAnswer.TheVariants as Answer
@@ -15,15 +15,15 @@ use Rattle.edo_layouts.specs.declared.EdoAnswer.TheVariants as Answer
 -- ---- one chain
 
 -- A layout, whether its tritave is the second choice, and its pattern.
-abbrev pub edoLayout : IsomorphicLayout → Bool → Mos → EdoLayout
-edoLayout r second pattern = record { layout = r; second = second; pattern = pattern }
+abbrev pub edo_layout : IsomorphicLayout → Bool → Mos → EdoLayout
+edo_layout r second pattern = record { layout = r; second = second; pattern = pattern }
 
 -- The layout with so many steps to the tritave, at document 01's start.
 unfoldable pub tried : (n code tritave : ℕ) (second : Bool) → Outcome EdoLayout
-unfolding layoutOutcome
+unfolding layout_outcome
 tried n code tritave second =
-    and_then (layoutOutcome (defaultLayout code n tritave))
-    (λ (l : Layout). given (edoLayout (defaultLayout code n tritave) second l.pattern))
+    and_then (layout_outcome (default_layout code n tritave))
+    (λ (l : Layout). given (edo_layout (default_layout code n tritave) second l.pattern))
 
 -- "It serves a chain only where k gives no layout": the second is looked at where the first is refused. Where it is refused too, the
 -- first's refusal stays.
@@ -33,15 +33,15 @@ or_else (refused q) (given c) = given c
 or_else (refused q) (refused p) = refused q
 
 -- What a chain gets of both choices; 0 is no second choice, and then there is the first alone.
-unfoldable pub chainServed : (n code : ℕ) → Choices → Outcome EdoLayout
+unfoldable pub chain_served : (n code : ℕ) → Choices → Outcome EdoLayout
 unfolding tried
-chainServed n code t =
+chain_served n code t =
     pick (eqb t.second 0) (tried n code t.first false) (or_else (tried n code t.first false) (tried n code t.second true))
 
 -- "15 when n is outside 1 to 400, before every other question": then 1 to 4 of the layout.
-unfoldable pub chainOutcome : (n code : ℕ) → Outcome EdoLayout
-unfolding tritavesOf chainServed
-chainOutcome n code = and_then (tritavesOf n) (chainServed n code)
+unfoldable pub chain_outcome : (n code : ℕ) → Outcome EdoLayout
+unfolding tritaves_of chain_served
+chain_outcome n code = and_then (tritaves_of n) (chain_served n code)
 
 -- ---- all chains
 
@@ -56,9 +56,9 @@ gathered list zero = []
 gathered list (suc count) = gathered list count ++ list count
 
 -- "in its order of chains": Mavila[9], Meantone[7], Meantone[5], Porcupine[8], Tetracot[7], Hanson[7], which are the codes 0 to 5, rising.
-unfoldable pub layoutsOf : ℕ → List EdoLayout
-unfolding gathered chainOutcome
-layoutsOf n = gathered (λ (code : ℕ). given_of (chainOutcome n code)) 6
+unfoldable pub layouts_of : ℕ → List EdoLayout
+unfolding gathered chain_outcome
+layouts_of n = gathered (λ (code : ℕ). given_of (chain_outcome n code)) 6
 
 -- ---- as numbers
 
@@ -67,20 +67,20 @@ abbrev pub one : Bool → ℕ
 one b = pick b 1 0
 
 -- A layout's three: its chain code, its tritave, and whether it is the second choice.
-abbrev pub numbersOf : EdoLayout → List ℕ
-numbersOf c = c.layout.genchain ∷ c.layout.tritave ∷ one c.second ∷ []
+abbrev pub numbers_of : EdoLayout → List ℕ
+numbers_of c = c.layout.genchain ∷ c.layout.tritave ∷ one c.second ∷ []
 
 -- What is said of each layout, one after the other.
-unfoldable pub joinedOver : (EdoLayout → List ℕ) → List EdoLayout → List ℕ
-joinedOver said [] = []
-joinedOver said (c ∷ rest) = said c ++ joinedOver said rest
+unfoldable pub joined_over : (EdoLayout → List ℕ) → List EdoLayout → List ℕ
+joined_over said [] = []
+joined_over said (c ∷ rest) = said c ++ joined_over said rest
 
 -- Question 15, then the numbers of all layouts; then comes question 10.
-unfoldable pub findByEdo : ℕ → Outcome (List ℕ)
-unfolding joinedOver layoutsOf
-findByEdo n = ask 15 (isDivision n) (given (joinedOver numbersOf (layoutsOf n)))
+unfoldable pub find_by_edo : ℕ → Outcome (List ℕ)
+unfolding joined_over layouts_of
+find_by_edo n = ask 15 (is_division n) (given (joined_over numbers_of (layouts_of n)))
 
 -- What an answer means.
-abbrev pub edoOutcome : EdoAnswer → Outcome EdoLayout
-edoOutcome (Answer.Given c) = given c
-edoOutcome (Answer.Refused q) = refused (number_of q)
+abbrev pub edo_outcome : EdoAnswer → Outcome EdoLayout
+edo_outcome (Answer.Given c) = given c
+edo_outcome (Answer.Refused q) = refused (number_of q)

@@ -1,42 +1,42 @@
 -- What holds of the layouts that are found: statements; their proofs stand in proofs/.
 use Rattle.std.specs.Prelude.{ℕ, ◌≤◌, ◌<◌, true, false, ◌⊎◌, ◌≡◌}
 use Rattle.answer.specs.Outcome.{given, refused}
-use Rattle.layout.specs.Layouts.{Layout, layoutOutcome, Accepted, defaultLayout}
-use Rattle.edo_tritaves.specs.Tritaves.{tritave, secondChoice}
+use Rattle.layout.specs.Layouts.{Layout, layout_outcome, Accepted, default_layout}
+use Rattle.edo_tritaves.specs.Tritaves.{tritave, second_choice}
 use Rattle.edo_layouts.specs.declared.EdoLayout.{EdoLayout}
-use Rattle.edo_layouts.specs.Layouts.{chainOutcome}
+use Rattle.edo_layouts.specs.Layouts.{chain_outcome}
 
 -- What the call answers for a chain of an octave of n steps. k is the first choice for the tritave and s the second, 0 where there is none;
 -- both are tried at the chain's own start. Each case says the whole answer, and one of them always holds.
 pub record Served (n code k s : ℕ) : Type 0 where
   -- the first choice wherever it is accepted, not marked
-  pub first : (l : Layout) → Accepted (defaultLayout code n k) l
-      → chainOutcome n code ≡ given (record { layout = defaultLayout code n k; second = false; pattern = l.pattern })
+  pub first : (l : Layout) → Accepted (default_layout code n k) l
+      → chain_outcome n code ≡ given (record { layout = default_layout code n k; second = false; pattern = l.pattern })
   -- where it is refused, the second choice, marked, if there is one and it is accepted
-  pub second : (q : ℕ) (l : Layout) → layoutOutcome (defaultLayout code n k) ≡ refused q → (s ≡ 0 → ⊥) → Accepted (defaultLayout code n s) l
-      → chainOutcome n code ≡ given (record { layout = defaultLayout code n s; second = true; pattern = l.pattern })
+  pub second : (q : ℕ) (l : Layout) → layout_outcome (default_layout code n k) ≡ refused q → (s ≡ 0 → ⊥) → Accepted (default_layout code n s) l
+      → chain_outcome n code ≡ given (record { layout = default_layout code n s; second = true; pattern = l.pattern })
   -- where there is no second choice, or it is refused too, the first's refusal
-  pub neither : (q : ℕ) → layoutOutcome (defaultLayout code n k) ≡ refused q
-      → (s ≡ 0) ⊎ ((p : ℕ) × (layoutOutcome (defaultLayout code n s) ≡ refused p))
-      → chainOutcome n code ≡ refused q
+  pub neither : (q : ℕ) → layout_outcome (default_layout code n k) ≡ refused q
+      → (s ≡ 0) ⊎ ((p : ℕ) × (layout_outcome (default_layout code n s) ≡ refused p))
+      → chain_outcome n code ≡ refused q
 
 -- The first choice gives no layout.
 pub record NoFirst (n code : ℕ) : Type 0 where
   pub question : ℕ
-  pub says-no : layoutOutcome (defaultLayout code n (tritave n)) ≡ refused question
+  pub says_no : layout_outcome (default_layout code n (tritave n)) ≡ refused question
 
 -- A layout that was found is one of document 01: of that chain and octave, with the chain's own start, and accepted.
 pub record Chosen (n code : ℕ) (c : EdoLayout) : Type 0 where
-  pub is-default : c.layout ≡ defaultLayout code n c.layout.tritave
+  pub is_default : c.layout ≡ default_layout code n c.layout.tritave
   pub found : Layout
   pub accepted : Accepted c.layout found
-  pub pattern-is : c.pattern ≡ found.pattern
+  pub pattern_is : c.pattern ≡ found.pattern
   -- its tritave is the first choice, or it is the second, and then the first gives no layout
   pub choice : ((c.second ≡ false) × (c.layout.tritave ≡ tritave n))
-      ⊎ ((c.second ≡ true) × (c.layout.tritave ≡ secondChoice n (tritave n)) × NoFirst n code)
+      ⊎ ((c.second ≡ true) × (c.layout.tritave ≡ second_choice n (tritave n)) × NoFirst n code)
 
 -- Theorem: for 1 to 400 steps every chain is so served, whatever its code; else the answer is 15. So each layout that is found is so chosen.
 pub record LayoutsAreChosen : Type 0 where
-  pub served : (n code : ℕ) → 1 ≤ n → n ≤ 400 → Served n code (tritave n) (secondChoice n (tritave n))
-  pub outside : (n code : ℕ) → (n ≡ 0) ⊎ (400 < n) → chainOutcome n code ≡ refused 15
-  pub found : (n code : ℕ) (c : EdoLayout) → chainOutcome n code ≡ given c → Chosen n code c
+  pub served : (n code : ℕ) → 1 ≤ n → n ≤ 400 → Served n code (tritave n) (second_choice n (tritave n))
+  pub outside : (n code : ℕ) → (n ≡ 0) ⊎ (400 < n) → chain_outcome n code ≡ refused 15
+  pub found : (n code : ℕ) (c : EdoLayout) → chain_outcome n code ≡ given c → Chosen n code c

@@ -3,6 +3,6 @@ use mathlib.Core.Path.{refl}
 use Rattle.edo_lines.specs.Lines.{output}
 use Rattle.edo_lines.specs.Examples.{ExamplesHold}
 
-pub examples-hold : ExamplesHold
+pub examples_hold : ExamplesHold
 unfolding output
-examples-hold = record { twelve = refl; two = refl; too_many = refl; none = refl; no_number = refl }
+examples_hold = record { twelve = refl; two = refl; too_many = refl; none = refl; no_number = refl }

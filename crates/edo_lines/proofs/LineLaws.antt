@@ -5,42 +5,42 @@ use mathlib.Core.Path.{◌≡◌, sym, ap, ap₂, ◌∙◌}
 use mathlib.Core.List.{List, [], ◌∷◌, ◌++◌}
 use lib.ListN.{length, length-append}
 use Rattle.answer.specs.Outcome.{Outcome, given, refused}
-use Rattle.genchain.specs.Chains.{chainOf}
-use Rattle.genchain.specs.Texts.{textAt, PlaceOf}
-use Rattle.genchain.proofs.TextTable.{texts-at, text-small}
-use Rattle.layout.specs.ScaleNames.{scaleName}
+use Rattle.genchain.specs.Chains.{chain_of}
+use Rattle.genchain.specs.Texts.{text_at, PlaceOf}
+use Rattle.genchain.proofs.TextTable.{texts_at, text_small}
+use Rattle.layout.specs.ScaleNames.{scale_name}
 use Rattle.text.specs.Decimal.{digits}
-use Rattle.text.proofs.Digits.{digits-length}
+use Rattle.text.proofs.Digits.{digits_length}
 use Rattle.edo_tritaves.specs.declared.Choices.{Choices}
 use Rattle.edo_layouts.specs.declared.EdoLayout.{EdoLayout}
-use Rattle.edo_layouts.specs.Layouts.{chainServed, given_of, joinedOver}
-use Rattle.edo_layouts.proofs.Listing.{joined-over-one, joined-over-none}
-use Rattle.edo_layouts.proofs.Serving.{served-chain}
-use Rattle.edo_lines.specs.Lines.{lineWith, layoutLine}
-use Rattle.edo_lines.specs.Parts.{servedLine}
+use Rattle.edo_layouts.specs.Layouts.{chain_served, given_of, joined_over}
+use Rattle.edo_layouts.proofs.Listing.{joined_over_one, joined_over_none}
+use Rattle.edo_layouts.proofs.Serving.{served_chain}
+use Rattle.edo_lines.specs.Lines.{line_with, layout_line}
+use Rattle.edo_lines.specs.Parts.{served_line}
 
 -- a number of 16 bits and the byte behind it; a text of the table
 pub short : (n behind : ℕ) → n ≤ 65535 → length (digits n ++ (behind ∷ [])) ≤ 6
-short n behind h = omega (arith, length-append (digits n) (behind ∷ []), (digits-length n (omega (arith, h))).few)
+short n behind h = omega (arith, length-append (digits n) (behind ∷ []), (digits_length n (omega (arith, h))).few)
 
-pub short-name : (place : ℕ) → place < 19 → length (textAt place) ≤ 12
-short-name place h = text-small place h
+pub short_name : (place : ℕ) → place < 19 → length (text_at place) ≤ 12
+short_name place h = text_small place h
 
 module _ (n : ℕ) (t : Choices) (code : ℕ) where
-  pub no_line : (q : ℕ) → refused q ≡ chainServed n code t → [] ≡ servedLine n t code
-  unfolding servedLine
-  no_line q e = sym (joined-over-none layoutLine) ∙ ap (λ (o : Outcome EdoLayout). joinedOver layoutLine (given_of o)) e
+  pub no_line_lem : (q : ℕ) → refused q ≡ chain_served n code t → [] ≡ served_line n t code
+  unfolding served_line
+  no_line_lem q e = sym (joined_over_none layout_line) ∙ ap (λ (o : Outcome EdoLayout). joined_over layout_line (given_of o)) e
 
-  module _ (h : code < 6) (c : EdoLayout) (e : given c ≡ chainServed n code t) (scale : ℕ)
-      (p : PlaceOf (scaleName code c.pattern) scale)
+  module _ (h : code < 6) (c : EdoLayout) (e : given c ≡ chain_served n code t) (scale : ℕ)
+      (p : PlaceOf (scale_name code c.pattern) scale)
     where
-      line_of : lineWith code c.layout.octave c.layout.tritave (textAt (1 + 3 * code)) (textAt scale) ≡ layoutLine c
-      unfolding layoutLine
+      line_of : line_with code c.layout.octave c.layout.tritave (text_at (1 + 3 * code)) (text_at scale) ≡ layout_line c
+      unfolding layout_line
       line_of =
-          ap₂ (λ (x y : List ℕ). lineWith code c.layout.octave c.layout.tritave x y) (texts-at code h).name p.is
-          ∙ ap (λ (k : ℕ). lineWith k c.layout.octave c.layout.tritave (chainOf k).name (scaleName k c.pattern))
-          (sym (served-chain n code c t e))
+          ap₂ (λ (x y : List ℕ). line_with code c.layout.octave c.layout.tritave x y) (texts_at code h).name p.is
+          ∙ ap (λ (k : ℕ). line_with k c.layout.octave c.layout.tritave (chain_of k).name (scale_name k c.pattern))
+          (sym (served_chain n code c t e))
 
-      pub line-is : lineWith code c.layout.octave c.layout.tritave (textAt (1 + 3 * code)) (textAt scale) ≡ servedLine n t code
-      unfolding servedLine
-      line-is = line_of ∙ sym (joined-over-one layoutLine c) ∙ ap (λ (o : Outcome EdoLayout). joinedOver layoutLine (given_of o)) e
+      pub line_is : line_with code c.layout.octave c.layout.tritave (text_at (1 + 3 * code)) (text_at scale) ≡ served_line n t code
+      unfolding served_line
+      line_is = line_of ∙ sym (joined_over_one layout_line c) ∙ ap (λ (o : Outcome EdoLayout). joined_over layout_line (given_of o)) e

@@ -6,81 +6,81 @@ use mathlib.Core.Path.{◌≡◌, refl, sym, ap, ◌∙◌}
 use mathlib.Core.List.{List}
 use lib.ListN.{length}
 use Rattle.answer.specs.Outcome.{Outcome, given, refused, ask, and_then}
-use Rattle.answer.proofs.Asked.{asked-yes}
+use Rattle.answer.proofs.Asked.{asked_yes}
 use Rattle.text.specs.Writing.{joined}
 use Rattle.text.proofs.Joined.{joined_same}
-use Rattle.text.proofs.Digits.{digits-length}
-use Rattle.line.specs.Refusals.{refusalLine, outputOf}
-use Rattle.line.proofs.RefusalLines.{length-refusal}
-use Rattle.line.specs.Lines.{numberLine}
-use Rattle.line.proofs.Enough.{later-bytes-ignored}
+use Rattle.text.proofs.Digits.{digits_length}
+use Rattle.line.specs.Refusals.{refusal_line, output_of}
+use Rattle.line.proofs.RefusalLines.{length_refusal}
+use Rattle.line.specs.Lines.{number_line}
+use Rattle.line.proofs.Enough.{later_bytes_ignored}
 use Rattle.edo_tritaves.specs.declared.Choices.{Choices}
-use Rattle.edo_tritaves.specs.Tritaves.{isDivision, choicesOf, tritavesOf}
+use Rattle.edo_tritaves.specs.Tritaves.{is_division, choices_of, tritaves_of}
 use Rattle.edo_layouts.specs.declared.EdoLayout.{EdoLayout}
-use Rattle.edo_layouts.specs.Layouts.{chainOutcome, given_of, layoutsOf, joinedOver}
-use Rattle.edo_layouts.proofs.Serving.{chain-served}
-use Rattle.edo_layouts.proofs.Listing.{joined-over-gathered}
-use Rattle.edo_lines.specs.Lines.{layoutLine, divisionLines, output}
-use Rattle.edo_lines.specs.Parts.{servedLine}
+use Rattle.edo_layouts.specs.Layouts.{chain_outcome, given_of, layouts_of, joined_over}
+use Rattle.edo_layouts.proofs.Serving.{chain_served_lem}
+use Rattle.edo_layouts.proofs.Listing.{joined_over_gathered}
+use Rattle.edo_lines.specs.Lines.{layout_line, division_lines, output}
+use Rattle.edo_lines.specs.Parts.{served_line}
 use Rattle.edo_lines.specs.Theorems.{LaterBytesChangeNothing}
 
 -- ---- a division
 
 module _ (n : ℕ) where
-  division-by : (test : Bool) → isDivision n ≡ test → ask 15 test (given (joinedOver layoutLine (layoutsOf n))) ≡ divisionLines n
-  unfolding divisionLines
-  division-by test e = ap (λ (t : Bool). ask 15 t (given (joinedOver layoutLine (layoutsOf n)))) (sym e)
+  division_by : (test : Bool) → is_division n ≡ test → ask 15 test (given (joined_over layout_line (layouts_of n))) ≡ division_lines n
+  unfolding division_lines
+  division_by test e = ap (λ (t : Bool). ask 15 t (given (joined_over layout_line (layouts_of n)))) (sym e)
 
   -- question 15, by what the choices answer
-  refusal : (q : ℕ) → refused q ≡ tritavesOf n → refused q ≡ divisionLines n
-  unfolding tritavesOf
-  refusal q e = by (isDivision n) refl e
+  refusal : (q : ℕ) → refused q ≡ tritaves_of n → refused q ≡ division_lines n
+  unfolding tritaves_of
+  refusal q e = by (is_division n) refl e
     where
-      by : (test : Bool) → isDivision n ≡ test → refused q ≡ ask 15 test (given (choicesOf n)) → refused q ≡ divisionLines n
+      by : (test : Bool) → is_division n ≡ test → refused q ≡ ask 15 test (given (choices_of n)) → refused q ≡ division_lines n
       by true d f = absurd (let z : ◌≡◌ {A = ℕ} 0 1 = cc in omega arith)
-      by false d f = (let same : q ≡ 15 = cc in ap refused same) ∙ division-by false d
+      by false d f = (let same : q ≡ 15 = cc in ap refused same) ∙ division_by false d
 
-  pub division-refused : (k q : ℕ) → k ≡ q → refused q ≡ tritavesOf n → refusalLine k ≡ outputOf (divisionLines n)
-  division-refused k q i e = ap refusalLine i ∙ ap outputOf (refusal q e)
+  pub division_refused : (k q : ℕ) → k ≡ q → refused q ≡ tritaves_of n → refusal_line k ≡ output_of (division_lines n)
+  division_refused k q i e = ap refusal_line i ∙ ap output_of (refusal q e)
 
-  module _ (t : Choices) (e : given t ≡ tritavesOf n) where
-    all_lines : joined (servedLine n t) 6 ≡ joinedOver layoutLine (layoutsOf n)
-    unfolding layoutsOf servedLine
+  module _ (t : Choices) (e : given t ≡ tritaves_of n) where
+    all_lines : joined (served_line n t) 6 ≡ joined_over layout_line (layouts_of n)
+    unfolding layouts_of served_line
     all_lines =
-        joined_same (servedLine n t) (λ (code : ℕ). joinedOver layoutLine (given_of (chainOutcome n code))) 6
-        (λ code h. ap (λ (o : Outcome EdoLayout). joinedOver layoutLine (given_of o)) (chain-served n code t e))
-        ∙ sym (joined-over-gathered layoutLine (λ (code : ℕ). given_of (chainOutcome n code)) 6)
+        joined_same (served_line n t) (λ (code : ℕ). joined_over layout_line (given_of (chain_outcome n code))) 6
+        (λ code h. ap (λ (o : Outcome EdoLayout). joined_over layout_line (given_of o)) (chain_served_lem n code t e))
+        ∙ sym (joined_over_gathered layout_line (λ (code : ℕ). given_of (chain_outcome n code)) 6)
 
-    divided : isDivision n ≡ true
-    unfolding tritavesOf
-    divided = asked-yes 15 (isDivision n) _ (sym e)
+    divided : is_division n ≡ true
+    unfolding tritaves_of
+    divided = asked_yes 15 (is_division n) _ (sym e)
 
-    pub division-given : joined (servedLine n t) 6 ≡ outputOf (divisionLines n)
-    division-given = all_lines ∙ ap outputOf (division-by true divided)
+    pub division_given : joined (served_line n t) 6 ≡ output_of (division_lines n)
+    division_given = all_lines ∙ ap output_of (division_by true divided)
 
 -- ---- a line
 
 module _ (line : List ℕ) where
-  pub output-refused : (k q : ℕ) → k ≡ q → refused q ≡ numberLine line → refusalLine k ≡ output line
+  pub output_refused : (k q : ℕ) → k ≡ q → refused q ≡ number_line line → refusal_line k ≡ output line
   unfolding output
-  output-refused k q i e = ap refusalLine i ∙ ap (λ (o : Outcome ℕ). outputOf (and_then o divisionLines)) e
+  output_refused k q i e = ap refusal_line i ∙ ap (λ (o : Outcome ℕ). output_of (and_then o division_lines)) e
 
-  pub output-given : (n : ℕ) → given n ≡ numberLine line → outputOf (divisionLines n) ≡ output line
+  pub output_given : (n : ℕ) → given n ≡ number_line line → output_of (division_lines n) ≡ output line
   unfolding output
-  output-given n e = ap (λ (o : Outcome ℕ). outputOf (and_then o divisionLines)) e
+  output_given n e = ap (λ (o : Outcome ℕ). output_of (and_then o division_lines)) e
 
-pub refusal-short : (k : ℕ) → k ≤ 65535 → length (refusalLine k) ≤ 14
-refusal-short k h = omega (arith, length-refusal k, (digits-length k (omega (arith, h))).few)
+pub refusal_short : (k : ℕ) → k ≤ 65535 → length (refusal_line k) ≤ 14
+refusal_short k h = omega (arith, length_refusal k, (digits_length k (omega (arith, h))).few)
 
 -- ---- which bytes it goes by
 
-output-by : (x y : List ℕ) → numberLine x ≡ numberLine y → output x ≡ output y
+output_by : (x y : List ℕ) → number_line x ≡ number_line y → output x ≡ output y
 unfolding output
-output-by x y e = ap (λ (o : Outcome ℕ). outputOf (and_then o divisionLines)) e
+output_by x y e = ap (λ (o : Outcome ℕ). output_of (and_then o division_lines)) e
 
-pub later-bytes-change-nothing : LaterBytesChangeNothing
-later-bytes-change-nothing =
+pub later_bytes_change_nothing : LaterBytesChangeNothing
+later_bytes_change_nothing =
     record {
-      line-feed = λ line after. output-by _ _ (later-bytes-ignored.number-line-feed line after);
-      eighteen = λ line. output-by _ _ (later-bytes-ignored.number-eighteen line);
+      line_feed_lem = λ line after. output_by _ _ (later_bytes_ignored.number_line_feed line after);
+      eighteen = λ line. output_by _ _ (later_bytes_ignored.number_eighteen line);
     }

@@ -5,12 +5,14 @@
 // names of at most 12 bytes and three numbers of at most five digits.
 // specs/: Lines defines the text, Theorems states which bytes of a line matter, Examples has some lines.
 // Nothing is assumed.
+#![tactic(auto)]
+
 ghost use Rattle.std.specs.Prelude.{◌+◌, ◌*◌, ◌≤◌, ◌<◌, length};
-ghost use Rattle.genchain.specs.Texts.{textAt};
-ghost use Rattle.line.specs.Refusals.{outputOf};
+ghost use Rattle.genchain.specs.Texts.{text_at};
+ghost use Rattle.line.specs.Refusals.{output_of};
 ghost use Rattle.text.specs.Writing.{Wrote, joined};
-ghost use Rattle.edo_lines.specs.Lines.{numbersPart, namesPart, lineWith, divisionLines, output};
-ghost use Rattle.edo_lines.specs.Parts.{servedLine};
+ghost use Rattle.edo_lines.specs.Lines.{numbers_part, names_part, line_with, division_lines, output};
+ghost use Rattle.edo_lines.specs.Parts.{served_line};
 
 use answer::NumberAnswer;
 use edo_layouts::EdoAnswer;
@@ -22,7 +24,7 @@ use text::writer::put_byte;
 // Three numbers, with a space behind each; the place after them.
 fn put_numbers(out: &mut [u8], at: usize, genchain: u16, octave: u16, tritave: u16) -> usize
     requires { at + 18 ≤ length out.old }
-    ensures { Wrote out.old at (numbersPart genchain octave tritave) out.new result × (result ≤ at + 18) }
+    ensures { Wrote out.old at (numbers_part genchain octave tritave) out.new result × (result ≤ at + 18) }
 {
     let first = decimal::put_number_then(out, at, genchain, b' ');
     let second = decimal::put_number_then(out, first, octave, b' ');
@@ -32,7 +34,7 @@ fn put_numbers(out: &mut [u8], at: usize, genchain: u16, octave: u16, tritave: u
 // Two names by their places in the table, a space between and a line feed behind; the place after it.
 fn put_names(out: &mut [u8], at: usize, chain: u16, scale: u16) -> usize
     requires { (chain < 19) × (scale < 19) × (at + 26 ≤ length out.old) }
-    ensures { Wrote out.old at (namesPart (textAt chain) (textAt scale)) out.new result × (result ≤ at + 26) }
+    ensures { Wrote out.old at (names_part (text_at chain) (text_at scale)) out.new result × (result ≤ at + 26) }
 {
     let named = names::put(out, at, chain);
     let between = put_byte(out, named, b' ');
@@ -50,7 +52,7 @@ fn put_line(
     scale: u16,
 ) -> usize
     requires { (genchain < 6) × (scale < 19) × (at + 44 ≤ length out.old) }
-    ensures { Wrote out.old at (lineWith genchain octave tritave (textAt (1 + 3 * genchain)) (textAt scale)) out.new result × (result ≤ at + 44) }
+    ensures { Wrote out.old at (line_with genchain octave tritave (text_at (1 + 3 * genchain)) (text_at scale)) out.new result × (result ≤ at + 44) }
 {
     let next = put_numbers(out, at, genchain, octave, tritave);
     put_names(out, next, 1 + 3 * genchain, scale)
@@ -59,7 +61,7 @@ fn put_line(
 // The line of a chain's layout, none where it has none; the place after it.
 fn put_chain(out: &mut [u8], at: usize, n: u16, genchain: u16, choices: Choices) -> usize
     requires { (genchain < 6) × (at + 44 ≤ length out.old) }
-    ensures { Wrote out.old at (servedLine n choices genchain) out.new result × (result ≤ at + 44) }
+    ensures { Wrote out.old at (served_line n choices genchain) out.new result × (result ≤ at + 44) }
 {
     match edo_layouts::parts::serve(n, genchain, choices) {
         EdoAnswer::Refused(_) => at,
@@ -75,7 +77,7 @@ fn put_chain(out: &mut [u8], at: usize, n: u16, genchain: u16, choices: Choices)
 // The lines of all chains at the front; the place after them.
 fn put_chains(out: &mut [u8], n: u16, choices: Choices) -> usize
     requires { 264 ≤ length out.old }
-    ensures { Wrote out.old 0 (joined (servedLine n choices) 6) out.new result × (result ≤ 264) }
+    ensures { Wrote out.old 0 (joined (served_line n choices) 6) out.new result × (result ≤ 264) }
 {
     let mut place: usize = 0;
     let mut genchain: u16 = 0;
@@ -89,7 +91,7 @@ fn put_chains(out: &mut [u8], n: u16, choices: Choices) -> usize
 // The lines of a division, or of its refusal (15), at the front; the place after them.
 fn put_division(out: &mut [u8], n: u16) -> usize
     requires { 264 ≤ length out.old }
-    ensures { Wrote out.old 0 (outputOf (divisionLines n)) out.new result × (result ≤ 264) }
+    ensures { Wrote out.old 0 (output_of (division_lines n)) out.new result × (result ≤ 264) }
 {
     match edo_tritaves::tritaves(n) {
         TritavesAnswer::Refused(q) => line::refusals::put_refusal(out, q.number() as u16),

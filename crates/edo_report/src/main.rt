@@ -2,6 +2,8 @@
 // 0 and at 0 (document 02, W-202).
 //
 // What is printed is `report` of `edo_counts`; `streams` writes it. Where written bytes go rests on the kit's library.
+#![tactic(auto)]
+
 ghost use Rattle.edo_counts.specs.Counts.{report};
 ghost use Rattle.streams.specs.Streams.{Handed};
 

@@ -13,7 +13,7 @@ use Rattle.answer.proofs.Asked.{and_left, and_right}
 use Rattle.math.specs.Passing.{first}
 use Rattle.math.proofs.Passing.{first_finds}
 use Rattle.edo_tritaves.specs.declared.Choices.{Choices}
-use Rattle.edo_tritaves.specs.Tritaves.{TritaveRule, isTritave, tritave, goesUp, goesDown, secondChoice, choicesOf, choiceNumbers, isDivision, tritavesOf}
+use Rattle.edo_tritaves.specs.Tritaves.{TritaveRule, is_tritave, tritave, goes_up, goes_down, second_choice, choices_of, choice_numbers, is_division, tritaves_of}
 use Rattle.edo_tritaves.specs.Theorems.{OneTritave, NeverBoth}
 use Rattle.edo_tritaves.proofs.TableRule.{Sides}
 
@@ -24,8 +24,8 @@ never_less n k l a b h =
     let e : 2 ^ (2 * k + 1) ≤ 2 ^ (2 * l - 1) = pow-le-pow_right (omega arith) (omega arith) in
     omega (arith, a.below, b.above)
 
-pub one-tritave : OneTritave
-one-tritave n k l a b =
+pub one_tritave : OneTritave
+one_tritave n k l a b =
     let g : k < l → ⊥ = never_less n k l a b in
     let s : l < k → ⊥ = never_less n l k b a in
     omega arith
@@ -37,69 +37,69 @@ never_both n k u d =
 
 -- ---- the first that meets the rule
 
-as-test : (n k : ℕ) → TritaveRule n k → isTritave n k ≡ true
-as-test n k r = simp (lt-ltb _ _ r.above, lt-ltb _ _ r.below)
+as_test : (n k : ℕ) → TritaveRule n k → is_tritave n k ≡ true
+as_test n k r = simp (lt-ltb _ _ r.above, lt-ltb _ _ r.below)
 
-as-rule : (n k : ℕ) → isTritave n k ≡ true → TritaveRule n k
-as-rule n k e =
+as_rule : (n k : ℕ) → is_tritave n k ≡ true → TritaveRule n k
+as_rule n k e =
     let a = ltb (2 ^ (2 * k - 1)) (3 ^ (2 * n)) in
     let b = ltb (3 ^ (2 * n)) (2 ^ (2 * k + 1)) in
     record { above = ltb-true _ _ (and_left a b e); below = ltb-true _ _ (and_right a b e) }
 
-pub tritave-is : (n k : ℕ) → k ≤ 2 * n → TritaveRule n k → k ≡ tritave n
+pub tritave_is : (n k : ℕ) → k ≤ 2 * n → TritaveRule n k → k ≡ tritave n
 unfolding tritave
-tritave-is n k h r =
-    let f = first_finds (isTritave n) (2 * n + 1) 0 k (omega arith) (omega arith) (as-test n k r) in
-    one-tritave n k (first (isTritave n) (2 * n + 1) 0) r (as-rule n _ f.0)
+tritave_is n k h r =
+    let f = first_finds (is_tritave n) (2 * n + 1) 0 k (omega arith) (omega arith) (as_test n k r) in
+    one_tritave n k (first (is_tritave n) (2 * n + 1) 0) r (as_rule n _ f.0)
 
 -- ---- the three ways in which the choices end
 
 module _ (n k : ℕ) (s : Sides n k) (is : k ≡ tritave n) where
-  chosen : (second : ℕ) → second ≡ secondChoice n k → record { first = k; second = second } ≡ choicesOf n
-  unfolding choicesOf
+  chosen : (second : ℕ) → second ≡ second_choice n k → record { first = k; second = second } ≡ choices_of n
+  unfolding choices_of
   chosen second e =
       ap (λ (x : ℕ). record { first = k; second = x }) e
-      ∙ ap (λ (x : ℕ). record { first = x; second = secondChoice n x }) is
+      ∙ ap (λ (x : ℕ). record { first = x; second = second_choice n x }) is
 
-  by_tests : (u d : Bool) → goesUp n k ≡ u → goesDown n k ≡ d → pick u (k + 1) (pick d (k - 1) 0) ≡ secondChoice n k
-  unfolding secondChoice
+  by_tests : (u d : Bool) → goes_up n k ≡ u → goes_down n k ≡ d → pick u (k + 1) (pick d (k - 1) 0) ≡ second_choice n k
+  unfolding second_choice
   by_tests u d e f =
-      ap (λ (x : Bool). pick x (k + 1) (pick d (k - 1) 0)) (sym e) ∙ ap (λ (x : Bool). pick (goesUp n k) (k + 1) (pick x (k - 1) 0)) (sym f)
+      ap (λ (x : Bool). pick x (k + 1) (pick d (k - 1) 0)) (sym e) ∙ ap (λ (x : Bool). pick (goes_up n k) (k + 1) (pick x (k - 1) 0)) (sym f)
 
-  pub chosen-up : 665 * (3 * k + 1) < 3162 * n → record { first = k; second = k + 1 } ≡ choicesOf n
-  chosen-up h = chosen (k + 1) (by_tests true (goesDown n k) (s.up ∙ lt-ltb _ _ h) refl)
+  pub chosen_up : 665 * (3 * k + 1) < 3162 * n → record { first = k; second = k + 1 } ≡ choices_of n
+  chosen_up h = chosen (k + 1) (by_tests true (goes_down n k) (s.up ∙ lt-ltb _ _ h) refl)
 
   module _ (h : 3162 * n ≤ 665 * (3 * k + 1)) where
-    pub chosen-down : 3162 * n < 665 * (3 * k - 1) → record { first = k; second = k - 1 } ≡ choicesOf n
-    chosen-down d = chosen (k - 1) (by_tests false true (s.up ∙ le-ltb _ _ h) (s.down ∙ lt-ltb _ _ d))
+    pub chosen_down : 3162 * n < 665 * (3 * k - 1) → record { first = k; second = k - 1 } ≡ choices_of n
+    chosen_down d = chosen (k - 1) (by_tests false true (s.up ∙ le-ltb _ _ h) (s.down ∙ lt-ltb _ _ d))
 
-    pub chosen-first : 665 * (3 * k - 1) ≤ 3162 * n → record { first = k; second = 0 } ≡ choicesOf n
-    chosen-first d = chosen 0 (by_tests false false (s.up ∙ le-ltb _ _ h) (s.down ∙ le-ltb _ _ d))
+    pub chosen_first : 665 * (3 * k - 1) ≤ 3162 * n → record { first = k; second = 0 } ≡ choices_of n
+    chosen_first d = chosen 0 (by_tests false false (s.up ∙ le-ltb _ _ h) (s.down ∙ le-ltb _ _ d))
 
 -- ---- question 15
 
 module _ (n : ℕ) where
-  asked : (test : Bool) → isDivision n ≡ test → ask 15 test (given (choicesOf n)) ≡ tritavesOf n
-  unfolding tritavesOf
-  asked test e = ap (λ (t : Bool). ask 15 t (given (choicesOf n))) (sym e)
+  asked : (test : Bool) → is_division n ≡ test → ask 15 test (given (choices_of n)) ≡ tritaves_of n
+  unfolding tritaves_of
+  asked test e = ap (λ (t : Bool). ask 15 t (given (choices_of n))) (sym e)
 
-  pub division : 1 ≤ n → n ≤ 400 → isDivision n ≡ true
+  pub division : 1 ≤ n → n ≤ 400 → is_division n ≡ true
   division l h = simp (le-leb 1 n l, le-leb n 400 h)
 
-  pub no_steps : n ≡ 0 → refused 15 ≡ tritavesOf n
-  no_steps e = asked false (ap isDivision e)
+  pub no_steps : n ≡ 0 → refused 15 ≡ tritaves_of n
+  no_steps e = asked false (ap is_division e)
 
-  pub too_many : 400 < n → refused 15 ≡ tritavesOf n
+  pub too_many : 400 < n → refused 15 ≡ tritaves_of n
   too_many h = asked false (simp (le-leb 1 n (omega arith), lt-leb n 400 h))
 
-  pub tritaves-given : 1 ≤ n → n ≤ 400 → (t : Choices) → t ≡ choicesOf n → given t ≡ tritavesOf n
-  tritaves-given l h t e = ap given e ∙ asked true (division l h)
+  pub tritaves_given : 1 ≤ n → n ≤ 400 → (t : Choices) → t ≡ choices_of n → given t ≡ tritaves_of n
+  tritaves_given l h t e = ap given e ∙ asked true (division l h)
 
 -- ---- as a list
 
 module _ (t : Choices) where
-  pub one_number : t.second ≡ 0 → t.first ∷ [] ≡ choiceNumbers t
+  pub one_number : t.second ≡ 0 → t.first ∷ [] ≡ choice_numbers t
   one_number e = ap (λ (test : Bool). t.first ∷ pick test [] (t.second ∷ [])) (sym (eq-eqb t.second 0 e))
 
-  pub two-numbers : (t.second ≡ 0 → ⊥) → t.first ∷ t.second ∷ [] ≡ choiceNumbers t
-  two-numbers e = ap (λ (test : Bool). t.first ∷ pick test [] (t.second ∷ [])) (sym (ne_eqb t.second 0 e))
+  pub two_numbers : (t.second ≡ 0 → ⊥) → t.first ∷ t.second ∷ [] ≡ choice_numbers t
+  two_numbers e = ap (λ (test : Bool). t.first ∷ pick test [] (t.second ∷ [])) (sym (ne_eqb t.second 0 e))

@@ -9,11 +9,11 @@ use lib.Dec.{leb}
 use lib.ListN.{get_or}
 use borrow.Author.Tests.{leb-true, leb-false}
 use Rattle.answer.specs.Choice.{pick}
-use Rattle.edo_tritaves.specs.Tritaves.{TritaveRule, tritave, goesUp, goesDown, secondChoice}
-use Rattle.edo_tritaves.specs.Table.{tritaveTable}
+use Rattle.edo_tritaves.specs.Tritaves.{TritaveRule, tritave, goes_up, goes_down, second_choice}
+use Rattle.edo_tritaves.specs.Table.{tritave_table}
 use Rattle.edo_tritaves.specs.Theorems.{TableMeetsTheRule, EveryDivisionMeetsTheRule}
-use Rattle.edo_tritaves.proofs.TableRule.{the-table-ruled}
-use Rattle.edo_tritaves.proofs.Choosing.{tritave-is, one-tritave, never_both}
+use Rattle.edo_tritaves.proofs.TableRule.{the_table_ruled}
+use Rattle.edo_tritaves.proofs.Choosing.{tritave_is, one_tritave, never_both}
 
 -- ---- powers of 3 and of 2
 
@@ -22,14 +22,14 @@ odd zero = (0, pow-zero 3)
 odd (suc k) = let o = odd k in (3 * o.0 + 1, omega (arith, pow-suc 3 k, o.1))
 
 -- twice the exponent, one more
-two-more : (k : ℕ) → 2 ^ (2 * suc k) ≡ 2 ^ (2 * k) * 4
-two-more k =
+two_more : (k : ℕ) → 2 ^ (2 * suc k) ≡ 2 ^ (2 * k) * 4
+two_more k =
     let e : 2 * suc k ≡ suc (suc (2 * k)) = omega arith in
     omega (arith, ap (λ (x : ℕ). 2 ^ x) e, pow-suc 2 (suc (2 * k)), pow-suc 2 (2 * k))
 
-below-four : (k : ℕ) → 3 ^ k ≤ 2 ^ (2 * k)
-below-four zero = omega (arith, pow-zero 3, pow-zero 2)
-below-four (suc k) = omega (arith, pow-suc 3 k, two-more k, below-four k)
+below_four : (k : ℕ) → 3 ^ k ≤ 2 ^ (2 * k)
+below_four zero = omega (arith, pow-zero 3, pow-zero 2)
+below_four (suc k) = omega (arith, pow-suc 3 k, two_more k, below_four k)
 
 nine : (k : ℕ) → 9 ≤ 3 ^ suc (suc k)
 nine zero = omega (arith, pow-suc 3 1, pow-suc 3 0, pow-zero 3)
@@ -69,62 +69,62 @@ module _ (n : ℕ) (h : 1 ≤ n) where
   met =
       up_to (2 * n)
       (let e : 2 * (2 * n) + 1 ≡ suc (2 * (2 * n)) = omega arith in
-      omega (arith, ap (λ (x : ℕ). 2 ^ x) e, pow-suc 2 (2 * (2 * n)), below-four (2 * n)))
+      omega (arith, ap (λ (x : ℕ). 2 ^ x) e, pow-suc 2 (2 * (2 * n)), below_four (2 * n)))
 
-  pub meets-rule : TritaveRule n (tritave n)
+  pub meets_rule : TritaveRule n (tritave n)
   unfolding Met
-  meets-rule = subst (TritaveRule n) (tritave-is n met.0 met.1 met.2) met.2
+  meets_rule = subst (TritaveRule n) (tritave_is n met.0 met.1 met.2) met.2
 
-  two-at-least : (k : ℕ) → TritaveRule n k → 2 ≤ k
-  two-at-least zero r = absurd (let z : ⊥ = omega (arith, r.below, large, pow-suc 2 0, pow-zero 2) in z)
-  two-at-least (suc zero) r = absurd (let z : ⊥ = omega (arith, r.below, large, pow-suc 2 2, pow-suc 2 1, pow-suc 2 0, pow-zero 2) in z)
-  two-at-least (suc (suc k)) r = omega arith
+  two_at_least : (k : ℕ) → TritaveRule n k → 2 ≤ k
+  two_at_least zero r = absurd (let z : ⊥ = omega (arith, r.below, large, pow-suc 2 0, pow-zero 2) in z)
+  two_at_least (suc zero) r = absurd (let z : ⊥ = omega (arith, r.below, large, pow-suc 2 2, pow-suc 2 1, pow-suc 2 0, pow-zero 2) in z)
+  two_at_least (suc (suc k)) r = omega arith
 
 -- ---- the second choice
 
 module _ (n k : ℕ) where
-  second-by : (u d : Bool) → goesUp n k ≡ u → goesDown n k ≡ d → secondChoice n k ≡ pick u (k + 1) (pick d (k - 1) 0)
-  unfolding secondChoice
-  second-by u d e f =
-      ap (λ (x : Bool). pick x (k + 1) (pick (goesDown n k) (k - 1) 0)) e ∙ ap (λ (x : Bool). pick u (k + 1) (pick x (k - 1) 0)) f
+  second_by : (u d : Bool) → goes_up n k ≡ u → goes_down n k ≡ d → second_choice n k ≡ pick u (k + 1) (pick d (k - 1) 0)
+  unfolding second_choice
+  second_by u d e f =
+      ap (λ (x : Bool). pick x (k + 1) (pick (goes_down n k) (k - 1) 0)) e ∙ ap (λ (x : Bool). pick u (k + 1) (pick x (k - 1) 0)) f
 
-  not-up : goesDown n k ≡ true → (u : Bool) → goesUp n k ≡ u → u ≡ false
-  not-up d true e = absurd (never_both n k e d)
-  not-up d false e = refl
+  not_up : goes_down n k ≡ true → (u : Bool) → goes_up n k ≡ u → u ≡ false
+  not_up d true e = absurd (never_both n k e d)
+  not_up d false e = refl
 
-  pub second-up : goesUp n k ≡ true → secondChoice n k ≡ k + 1
-  second-up e = second-by true (goesDown n k) e refl
+  pub second_up : goes_up n k ≡ true → second_choice n k ≡ k + 1
+  second_up e = second_by true (goes_down n k) e refl
 
-  pub second-down : 2 ≤ k → goesDown n k ≡ true → secondChoice n k + 1 ≡ k
-  second-down h d = omega (arith, second-by false true (not-up d (goesUp n k) refl) d)
+  pub second_down : 2 ≤ k → goes_down n k ≡ true → second_choice n k + 1 ≡ k
+  second_down h d = omega (arith, second_by false true (not_up d (goes_up n k) refl) d)
 
-  pub second_none : goesUp n k ≡ false → goesDown n k ≡ false → secondChoice n k ≡ 0
-  second_none e d = second-by false false e d
+  pub second_none : goes_up n k ≡ false → goes_down n k ≡ false → second_choice n k ≡ 0
+  second_none e d = second_by false false e d
 
 -- ---- the theorems
 
-entry-meets : (i : ℕ) → i < 400 → TritaveRule (i + 1) (get_or tritaveTable i 0)
-entry-meets i h =
-    subst (λ (k : ℕ). TritaveRule (i + 1) (get_or tritaveTable k 0)) (let e : i + 1 - 1 ≡ i = omega arith in e)
-    (the-table-ruled.entry (i + 1) (omega arith) (omega arith))
+entry_meets : (i : ℕ) → i < 400 → TritaveRule (i + 1) (get_or tritave_table i 0)
+entry_meets i h =
+    subst (λ (k : ℕ). TritaveRule (i + 1) (get_or tritave_table k 0)) (let e : i + 1 - 1 ≡ i = omega arith in e)
+    (the_table_ruled.entry (i + 1) (omega arith) (omega arith))
 
-pub table-meets-the-rule : TableMeetsTheRule
-table-meets-the-rule =
+pub table_meets_the_rule : TableMeetsTheRule
+table_meets_the_rule =
     record {
-      long = the-table-ruled.long;
-      meets = entry-meets;
-      only = λ i k h r. one-tritave (i + 1) k (get_or tritaveTable i 0) r (entry-meets i h);
+      long = the_table_ruled.long;
+      meets = entry_meets;
+      only = λ i k h r. one_tritave (i + 1) k (get_or tritave_table i 0) r (entry_meets i h);
     }
 
-pub every-division-meets-the-rule : EveryDivisionMeetsTheRule
-every-division-meets-the-rule n h =
-    let r = meets-rule n h in
-    let l = two-at-least n h (tritave n) r in
+pub every_division_meets_the_rule : EveryDivisionMeetsTheRule
+every_division_meets_the_rule n h =
+    let r = meets_rule n h in
+    let l = two_at_least n h (tritave n) r in
     record {
       meets = r;
-      only = λ k s. one-tritave n k (tritave n) s r;
-      up = second-up n (tritave n);
-      down = second-down n (tritave n) l;
+      only = λ k s. one_tritave n k (tritave n) s r;
+      up = second_up n (tritave n);
+      down = second_down n (tritave n) l;
       neither = second_none n (tritave n);
       no_zero = l;
     }

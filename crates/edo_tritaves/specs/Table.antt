@@ -2,8 +2,8 @@
 use Rattle.std.specs.Prelude.{ℕ, List, [], ◌∷◌}
 
 -- At place n − 1 the count for n steps to the octave.
-unfoldable pub tritaveTable : List ℕ
-tritaveTable =
+unfoldable pub tritave_table : List ℕ
+tritave_table =
     2 ∷ 3 ∷ 5 ∷ 6 ∷ 8 ∷ 10 ∷ 11 ∷ 13 ∷ 14 ∷ 16 ∷ 17 ∷ 19 ∷ 21 ∷ 22 ∷ 24 ∷ 25 ∷ 27 ∷ 29 ∷ 30 ∷ 32
     ∷ 33 ∷ 35 ∷ 36 ∷ 38 ∷ 40 ∷ 41 ∷ 43 ∷ 44 ∷ 46 ∷ 48 ∷ 49 ∷ 51 ∷ 52 ∷ 54 ∷ 55 ∷ 57 ∷ 59 ∷ 60 ∷ 62 ∷ 63
     ∷ 65 ∷ 67 ∷ 68 ∷ 70 ∷ 71 ∷ 73 ∷ 74 ∷ 76 ∷ 78 ∷ 79 ∷ 81 ∷ 82 ∷ 84 ∷ 86 ∷ 87 ∷ 89 ∷ 90 ∷ 92 ∷ 94 ∷ 95

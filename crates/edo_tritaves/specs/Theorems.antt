@@ -1,7 +1,7 @@
 -- What holds of the table and of the choices: statements; their proofs stand in proofs/.
 use Rattle.std.specs.Prelude.{ℕ, ◌+◌, ◌≤◌, ◌<◌, true, false, ◌≡◌, length, get_or}
-use Rattle.edo_tritaves.specs.Tritaves.{TritaveRule, tritave, goesUp, goesDown, secondChoice}
-use Rattle.edo_tritaves.specs.Table.{tritaveTable}
+use Rattle.edo_tritaves.specs.Tritaves.{TritaveRule, tritave, goes_up, goes_down, second_choice}
+use Rattle.edo_tritaves.specs.Table.{tritave_table}
 
 -- Theorem: no two numbers meet the rule, whatever n is.
 abbrev pub OneTritave : Type 0
@@ -10,18 +10,18 @@ OneTritave = (n k l : ℕ) → TritaveRule n k → TritaveRule n l → k ≡ l
 -- Theorem: the table, which the code has as its constant, has 400 numbers. That at place i meets the rule for i + 1 steps to the octave, by
 -- exact powers, and no other number does.
 pub record TableMeetsTheRule : Type 0 where
-  pub long : length tritaveTable ≡ 400
-  pub meets : (i : ℕ) → i < 400 → TritaveRule (i + 1) (get_or tritaveTable i 0)
-  pub only : (i k : ℕ) → i < 400 → TritaveRule (i + 1) k → k ≡ get_or tritaveTable i 0
+  pub long : length tritave_table ≡ 400
+  pub meets : (i : ℕ) → i < 400 → TritaveRule (i + 1) (get_or tritave_table i 0)
+  pub only : (i k : ℕ) → i < 400 → TritaveRule (i + 1) k → k ≡ get_or tritave_table i 0
 
 -- The tritave count meets the rule, and no other number does. The second choice is its neighbour by the two inequalities, or there is none;
 -- 0 is no neighbour of a tritave count, so it says that there is none.
 pub record ChoicesByTheRule (n : ℕ) : Type 0 where
   pub meets : TritaveRule n (tritave n)
   pub only : (k : ℕ) → TritaveRule n k → k ≡ tritave n
-  pub up : goesUp n (tritave n) ≡ true → secondChoice n (tritave n) ≡ tritave n + 1
-  pub down : goesDown n (tritave n) ≡ true → secondChoice n (tritave n) + 1 ≡ tritave n
-  pub neither : goesUp n (tritave n) ≡ false → goesDown n (tritave n) ≡ false → secondChoice n (tritave n) ≡ 0
+  pub up : goes_up n (tritave n) ≡ true → second_choice n (tritave n) ≡ tritave n + 1
+  pub down : goes_down n (tritave n) ≡ true → second_choice n (tritave n) + 1 ≡ tritave n
+  pub neither : goes_up n (tritave n) ≡ false → goes_down n (tritave n) ≡ false → second_choice n (tritave n) ≡ 0
   pub no_zero : 2 ≤ tritave n
 
 -- Theorem: so it is for every n from 1 on.
@@ -30,4 +30,4 @@ EveryDivisionMeetsTheRule = (n : ℕ) → 1 ≤ n → ChoicesByTheRule n
 
 -- Theorem: the two inequalities of the second choice never both hold.
 abbrev pub NeverBoth : Type 0
-NeverBoth = (n k : ℕ) → goesUp n k ≡ true → goesDown n k ≡ true → ⊥
+NeverBoth = (n k : ℕ) → goes_up n k ≡ true → goes_down n k ≡ true → ⊥

@@ -16,48 +16,48 @@ pub record TritaveRule (n k : ℕ) : Type 0 where
   pub below : 3 ^ (2 * n) < 2 ^ (2 * k + 1)
 
 -- The rule as a test.
-abbrev pub isTritave : ℕ → ℕ → Bool
-isTritave n k = ltb (2 ^ (2 * k - 1)) (3 ^ (2 * n)) && ltb (3 ^ (2 * n)) (2 ^ (2 * k + 1))
+abbrev pub is_tritave : ℕ → ℕ → Bool
+is_tritave n k = ltb (2 ^ (2 * k - 1)) (3 ^ (2 * n)) && ltb (3 ^ (2 * n)) (2 ^ (2 * k + 1))
 
 -- The first number that meets the rule; by `ChoicesByTheRule` the only one. It is at most 2n, since 3 is below 4.
 unfoldable pub tritave : ℕ → ℕ
 unfolding first
-tritave n = first (isTritave n) (2 * n + 1) 0
+tritave n = first (is_tritave n) (2 * n + 1) 0
 
 -- ---- "The second choice"
 
 -- ".. is k + 1 where 3 to the power 3n exceeds 2 to the power 3k + 1"
-abbrev pub goesUp : ℕ → ℕ → Bool
-goesUp n k = ltb (2 ^ (3 * k + 1)) (3 ^ (3 * n))
+abbrev pub goes_up : ℕ → ℕ → Bool
+goes_up n k = ltb (2 ^ (3 * k + 1)) (3 ^ (3 * n))
 
 -- ".. and k − 1 where it is below 2 to the power 3k − 1."
-abbrev pub goesDown : ℕ → ℕ → Bool
-goesDown n k = ltb (3 ^ (3 * n)) (2 ^ (3 * k - 1))
+abbrev pub goes_down : ℕ → ℕ → Bool
+goes_down n k = ltb (3 ^ (3 * n)) (2 ^ (3 * k - 1))
 
 -- "Otherwise there is no second choice": 0, which is no count.
-unfoldable pub secondChoice : ℕ → ℕ → ℕ
-secondChoice n k = pick (goesUp n k) (k + 1) (pick (goesDown n k) (k - 1) 0)
+unfoldable pub second_choice : ℕ → ℕ → ℕ
+second_choice n k = pick (goes_up n k) (k + 1) (pick (goes_down n k) (k - 1) 0)
 
 -- Both choices, in their order.
-unfoldable pub choicesOf : ℕ → Choices
-unfolding tritave secondChoice
-choicesOf n = record { first = tritave n; second = secondChoice n (tritave n) }
+unfoldable pub choices_of : ℕ → Choices
+unfolding tritave second_choice
+choices_of n = record { first = tritave n; second = second_choice n (tritave n) }
 
 -- As a list: one number, or two.
-abbrev pub choiceNumbers : Choices → List ℕ
-choiceNumbers t = t.first ∷ pick (eqb t.second 0) [] (t.second ∷ [])
+abbrev pub choice_numbers : Choices → List ℕ
+choice_numbers t = t.first ∷ pick (eqb t.second 0) [] (t.second ∷ [])
 
 -- ---- what the call answers
 
 -- "For octave divisions n from 1 to 400"
-abbrev pub isDivision : ℕ → Bool
-isDivision n = leb 1 n && leb n 400
+abbrev pub is_division : ℕ → Bool
+is_division n = leb 1 n && leb n 400
 
 -- "15 when n is outside 1 to 400, before every other question."
-unfoldable pub tritavesOf : ℕ → Outcome Choices
-unfolding choicesOf
-tritavesOf n = ask 15 (isDivision n) (given (choicesOf n))
+unfoldable pub tritaves_of : ℕ → Outcome Choices
+unfolding choices_of
+tritaves_of n = ask 15 (is_division n) (given (choices_of n))
 
-abbrev pub tritavesOutcome : TritavesAnswer → Outcome Choices
-tritavesOutcome (Answer.Given t) = given t
-tritavesOutcome (Answer.Refused q) = refused (number_of q)
+abbrev pub tritaves_outcome : TritavesAnswer → Outcome Choices
+tritaves_outcome (Answer.Given t) = given t
+tritaves_outcome (Answer.Refused q) = refused (number_of q)

@@ -5,11 +5,13 @@
 // specs/: Tritaves has the rule in exact powers and what the call answers, Table the 400 numbers, Theorems states that they meet the rule and
 // no others do, Examples has cases.
 // The entry point answers every input. Nothing is assumed.
+#![tactic(auto)]
+
 mod numbers;
 
 ghost use Rattle.std.specs.Prelude.{◌≡◌, ◌≤◌};
-ghost use Rattle.edo_tritaves.specs.Tritaves.{choicesOf, tritavesOf, tritavesOutcome};
-ghost use Rattle.edo_tritaves.specs.Table.{tritaveTable};
+ghost use Rattle.edo_tritaves.specs.Tritaves.{choices_of, tritaves_of, tritaves_outcome};
+ghost use Rattle.edo_tritaves.specs.Table.{tritave_table};
 
 use crate::numbers::TRITAVES;
 use answer::Refusal;
@@ -29,7 +31,7 @@ pub enum TritavesAnswer {
 
 // The whole table.
 fn table() -> [u16; 400]
-    ensures { result ≡ tritaveTable }
+    ensures { result ≡ tritave_table }
 {
     TRITAVES
 }
@@ -38,7 +40,7 @@ fn table() -> [u16; 400]
 // powers.
 fn choose(n: u16) -> Choices
     requires { (1 ≤ n) × (n ≤ 400) }
-    ensures { result ≡ choicesOf n }
+    ensures { result ≡ choices_of n }
 {
     let all = table();
     let k = all[n as usize - 1];
@@ -64,7 +66,7 @@ fn choose(n: u16) -> Choices
 
 // How many steps make a tritave where n make an octave: the first choice, and the second where there is one (15).
 pub fn tritaves(n: u16) -> TritavesAnswer
-    ensures { tritavesOutcome result ≡ tritavesOf n }
+    ensures { tritaves_outcome result ≡ tritaves_of n }
 {
     if n == 0 {
         return TritavesAnswer::Refused(Refusal::Division);

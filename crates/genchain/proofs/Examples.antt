@@ -1,20 +1,20 @@
 -- The worked examples, computed.
 use mathlib.Core.Path.{refl}
-use Rattle.genchain.specs.Answers.{generatorOutcome, numLettersOutcome, startOutcome, nameLengthOutcome, lettersOutcome, nameOutcome}
+use Rattle.genchain.specs.Answers.{generator_outcome, num_letters_outcome, start_outcome, name_length_outcome, letters_outcome, name_outcome}
 use Rattle.genchain.specs.Examples.{ExamplesHold}
 
-pub examples-hold : ExamplesHold
-unfolding generatorOutcome numLettersOutcome startOutcome nameLengthOutcome lettersOutcome nameOutcome
-examples-hold =
+pub examples_hold : ExamplesHold
+unfolding generator_outcome num_letters_outcome start_outcome name_length_outcome letters_outcome name_outcome
+examples_hold =
     record {
       generators = refl;
-      letter-counts = refl;
+      letter_counts = refl;
       starts = refl;
-      name-lengths = refl;
-      five-letters = refl;
-      letters-short = refl;
-      letters-of-none = refl;
+      name_lengths = refl;
+      five_letters = refl;
+      letters_short = refl;
+      letters_of_none = refl;
       hanson = refl;
-      name-short = refl;
-      name-of-none = refl;
+      name_short = refl;
+      name_of_none = refl;
     }

@@ -1,7 +1,7 @@
 -- Worked examples of the definitions: inputs and answers, and one theorem that each definition gives its column.
 use Rattle.std.specs.Prelude.{◌≡◌, List, [], ◌∷◌, map, ℕ}
 use Rattle.answer.specs.Outcome.{Outcome, given, refused}
-use Rattle.genchain.specs.Answers.{generatorOutcome, numLettersOutcome, startOutcome, nameLengthOutcome, lettersOutcome, nameOutcome}
+use Rattle.genchain.specs.Answers.{generator_outcome, num_letters_outcome, start_outcome, name_length_outcome, letters_outcome, name_outcome}
 
 pub record GeneratorExample : Type 0 where
   pub code : ℕ
@@ -9,8 +9,8 @@ pub record GeneratorExample : Type 0 where
   pub tritave : ℕ
   pub outcome : Outcome ℕ
 
-abbrev pub generatorExamples : List GeneratorExample
-generatorExamples =
+abbrev pub generator_examples : List GeneratorExample
+generator_examples =
     record { code = 1; octave = 12; tritave = 19; outcome = given 7 }
     ∷ record { code = 1; octave = 31; tritave = 49; outcome = given 18 }
     ∷ record { code = 1; octave = 24; tritave = 38; outcome = given 14 }
@@ -48,8 +48,8 @@ pub record ChainExample : Type 0 where
   pub start : Outcome ℕ
   pub name : Outcome ℕ
 
-abbrev pub chainExamples : List ChainExample
-chainExamples =
+abbrev pub chain_examples : List ChainExample
+chain_examples =
     record { code = 0; letters = given 9; start = given 4; name = given 9 }
     ∷ record { code = 1; letters = given 7; start = given 3; name = given 11 }
     ∷ record { code = 2; letters = given 5; start = given 2; name = given 11 }
@@ -61,15 +61,15 @@ chainExamples =
 
 -- Theorem: the definitions give what the examples say.
 pub record ExamplesHold : Type 0 where
-  pub generators : map (λ (e : GeneratorExample). generatorOutcome e.code e.octave e.tritave) generatorExamples
-      ≡ map (λ (e : GeneratorExample). e.outcome) generatorExamples
-  pub letter-counts : map (λ (e : ChainExample). numLettersOutcome e.code) chainExamples ≡ map (λ (e : ChainExample). e.letters) chainExamples
-  pub starts : map (λ (e : ChainExample). startOutcome e.code) chainExamples ≡ map (λ (e : ChainExample). e.start) chainExamples
-  pub name-lengths : map (λ (e : ChainExample). nameLengthOutcome e.code) chainExamples ≡ map (λ (e : ChainExample). e.name) chainExamples
+  pub generators : map (λ (e : GeneratorExample). generator_outcome e.code e.octave e.tritave) generator_examples
+      ≡ map (λ (e : GeneratorExample). e.outcome) generator_examples
+  pub letter_counts : map (λ (e : ChainExample). num_letters_outcome e.code) chain_examples ≡ map (λ (e : ChainExample). e.letters) chain_examples
+  pub starts : map (λ (e : ChainExample). start_outcome e.code) chain_examples ≡ map (λ (e : ChainExample). e.start) chain_examples
+  pub name_lengths : map (λ (e : ChainExample). name_length_outcome e.code) chain_examples ≡ map (λ (e : ChainExample). e.name) chain_examples
   -- C G D A E and Hanson[7] in slices that just hold them, and in ones that do not
-  pub five-letters : lettersOutcome 2 5 ≡ given (67 ∷ 71 ∷ 68 ∷ 65 ∷ 69 ∷ [])
-  pub letters-short : lettersOutcome 2 4 ≡ refused 10
-  pub letters-of-none : lettersOutcome 6 0 ≡ refused 1
-  pub hanson : nameOutcome 5 9 ≡ given (72 ∷ 97 ∷ 110 ∷ 115 ∷ 111 ∷ 110 ∷ 91 ∷ 55 ∷ 93 ∷ [])
-  pub name-short : nameOutcome 5 8 ≡ refused 10
-  pub name-of-none : nameOutcome 6 0 ≡ refused 1
+  pub five_letters : letters_outcome 2 5 ≡ given (67 ∷ 71 ∷ 68 ∷ 65 ∷ 69 ∷ [])
+  pub letters_short : letters_outcome 2 4 ≡ refused 10
+  pub letters_of_none : letters_outcome 6 0 ≡ refused 1
+  pub hanson : name_outcome 5 9 ≡ given (72 ∷ 97 ∷ 110 ∷ 115 ∷ 111 ∷ 110 ∷ 91 ∷ 55 ∷ 93 ∷ [])
+  pub name_short : name_outcome 5 8 ≡ refused 10
+  pub name_of_none : name_outcome 6 0 ≡ refused 1

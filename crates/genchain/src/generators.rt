@@ -1,13 +1,13 @@
 // The generator of each chain: parts, and no entry points. Callers have asked questions 1 and 2; these ask 3.
 ghost use Rattle.std.specs.Prelude.{◌≡◌};
-ghost use Rattle.answer.specs.Refusals.{numberOutcome};
-ghost use Rattle.genchain.specs.Chains.{fifth, thirdOfFourth, quarterOfFifth, octaveLessSixth};
+ghost use Rattle.answer.specs.Refusals.{number_outcome};
+ghost use Rattle.genchain.specs.Chains.{fifth, third_of_fourth, quarter_of_fifth, octave_less_sixth};
 
 use answer::{NumberAnswer, Refusal};
 
 // The fifth of the chains of fifths: tritave less octave.
 pub(crate) fn fifth(octave: u16, tritave: u16) -> NumberAnswer
-    ensures { numberOutcome result ≡ fifth octave tritave }
+    ensures { number_outcome result ≡ fifth octave tritave }
 {
     if tritave < octave {
         return NumberAnswer::Refused(Refusal::Generator);
@@ -17,7 +17,7 @@ pub(crate) fn fifth(octave: u16, tritave: u16) -> NumberAnswer
 
 // Porcupine's: two octaves less a tritave are a fourth, and it is a third of it.
 pub(crate) fn third_of_fourth(octave: u16, tritave: u16) -> NumberAnswer
-    ensures { numberOutcome result ≡ thirdOfFourth octave tritave }
+    ensures { number_outcome result ≡ third_of_fourth octave tritave }
 {
     if 32767 < octave {
         return NumberAnswer::Refused(Refusal::Generator);
@@ -35,7 +35,7 @@ pub(crate) fn third_of_fourth(octave: u16, tritave: u16) -> NumberAnswer
 
 // Tetracot's: a quarter of the fifth.
 pub(crate) fn quarter_of_fifth(octave: u16, tritave: u16) -> NumberAnswer
-    ensures { numberOutcome result ≡ quarterOfFifth octave tritave }
+    ensures { number_outcome result ≡ quarter_of_fifth octave tritave }
 {
     if tritave < octave {
         return NumberAnswer::Refused(Refusal::Generator);
@@ -49,7 +49,7 @@ pub(crate) fn quarter_of_fifth(octave: u16, tritave: u16) -> NumberAnswer
 
 // Hanson's: an octave less a sixth of the tritave.
 pub(crate) fn octave_less_sixth(octave: u16, tritave: u16) -> NumberAnswer
-    ensures { numberOutcome result ≡ octaveLessSixth octave tritave }
+    ensures { number_outcome result ≡ octave_less_sixth octave tritave }
 {
     if tritave % 6 != 0 {
         return NumberAnswer::Refused(Refusal::Generator);

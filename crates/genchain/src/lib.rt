@@ -6,27 +6,29 @@
 // specs/: Chains has the six chains as data, Answers says what each call answers, Theorems what is proved of the letters, Texts which
 // text stands at which place of the table of names.
 // Every entry point answers every input; the modules of parts ask for more, as their heads say. Nothing is assumed.
+#![tactic(auto)]
+
 mod generators;
 pub mod names;
 pub mod rows;
 
 ghost use Rattle.std.specs.Prelude.{◌≡◌, length};
-ghost use Rattle.answer.specs.Refusals.{numberOutcome, countOutcome};
+ghost use Rattle.answer.specs.Refusals.{number_outcome, count_outcome};
 ghost use Rattle.answer.specs.Lent.{Filled};
 ghost use Rattle.genchain.specs.Answers.{
-  numLettersOutcome,
-  startOutcome,
-  lettersOutcome,
-  generatorOutcome,
-  nameLengthOutcome,
-  nameOutcome,
+  num_letters_outcome,
+  start_outcome,
+  letters_outcome,
+  generator_outcome,
+  name_length_outcome,
+  name_outcome,
 };
 
 use answer::{CountAnswer, NumberAnswer, Refusal};
 
 // How many letters the chain has (1).
 pub fn num_letters(code: u16) -> NumberAnswer
-    ensures { numberOutcome result ≡ numLettersOutcome code }
+    ensures { number_outcome result ≡ num_letters_outcome code }
 {
     if rows::is_chain(code) {
         let row = rows::row(code);
@@ -37,7 +39,7 @@ pub fn num_letters(code: u16) -> NumberAnswer
 
 // The place of key 0's letter on the chain, counted from 0 (1).
 pub fn start(code: u16) -> NumberAnswer
-    ensures { numberOutcome result ≡ startOutcome code }
+    ensures { number_outcome result ≡ start_outcome code }
 {
     if rows::is_chain(code) {
         let row = rows::row(code);
@@ -48,7 +50,7 @@ pub fn start(code: u16) -> NumberAnswer
 
 // The chain's letters in order, as code points (1, 10).
 pub fn letters(code: u16, out: &mut [u16]) -> CountAnswer
-    ensures { Filled (lettersOutcome code (length out.old)) (countOutcome result) out.old out.new }
+    ensures { Filled (letters_outcome code (length out.old)) (count_outcome result) out.old out.new }
 {
     if rows::is_chain(code) {
         let row = rows::row(code);
@@ -64,7 +66,7 @@ pub fn letters(code: u16, out: &mut [u16]) -> CountAnswer
 
 // The chain's generator in steps of a tuning with so many steps to the octave and to the tritave (1, 2, 3).
 pub fn generator(code: u16, octave: u16, tritave: u16) -> NumberAnswer
-    ensures { numberOutcome result ≡ generatorOutcome code octave tritave }
+    ensures { number_outcome result ≡ generator_outcome code octave tritave }
 {
     if !rows::is_chain(code) {
         return NumberAnswer::Refused(Refusal::Chain);
@@ -82,7 +84,7 @@ pub fn generator(code: u16, octave: u16, tritave: u16) -> NumberAnswer
 
 // How many bytes the chain's name has (1).
 pub fn name_len(code: u16) -> CountAnswer
-    ensures { countOutcome result ≡ nameLengthOutcome code }
+    ensures { count_outcome result ≡ name_length_outcome code }
 {
     if !rows::is_chain(code) {
         return CountAnswer::Refused(Refusal::Chain);
@@ -92,7 +94,7 @@ pub fn name_len(code: u16) -> CountAnswer
 
 // The chain's name, as "Meantone[7]", in UTF-8 (1, 10).
 pub fn name(code: u16, out: &mut [u8]) -> CountAnswer
-    ensures { Filled (nameOutcome code (length out.old)) (countOutcome result) out.old out.new }
+    ensures { Filled (name_outcome code (length out.old)) (count_outcome result) out.old out.new }
 {
     if !rows::is_chain(code) {
         return CountAnswer::Refused(Refusal::Chain);

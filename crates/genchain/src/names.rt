@@ -1,9 +1,9 @@
 // The names of the chains and of their scales in one constant table: parts, and no entry points. Callers have asked question 1.
 ghost use Rattle.std.specs.Prelude.{◌≡◌, ◌<◌, length};
-ghost use Rattle.answer.specs.Lent.{heldIn, Filled};
-ghost use Rattle.answer.specs.Refusals.{countOutcome};
+ghost use Rattle.answer.specs.Lent.{held_in, Filled};
+ghost use Rattle.answer.specs.Refusals.{count_outcome};
 ghost use Rattle.text.specs.Writing.{Room, Wrote};
-ghost use Rattle.genchain.specs.Texts.{textAt, textRowOf};
+ghost use Rattle.genchain.specs.Texts.{text_at, text_row_of};
 
 use answer::{CountAnswer, Refusal};
 use text::writer;
@@ -98,7 +98,7 @@ const TEXTS: [TextRow; 19] = [
 // The row at a place.
 fn row(place: u16) -> TextRow
     requires { place < 19 }
-    ensures { result ≡ textRowOf (textAt place) }
+    ensures { result ≡ text_row_of (text_at place) }
 {
     TEXTS[place as usize]
 }
@@ -106,7 +106,7 @@ fn row(place: u16) -> TextRow
 // How many bytes the text at a place has.
 pub fn text_len(place: u16) -> usize
     requires { place < 19 }
-    ensures { result ≡ length (textAt place) }
+    ensures { result ≡ length (text_at place) }
 {
     let found = row(place);
     found.length as usize
@@ -114,8 +114,8 @@ pub fn text_len(place: u16) -> usize
 
 // The text at a place of the table, at a place of a slice; the place after it.
 pub fn put(out: &mut [u8], at: usize, place: u16) -> usize
-    requires { (place < 19) × Room out.old at (textAt place) }
-    ensures { Wrote out.old at (textAt place) out.new result }
+    requires { (place < 19) × Room out.old at (text_at place) }
+    ensures { Wrote out.old at (text_at place) out.new result }
 {
     let found = row(place);
     let text = found.text;
@@ -126,7 +126,7 @@ pub fn put(out: &mut [u8], at: usize, place: u16) -> usize
 // The text at a place of the table, at the front of a slice that holds it (10).
 pub fn fill(place: u16, out: &mut [u8]) -> CountAnswer
     requires { place < 19 }
-    ensures { Filled (heldIn (length out.old) (textAt place)) (countOutcome result) out.old out.new }
+    ensures { Filled (held_in (length out.old) (text_at place)) (count_outcome result) out.old out.new }
 {
     let found = row(place);
     let text = found.text;

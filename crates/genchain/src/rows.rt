@@ -3,7 +3,7 @@
 // The table is put into memory where it is read by a code, so read a chain's row once for a call, and hand the row on.
 ghost use Rattle.std.specs.Prelude.{◌≡◌, ltb, length};
 ghost use Rattle.text.specs.Writing.{Room, Wrote};
-ghost use Rattle.genchain.specs.Chains.{chainOf, row_of, TableRow, lettersIn};
+ghost use Rattle.genchain.specs.Chains.{chain_of, row_of, TableRow, letters_in};
 
 // A chain's letters as code points, 0 past the last; how many there are; the place of key 0's letter.
 #[derive(Drop)]
@@ -56,7 +56,7 @@ pub fn is_chain(code: u16) -> bool
 
 // The row of a chain, read by its code; one without letters for a code from 6 on.
 pub fn row(code: u16) -> ChainRow
-    ensures { result ≡ row_of (chainOf code) }
+    ensures { result ≡ row_of (chain_of code) }
 {
     if is_chain(code) {
         return CHAINS[code as usize];
@@ -88,7 +88,7 @@ fn numbers_in(row: ChainRow) -> ChainNumbers
 // The two numbers of a chain, for a call that needs no letters. Each place of the table is a constant here, so that nothing of it is put
 // into memory.
 pub fn numbers(code: u16) -> ChainNumbers
-    ensures { (result.num_letters ≡ length (chainOf code).letters) × (result.start ≡ (chainOf code).start) }
+    ensures { (result.num_letters ≡ length (chain_of code).letters) × (result.start ≡ (chain_of code).start) }
 {
     match code {
         0 => numbers_in(CHAINS[0]),
@@ -106,8 +106,8 @@ pub fn numbers(code: u16) -> ChainNumbers
 
 // The letters of a row at the front of a slice; how many there are.
 pub(crate) fn put_letters(out: &mut [u16], row: ChainRow) -> usize
-    requires { TableRow row × Room out.old 0 (lettersIn row) }
-    ensures { Wrote out.old 0 (lettersIn row) out.new result }
+    requires { TableRow row × Room out.old 0 (letters_in row) }
+    ensures { Wrote out.old 0 (letters_in row) out.new result }
 {
     let count = row.num_letters as usize;
     let mut place: usize = 0;

@@ -1,14 +1,16 @@
 // The keyboard mapping program: reads the key table's line, and prints the Scala keyboard mapping of the layout that it asks for, or the
 // number of a refusal (document 02, W-210).
 //
-// What is printed is `kbmOutput` of the whole line that was read, made by `layout_kbm::parts`; `streams` reads the line and writes. It keeps
+// What is printed is `kbm_output` of the whole line that was read, made by `layout_kbm::parts`; `streams` reads the line and writes. It keeps
 // 18 bytes of a line: a longer one is refused whatever follows. No mapping of an octave up to 4,096, the largest that question 14 lets
 // through, is longer than the buffer (`MappingsFit` of `kbm_text`), so it is written at once and with a small stack. specs/: Printing states
 // what is printed, Examples what is printed for some lines. Which bytes a read hands over, and where written bytes go, rests on the kit's
 // library.
+#![tactic(auto)]
+
 ghost use Rattle.streams.specs.Reading.{LineRead, LineIsEnough};
 ghost use Rattle.streams.specs.Printing.{Printed};
-ghost use Rattle.kbm.specs.Printing.{kbmOutput, Refusing, Mapping};
+ghost use Rattle.kbm.specs.Printing.{kbm_output, Refusing, Mapping};
 
 use layout::parts::FoundAnswer;
 use layout::prepared;
@@ -20,7 +22,7 @@ use streams::{input, lines, output, words};
 // Writes the line of a refusal, and says that it is one.
 fn print_refusal(line: &[u8], input: Input, number: u16) -> Output
     requires { Refusing line.now input number }
-    ensures { Printed kbmOutput line.now input result }
+    ensures { Printed kbm_output line.now input result }
 {
     let mut out = [0u8; 16];
     let bytes = line::refusals::put_refusal(&mut out, number);
@@ -32,7 +34,7 @@ fn print_refusal(line: &[u8], input: Input, number: u16) -> Output
 // Writes a mapping.
 fn print_mapping(line: &[u8], input: Input, prepared: Prepared) -> Output
     requires { Mapping line.now input prepared }
-    ensures { Printed kbmOutput line.now input result }
+    ensures { Printed kbm_output line.now input result }
 {
     let mut out = [0u8; 24611];
     let bytes = layout_kbm::parts::put_file(&mut out, prepared);
@@ -42,7 +44,7 @@ fn print_mapping(line: &[u8], input: Input, prepared: Prepared) -> Output
 // Prints the output for the line that was read.
 fn print(line: &[u8], input: Input) -> Output
     requires { LineRead line.now input }
-    ensures { Printed kbmOutput line.now input result }
+    ensures { Printed kbm_output line.now input result }
 {
     match line::layouts::ask_line(&line[..input::kept(input)]) {
         FoundAnswer::Refused(q) => print_refusal(line, input, q.number() as u16),
@@ -53,7 +55,7 @@ fn print(line: &[u8], input: Input) -> Output
 // A claim, as those of the crate `claims`, which cannot use a program: 18 bytes of a line, and the first line of any bytes, say what is
 // printed.
 pub fn line_is_enough()
-    ensures { LineIsEnough kbmOutput }
+    ensures { LineIsEnough kbm_output }
 {
     ()
 }

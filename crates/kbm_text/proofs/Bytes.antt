@@ -10,8 +10,8 @@ use lib.ListN.{length, get_or, drop, drop_of_length-le}
 use lib.Seq.{drop-cons}
 use lib.Dec.{eqb}
 use borrow.Author.Tests.{eq-eqb, ne_eqb, le-leb, lt-leb}
-use Rattle.text.specs.Decimal.{isDigit, value, valueFrom}
-use Rattle.kbm_text.specs.Kinds.{sameBytes, allDigits, saysNumber}
+use Rattle.text.specs.Decimal.{is_digit, value, value_from}
+use Rattle.kbm_text.specs.Kinds.{same_bytes, all_digits, says_number}
 use Rattle.kbm_text.specs.Parts.{NumberRead}
 
 cut : (s : List ℕ) (i : ℕ) → i < length s → drop i s ≡ get_or s i 0 ∷ drop (i + 1) s
@@ -22,88 +22,88 @@ in_list [] i d e h = absurd (omega arith)
 in_list (a ∷ l) zero d e h = refl
 in_list (a ∷ l) (suc i) d e h = in_list l i d e (omega arith)
 
-pub other_length : (a b : List ℕ) → (length a ≡ length b → ⊥) → sameBytes a b ≡ false
-unfolding sameBytes
+pub other_length : (a b : List ℕ) → (length a ≡ length b → ⊥) → same_bytes a b ≡ false
+unfolding same_bytes
 other_length [] [] h = absurd (h refl)
 other_length [] (b ∷ t) h = refl
 other_length (a ∷ s) [] h = refl
 other_length (a ∷ s) (b ∷ t) h = simp (other_length s t (λ e. h (ap suc e)), and-false)
 
 module _ (a b : List ℕ) (i : ℕ) (h : i < length a) (k : i < length b) where
-  same-split : sameBytes (drop i a) (drop i b) ≡ (eqb (get_or a i 0) (get_or b i 0) && sameBytes (drop (i + 1) a) (drop (i + 1) b))
-  unfolding sameBytes
-  same-split = ap₂ sameBytes (cut a i h) (cut b i k)
+  same_split : same_bytes (drop i a) (drop i b) ≡ (eqb (get_or a i 0) (get_or b i 0) && same_bytes (drop (i + 1) a) (drop (i + 1) b))
+  unfolding same_bytes
+  same_split = ap₂ same_bytes (cut a i h) (cut b i k)
 
-  pub same_more : get_or a i 0 ≡ get_or b i 0 → sameBytes (drop i a) (drop i b) ≡ sameBytes (drop (i + 1) a) (drop (i + 1) b)
-  same_more e = same-split ∙ simp (eq-eqb (get_or a i 0) (get_or b i 0) e)
+  pub same_more : get_or a i 0 ≡ get_or b i 0 → same_bytes (drop i a) (drop i b) ≡ same_bytes (drop (i + 1) a) (drop (i + 1) b)
+  same_more e = same_split ∙ simp (eq-eqb (get_or a i 0) (get_or b i 0) e)
 
-  pub same_differs : (get_or a i 0 ≡ get_or b i 0 → ⊥) → sameBytes (drop i a) (drop i b) ≡ false
-  same_differs e = same-split ∙ simp (ne_eqb (get_or a i 0) (get_or b i 0) e)
+  pub same_differs : (get_or a i 0 ≡ get_or b i 0 → ⊥) → same_bytes (drop i a) (drop i b) ≡ false
+  same_differs e = same_split ∙ simp (ne_eqb (get_or a i 0) (get_or b i 0) e)
 
-pub same-all : (a b : List ℕ) (i : ℕ) → length a ≤ i → length b ≤ i → sameBytes (drop i a) (drop i b) ≡ true
-unfolding sameBytes
-same-all a b i h k = ap₂ sameBytes (drop_of_length-le a h) (drop_of_length-le b k)
+pub same_all : (a b : List ℕ) (i : ℕ) → length a ≤ i → length b ≤ i → same_bytes (drop i a) (drop i b) ≡ true
+unfolding same_bytes
+same_all a b i h k = ap₂ same_bytes (drop_of_length-le a h) (drop_of_length-le b k)
 
 -- ---- a number
 
 pub record Read (line : List ℕ) (sofar i : ℕ) : Type 0 where
-  pub same_digits : allDigits line ≡ allDigits (drop i line)
-  pub same-value : value line ≡ valueFrom sofar (drop i line)
+  pub same_digits : all_digits line ≡ all_digits (drop i line)
+  pub same_value : value line ≡ value_from sofar (drop i line)
   pub small : sofar < 10 ^ i
 
 pub read_none : (line : List ℕ) → Read line 0 0
-read_none line = record { same_digits = refl; same-value = refl; small = omega arith }
+read_none line = record { same_digits = refl; same_value = refl; small = omega arith }
 
-is_none : (line : List ℕ) → saysNumber line ≡ false → NumberRead line 100000
+is_none : (line : List ℕ) → says_number line ≡ false → NumberRead line 100000
 is_none line e = record { yes = λ f. absurd (true≢false (sym f ∙ e)); no = λ f. refl }
 
 module _ (line : List ℕ) where
-  pub none-short : length line < 1 → NumberRead line 100000
-  unfolding saysNumber
-  none-short h = is_none line (simp (lt-leb 1 (length line) h))
+  pub none_short : length line < 1 → NumberRead line 100000
+  unfolding says_number
+  none_short h = is_none line (simp (lt-leb 1 (length line) h))
 
-  pub none-long : 5 < length line → NumberRead line 100000
-  unfolding saysNumber
-  none-long h = is_none line (simp (lt-leb (length line) 5 h, and-false))
+  pub none_long : 5 < length line → NumberRead line 100000
+  unfolding says_number
+  none_long h = is_none line (simp (lt-leb (length line) 5 h, and-false))
 
-  none_other : allDigits line ≡ false → NumberRead line 100000
-  unfolding saysNumber
+  none_other : all_digits line ≡ false → NumberRead line 100000
+  unfolding says_number
   none_other e = is_none line (simp (e, and-false))
 
   module _ (sofar i : ℕ) (r : Read line sofar i) where
-    pub small-enough : i ≤ 4 → sofar < 10000
-    small-enough h = omega (arith, r.small, pow-le-pow_right {n = 10} (omega arith) {i = i} {j = 4} h)
+    pub small_enough : i ≤ 4 → sofar < 10000
+    small_enough h = omega (arith, r.small, pow-le-pow_right {n = 10} (omega arith) {i = i} {j = 4} h)
 
     pub read_all : 1 ≤ length line → length line ≤ 5 → length line ≤ i → i ≤ length line → NumberRead line sofar
-    unfolding saysNumber allDigits valueFrom
+    unfolding says_number all_digits value_from
     read_all h k l m =
         let rest : drop i line ≡ [] = drop_of_length-le line l in
-        let yes : allDigits line ≡ true = r.same_digits ∙ ap allDigits rest in
-        let is : value line ≡ sofar = r.same-value ∙ ap (valueFrom sofar) rest in
+        let yes : all_digits line ≡ true = r.same_digits ∙ ap all_digits rest in
+        let is : value line ≡ sofar = r.same_value ∙ ap (value_from sofar) rest in
         record {
           yes = λ e. (sym is, omega (arith, r.small, pow-le-pow_right {n = 10} (omega arith) {i = i} {j = 5} (omega arith)));
           no = λ e. absurd (true≢false (sym (simp (le-leb 1 (length line) h, le-leb (length line) 5 k, yes)) ∙ e));
         }
 
     module _ (h : i < length line) where
-      digits-split : allDigits (drop i line) ≡ (isDigit (get_or line i 0) && allDigits (drop (i + 1) line))
-      unfolding allDigits
-      digits-split = ap allDigits (cut line i h)
+      digits_split : all_digits (drop i line) ≡ (is_digit (get_or line i 0) && all_digits (drop (i + 1) line))
+      unfolding all_digits
+      digits_split = ap all_digits (cut line i h)
 
       pub low_byte : get_or line i 0 < 48 → NumberRead line 100000
-      low_byte l = none_other (r.same_digits ∙ digits-split ∙ simp (lt-leb 48 (get_or line i 0) l))
+      low_byte l = none_other (r.same_digits ∙ digits_split ∙ simp (lt-leb 48 (get_or line i 0) l))
 
       pub high_byte : 57 < get_or line i 0 → NumberRead line 100000
-      high_byte l = none_other (r.same_digits ∙ digits-split ∙ simp (lt-leb (get_or line i 0) 57 l, and-false))
+      high_byte l = none_other (r.same_digits ∙ digits_split ∙ simp (lt-leb (get_or line i 0) 57 l, and-false))
 
-      value-split : valueFrom sofar (drop i line) ≡ valueFrom (10 * sofar + (get_or line i 0 - 48)) (drop (i + 1) line)
-      unfolding valueFrom
-      value-split = ap (valueFrom sofar) (cut line i h)
+      value_split : value_from sofar (drop i line) ≡ value_from (10 * sofar + (get_or line i 0 - 48)) (drop (i + 1) line)
+      unfolding value_from
+      value_split = ap (value_from sofar) (cut line i h)
 
       pub read_more : 48 ≤ get_or line i 0 → get_or line i 0 ≤ 57 → (d : ℕ) → d ≡ get_or line i 0 - 48 → Read line (10 * sofar + d) (i + 1)
       read_more low high d e =
           record {
-            same_digits = r.same_digits ∙ digits-split ∙ simp (le-leb 48 (get_or line i 0) low, le-leb (get_or line i 0) 57 high);
-            same-value = r.same-value ∙ value-split ∙ ap (λ (n : ℕ). valueFrom (10 * sofar + n) (drop (i + 1) line)) (sym e);
+            same_digits = r.same_digits ∙ digits_split ∙ simp (le-leb 48 (get_or line i 0) low, le-leb (get_or line i 0) 57 high);
+            same_value = r.same_value ∙ value_split ∙ ap (λ (n : ℕ). value_from (10 * sofar + n) (drop (i + 1) line)) (sym e);
             small = omega (arith, r.small, pow-succ' 10 i, ap (λ (n : ℕ). 10 ^ n) (add-one i));
           }

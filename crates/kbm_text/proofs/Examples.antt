@@ -1,9 +1,9 @@
 -- The worked examples hold by computation.
 use mathlib.Core.Path.{refl}
-use Rattle.kbm_text.specs.Reading.{readOutcome}
-use Rattle.kbm_text.specs.Written.{kbmText}
+use Rattle.kbm_text.specs.Reading.{read_outcome}
+use Rattle.kbm_text.specs.Written.{kbm_text}
 use Rattle.kbm_text.specs.Examples.{ExamplesHold}
 
-pub examples-hold : ExamplesHold
-unfolding readOutcome kbmText
-examples-hold = record { outcomes = refl; written = refl }
+pub examples_hold : ExamplesHold
+unfolding read_outcome kbm_text
+examples_hold = record { outcomes = refl; written = refl }

@@ -9,30 +9,30 @@ use lib.ListN.{length, get_or, take, drop, length-drop}
 use lib.Seq.{drop-cons, take-suc, get_or-drop}
 use lib.Dec.{eqb}
 use borrow.Author.Tests.{eq-eqb, ne_eqb, eqb-true, eqb-false}
-use Rattle.kbm_text.specs.Lines.{ontoFirst, lines}
+use Rattle.kbm_text.specs.Lines.{onto_first, lines}
 use Rattle.kbm_text.specs.Parts.{Closed, Cut}
 
-onto-none : (ls : List (List ℕ)) → ontoFirst [] ls ≡ ls
-onto-none [] = refl
-onto-none (l ∷ ls) = refl
+onto_none : (ls : List (List ℕ)) → onto_first [] ls ≡ ls
+onto_none [] = refl
+onto_none (l ∷ ls) = refl
 
-onto-append : (s t : List ℕ) (ls : List (List ℕ)) → ontoFirst s (ontoFirst t ls) ≡ ontoFirst (s ++ t) ls
-onto-append s t [] = refl
-onto-append s t (l ∷ ls) = ap (λ (x : List ℕ). x ∷ ls) (sym (append_assoc s t l))
+onto_append : (s t : List ℕ) (ls : List (List ℕ)) → onto_first s (onto_first t ls) ≡ onto_first (s ++ t) ls
+onto_append s t [] = refl
+onto_append s t (l ∷ ls) = ap (λ (x : List ℕ). x ∷ ls) (sym (append_assoc s t l))
 
-pub lines-feed : (byte : ℕ) (rest : List ℕ) → byte ≡ 10 → lines (byte ∷ rest) ≡ [] ∷ lines rest
+pub lines_feed : (byte : ℕ) (rest : List ℕ) → byte ≡ 10 → lines (byte ∷ rest) ≡ [] ∷ lines rest
 unfolding lines
-lines-feed byte rest e = ap (λ (test : Bool). elim test [ true ↦ [] ∷ lines rest | false ↦ ontoFirst (byte ∷ []) (lines rest) ]) (eq-eqb byte 10 e)
+lines_feed byte rest e = ap (λ (test : Bool). elim test [ true ↦ [] ∷ lines rest | false ↦ onto_first (byte ∷ []) (lines rest) ]) (eq-eqb byte 10 e)
 
-pub lines_other : (byte : ℕ) (rest : List ℕ) → (byte ≡ 10 → ⊥) → lines (byte ∷ rest) ≡ ontoFirst (byte ∷ []) (lines rest)
+pub lines_other : (byte : ℕ) (rest : List ℕ) → (byte ≡ 10 → ⊥) → lines (byte ∷ rest) ≡ onto_first (byte ∷ []) (lines rest)
 unfolding lines
-lines_other byte rest e = ap (λ (test : Bool). elim test [ true ↦ [] ∷ lines rest | false ↦ ontoFirst (byte ∷ []) (lines rest) ]) (ne_eqb byte 10 e)
+lines_other byte rest e = ap (λ (test : Bool). elim test [ true ↦ [] ∷ lines rest | false ↦ onto_first (byte ∷ []) (lines rest) ]) (ne_eqb byte 10 e)
 
 -- the lines from `at` on are those from `end` on, with the bytes between on the first
 pub record Going (text : List ℕ) (at end : ℕ) : Type 0 where
   pub from : at ≤ end
   pub inside : end < length text
-  pub first : lines (drop at text) ≡ ontoFirst (take (end - at) (drop at text)) (lines (drop end text))
+  pub first : lines (drop at text) ≡ onto_first (take (end - at) (drop at text)) (lines (drop end text))
 
 module _ (text : List ℕ) (at : ℕ) where
   split : (i : ℕ) → i < length text → drop i text ≡ get_or text i 0 ∷ drop (i + 1) text
@@ -46,17 +46,17 @@ module _ (text : List ℕ) (at : ℕ) where
         inside = h;
         first =
             sym
-            (ap (λ (n : ℕ). ontoFirst (take n (drop at text)) (lines (drop at text))) none
-            ∙ onto-none (lines (drop at text)));
+            (ap (λ (n : ℕ). onto_first (take n (drop at text)) (lines (drop at text))) none
+            ∙ onto_none (lines (drop at text)));
       }
 
   -- the last byte is a line feed
   pub not_last : (end : ℕ) → Closed text → end < length text → (get_or text end 0 ≡ 10 → ⊥) → end + 1 < length text
-  not_last end c h e = by-eq (eqb (end + 1) (length text)) refl
+  not_last end c h e = by_eq (eqb (end + 1) (length text)) refl
     where
-      by-eq : (test : Bool) → eqb (end + 1) (length text) ≡ test → end + 1 < length text
-      by-eq true q = absurd (e (ap (λ (n : ℕ). get_or text n 0) (omega (arith, eqb-true (end + 1) (length text) q)) ∙ c.feed))
-      by-eq false q = omega (arith, eqb-false (end + 1) (length text) q)
+      by_eq : (test : Bool) → eqb (end + 1) (length text) ≡ test → end + 1 < length text
+      by_eq true q = absurd (e (ap (λ (n : ℕ). get_or text n 0) (omega (arith, eqb-true (end + 1) (length text) q)) ∙ c.feed))
+      by_eq false q = omega (arith, eqb-false (end + 1) (length text) q)
 
   module _ (end : ℕ) (g : Going text at end) where
     longer : take (end + 1 - at) (drop at text) ≡ take (end - at) (drop at text) ++ (get_or text end 0 ∷ [])
@@ -74,10 +74,10 @@ module _ (text : List ℕ) (at : ℕ) where
           inside = not_last end c g.inside e;
           first =
               g.first
-              ∙ ap (λ (ls : List (List ℕ)). ontoFirst (take (end - at) (drop at text)) ls)
+              ∙ ap (λ (ls : List (List ℕ)). onto_first (take (end - at) (drop at text)) ls)
               (ap lines (split end g.inside) ∙ lines_other (get_or text end 0) (drop (end + 1) text) e)
-              ∙ onto-append (take (end - at) (drop at text)) (get_or text end 0 ∷ []) (lines (drop (end + 1) text))
-              ∙ ap (λ (s : List ℕ). ontoFirst s (lines (drop (end + 1) text))) (sym longer);
+              ∙ onto_append (take (end - at) (drop at text)) (get_or text end 0 ∷ []) (lines (drop (end + 1) text))
+              ∙ ap (λ (s : List ℕ). onto_first s (lines (drop (end + 1) text))) (sym longer);
         }
 
     pub going_end : get_or text end 0 ≡ 10 → Cut text at end
@@ -87,7 +87,7 @@ module _ (text : List ℕ) (at : ℕ) where
           inside = g.inside;
           first =
               g.first
-              ∙ ap (λ (ls : List (List ℕ)). ontoFirst (take (end - at) (drop at text)) ls)
-              (ap lines (split end g.inside) ∙ lines-feed (get_or text end 0) (drop (end + 1) text) e)
+              ∙ ap (λ (ls : List (List ℕ)). onto_first (take (end - at) (drop at text)) ls)
+              (ap lines (split end g.inside) ∙ lines_feed (get_or text end 0) (drop (end + 1) text) e)
               ∙ ap (λ (s : List ℕ). s ∷ lines (drop (end + 1) text)) (append-nil (take (end - at) (drop at text)));
         }

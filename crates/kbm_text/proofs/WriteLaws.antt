@@ -9,7 +9,7 @@ use Rattle.answer.specs.Choice.{pick}
 use Rattle.text.specs.Writing.{Room}
 use Rattle.text.specs.Decimal.{digits, DigitsLength}
 use Rattle.kbm_text.specs.Kinds.{mark, frequency}
-use Rattle.kbm_text.specs.Written.{line, headText, entryLine}
+use Rattle.kbm_text.specs.Written.{line, head_text, entry_line}
 use Rattle.kbm_text.specs.Parts.{LengthUpTo}
 
 -- ---- the head
@@ -18,43 +18,43 @@ use Rattle.kbm_text.specs.Parts.{LengthUpTo}
 abbrev pub notes : List ℕ
 notes = 10 ∷ 48 ∷ 10 ∷ 49 ∷ 50 ∷ 55 ∷ 10 ∷ 54 ∷ 48 ∷ 10 ∷ 54 ∷ 57 ∷ 10 ∷ frequency ++ (10 ∷ [])
 
-pub head-is : (octave : ℕ) → headText octave ≡ ((digits octave ++ notes) ++ digits octave) ++ (10 ∷ [])
-unfolding headText
-head-is octave = simp append_assoc
+pub head_is : (octave : ℕ) → head_text octave ≡ ((digits octave ++ notes) ++ digits octave) ++ (10 ∷ [])
+unfolding head_text
+head_is octave = simp append_assoc
 
-pub length-head : (octave : ℕ) → length (headText octave) ≡ 2 * length (digits octave) + 25
-length-head octave =
+pub length_head : (octave : ℕ) → length (head_text octave) ≡ 2 * length (digits octave) + 25
+length_head octave =
     omega (
       arith,
-      ap length (head-is octave),
+      ap length (head_is octave),
       length-append ((digits octave ++ notes) ++ digits octave) (10 ∷ []),
       length-append (digits octave ++ notes) (digits octave),
       length-append (digits octave) notes,
     )
 
-pub head-length : (octave r : ℕ) → DigitsLength octave r → LengthUpTo 35 (headText octave) (2 * r + 25)
-head-length octave r d = record { is = omega (arith, d.is-length, length-head octave); few = omega (arith, d.few) }
+pub head_length : (octave r : ℕ) → DigitsLength octave r → LengthUpTo 35 (head_text octave) (2 * r + 25)
+head_length octave r d = record { is = omega (arith, d.is_length, length_head octave); few = omega (arith, d.few) }
 
 -- ---- an entry
 
 module _ (key : ℕ) (mapped : Bool) where
-  pub entry-number : mapped ≡ true → entryLine key mapped ≡ digits key ++ (10 ∷ [])
-  unfolding entryLine
-  entry-number e = ap (λ (t : Bool). line (pick t (digits key) mark)) e
+  pub entry_number : mapped ≡ true → entry_line key mapped ≡ digits key ++ (10 ∷ [])
+  unfolding entry_line
+  entry_number e = ap (λ (t : Bool). line (pick t (digits key) mark)) e
 
-  pub entry-mark : mapped ≡ false → entryLine key mapped ≡ 120 ∷ 10 ∷ []
-  unfolding entryLine
-  entry-mark e = ap (λ (t : Bool). line (pick t (digits key) mark)) e
+  pub entry_mark : mapped ≡ false → entry_line key mapped ≡ 120 ∷ 10 ∷ []
+  unfolding entry_line
+  entry_mark e = ap (λ (t : Bool). line (pick t (digits key) mark)) e
 
-  pub number-length : mapped ≡ true → (r : ℕ) → DigitsLength key r → LengthUpTo 6 (entryLine key mapped) (r + 1)
-  number-length e r d =
+  pub number_length : mapped ≡ true → (r : ℕ) → DigitsLength key r → LengthUpTo 6 (entry_line key mapped) (r + 1)
+  number_length e r d =
       record {
-        is = omega (arith, d.is-length, ap length (entry-number e), length-append (digits key) (10 ∷ []));
+        is = omega (arith, d.is_length, ap length (entry_number e), length-append (digits key) (10 ∷ []));
         few = omega (arith, d.few);
       }
 
-  pub mark-length : mapped ≡ false → LengthUpTo 6 (entryLine key mapped) 2
-  mark-length e = record { is = sym (ap length (entry-mark e)); few = omega arith }
+  pub mark_length : mapped ≡ false → LengthUpTo 6 (entry_line key mapped) 2
+  mark_length e = record { is = sym (ap length (entry_mark e)); few = omega arith }
 
 -- ---- room, for a text that is said otherwise
 

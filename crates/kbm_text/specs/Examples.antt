@@ -2,8 +2,8 @@
 use Rattle.std.specs.Prelude.{ℕ, List, [], ◌∷◌, ◌++◌, map, ◌≡◌, eqb}
 use Rattle.answer.specs.Outcome.{Outcome, given, refused}
 use Rattle.kbm_text.specs.Kinds.{mark, frequency}
-use Rattle.kbm_text.specs.Reading.{readOutcome}
-use Rattle.kbm_text.specs.Written.{line, kbmText}
+use Rattle.kbm_text.specs.Reading.{read_outcome}
+use Rattle.kbm_text.specs.Written.{line, kbm_text}
 
 -- 48 to 57 are digits, 120 is x and 88 X, 33 the exclamation mark, 13 the carriage return, 10 the line feed.
 abbrev pub notes : List ℕ
@@ -29,8 +29,8 @@ pub record Example : Type 0 where
   pub text : List ℕ
   pub outcome : Outcome (List ℕ)
 
-abbrev noText : List ℕ
-noText = []
+abbrev no_text : List ℕ
+no_text = []
 
 abbrev pub examples : List Example
 examples =
@@ -51,7 +51,7 @@ examples =
     ∷ record { text = good ++ line mark; outcome = refused 19 }
     ∷ record { text = good ++ (50 ∷ []); outcome = refused 19 }
     ∷ record { text = head two two ++ line mark; outcome = refused 19 }
-    ∷ record { text = noText; outcome = refused 19 }
+    ∷ record { text = no_text; outcome = refused 19 }
     -- three entries that the size line asks for; two that it does not
     ∷ record { text = head (51 ∷ []) two ++ line mark ++ line mark ++ line mark; outcome = refused 19 }
     ∷ record { text = head (51 ∷ []) two ++ line mark ++ line mark; outcome = refused 20 }
@@ -80,6 +80,6 @@ examples =
 
 -- Theorem.
 pub record ExamplesHold : Type 0 where
-  pub outcomes : map (λ (e : Example). readOutcome 2 e.text) examples ≡ map (λ (e : Example). e.outcome) examples
+  pub outcomes : map (λ (e : Example). read_outcome 2 e.text) examples ≡ map (λ (e : Example). e.outcome) examples
   -- key 0 alone is mapped
-  pub written : kbmText 2 (λ key. eqb key 0) ≡ good
+  pub written : kbm_text 2 (λ key. eqb key 0) ≡ good

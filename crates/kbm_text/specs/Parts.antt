@@ -3,8 +3,8 @@ use Rattle.std.specs.Prelude.{ℕ, ◌+◌, ◌-◌, ◌<◌, ◌≤◌, Bool, t
 use Rattle.text.specs.Decimal.{value}
 use Rattle.text.specs.Writing.{Wrote}
 use Rattle.kbm_text.specs.Lines.{lines}
-use Rattle.kbm_text.specs.Kinds.{saysNumber, isCommentKind}
-use Rattle.kbm_text.specs.Reading.{fitsAt, agreesAt, key_at, said, all_fit, allAgree, keysFrom}
+use Rattle.kbm_text.specs.Kinds.{says_number, is_comment_kind}
+use Rattle.kbm_text.specs.Reading.{fits_at, agrees_at, key_at, said, all_fit, all_agree, keys_from}
 use Rattle.kbm_text.specs.declared.kinds.Kind.{Kind}
 use Rattle.kbm_text.specs.declared.kinds.Kind.TheVariants.{Number, Frequency, Mark, Comment, Other}
 use Rattle.kbm_text.specs.declared.scan.Scan.{Scan}
@@ -14,8 +14,8 @@ use Rattle.kbm_text.specs.declared.scan.Spot.{Spot}
 
 -- What `number_in` promises.
 pub record NumberRead (line : List ℕ) (r : ℕ) : Type 0 where
-  pub yes : saysNumber line ≡ true → (r ≡ value line) × (r < 100000)
-  pub no : saysNumber line ≡ false → r ≡ 100000
+  pub yes : says_number line ≡ true → (r ≡ value line) × (r < 100000)
+  pub no : says_number line ≡ false → r ≡ 100000
 
 -- A text whose last byte is a line feed.
 pub record Closed (text : List ℕ) : Type 0 where
@@ -30,44 +30,44 @@ pub record Cut (text : List ℕ) (at end : ℕ) : Type 0 where
 
 -- ---- the pass that asks
 
-abbrev pub keyCount : ℕ → Kind → ℕ
-keyCount k kind = length (key_at k kind)
+abbrev pub key_count : ℕ → Kind → ℕ
+key_count k kind = length (key_at k kind)
 
 -- One line more, unless it is skipped.
-abbrev pub withLine : ℕ → Scan → Kind → Scan
-withLine octave s kind =
+abbrev pub with_line : ℕ → Scan → Kind → Scan
+with_line octave s kind =
     record {
       line = s.line + 1;
-      fits = s.fits && fitsAt s.line kind;
-      agrees = s.agrees && agreesAt octave s.line kind;
-      keys = s.keys + keyCount s.line kind;
+      fits = s.fits && fits_at s.line kind;
+      agrees = s.agrees && agrees_at octave s.line kind;
+      keys = s.keys + key_count s.line kind;
     }
 
 abbrev pub unless : Bool → Scan → Scan → Scan
 unless true s t = s
 unless false s t = t
 
-unfoldable pub nextScan : ℕ → Scan → Kind → Scan
-nextScan octave s kind = unless (isCommentKind kind) s (withLine octave s kind)
+unfoldable pub next_scan : ℕ → Scan → Kind → Scan
+next_scan octave s kind = unless (is_comment_kind kind) s (with_line octave s kind)
 
 pub record Scanned (octave : ℕ) (text : List ℕ) (s : Scan) : Type 0 where
   pub count : length (said (lines text)) ≡ s.line
   pub fit : all_fit 0 (said (lines text)) ≡ s.fits
-  pub agree : allAgree octave 0 (said (lines text)) ≡ s.agrees
-  pub mapped : length (keysFrom 0 (said (lines text))) ≡ s.keys
+  pub agree : all_agree octave 0 (said (lines text)) ≡ s.agrees
+  pub mapped : length (keys_from 0 (said (lines text))) ≡ s.keys
 
 -- ---- the pass that writes
 
-abbrev pub lineAfter : ℕ → Kind → ℕ
-lineAfter k (Number n) = k + 1
-lineAfter k Frequency = k + 1
-lineAfter k Mark = k + 1
-lineAfter k Comment = k
-lineAfter k Other = k + 1
+abbrev pub line_after : ℕ → Kind → ℕ
+line_after k (Number n) = k + 1
+line_after k Frequency = k + 1
+line_after k Mark = k + 1
+line_after k Comment = k
+line_after k Other = k + 1
 
 pub record PutKey (before : List ℕ) (spot : Spot) (kind : Kind) (after : List ℕ) (next : Spot) : Type 0 where
   pub wrote : Wrote before spot.put (key_at spot.line kind) after next.put
-  pub line-is : next.line ≡ lineAfter spot.line kind
+  pub line_is : next.line ≡ line_after spot.line kind
 
 -- ---- the writer
 

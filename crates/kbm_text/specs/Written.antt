@@ -10,9 +10,9 @@ abbrev pub line : List ℕ → List ℕ
 line text = text ++ (10 ∷ [])
 
 -- "size, first and last note, middle note, reference note, frequency, octave degree"
-unfoldable pub headText : ℕ → List ℕ
+unfoldable pub head_text : ℕ → List ℕ
 unfolding digits
-headText octave =
+head_text octave =
     line (digits octave)
     ++ line (digits 0)
     ++ line (digits 127)
@@ -22,16 +22,16 @@ headText octave =
     ++ line (digits octave)
 
 -- "Entry k is k where" it is mapped, "and else the unmapped mark".
-unfoldable pub entryLine : ℕ → Bool → List ℕ
+unfoldable pub entry_line : ℕ → Bool → List ℕ
 unfolding digits
-entryLine key mapped = line (pick mapped (digits key) mark)
+entry_line key mapped = line (pick mapped (digits key) mark)
 
 -- The whole text, for the keys of an octave that are mapped.
-unfoldable pub kbmText : ℕ → (ℕ → Bool) → List ℕ
-unfolding headText joined entryLine
-kbmText octave mapped = headText octave ++ joined (λ key. entryLine key (mapped key)) octave
+unfoldable pub kbm_text : ℕ → (ℕ → Bool) → List ℕ
+unfolding head_text joined entry_line
+kbm_text octave mapped = head_text octave ++ joined (λ key. entry_line key (mapped key)) octave
 
 -- The keys of an octave that are mapped, rising.
-unfoldable pub mappedKeys : ℕ → (ℕ → Bool) → List ℕ
+unfoldable pub mapped_keys : ℕ → (ℕ → Bool) → List ℕ
 unfolding joined
-mappedKeys octave mapped = joined (λ key. pick (mapped key) (key ∷ []) []) octave
+mapped_keys octave mapped = joined (λ key. pick (mapped key) (key ∷ []) []) octave

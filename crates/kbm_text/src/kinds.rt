@@ -1,8 +1,8 @@
 // What a line says: parts, and no entry points. They ask for nothing.
 ghost use Rattle.std.specs.Prelude.{◌≡◌, ◌<◌};
-ghost use Rattle.kbm_text.specs.Kinds.{kind_of, isCommentKind};
+ghost use Rattle.kbm_text.specs.Kinds.{kind_of, is_comment_kind};
 ghost use Rattle.kbm_text.specs.Parts.{NumberRead};
-ghost use Rattle.kbm_text.specs.Kinds.{sameBytes};
+ghost use Rattle.kbm_text.specs.Kinds.{same_bytes};
 
 // What a line says.
 #[derive(Drop)]
@@ -19,7 +19,7 @@ pub enum Kind {
 }
 
 fn same(a: &[u8], b: &[u8]) -> bool
-    ensures { result ≡ sameBytes a.now b.now }
+    ensures { result ≡ same_bytes a.now b.now }
 {
     if a.len() != b.len() {
         return false;
@@ -91,7 +91,7 @@ pub(crate) fn kind_of(line: &[u8]) -> Kind
 
 // Is it a line that is skipped?
 pub(crate) fn is_comment(kind: Kind) -> bool
-    ensures { result ≡ isCommentKind kind }
+    ensures { result ≡ is_comment_kind kind }
 {
     match kind {
         Kind::Number(_) => false,

@@ -5,20 +5,22 @@
 // or the mark that it is not mapped. Any bytes may be read; the time goes with their number.
 // specs/: Lines and Kinds define what a text says, Reading which keys it maps, Written the text that is written; Theorems and Examples
 // state what holds. `read_keys` answers every input; `writer` holds parts, as its head says. Nothing is assumed.
+#![tactic(auto)]
+
 mod kinds;
 mod scan;
 pub mod writer;
 
 ghost use Rattle.std.specs.Prelude.{length};
 ghost use Rattle.answer.specs.Lent.{Filled};
-ghost use Rattle.answer.specs.Refusals.{countOutcome};
-ghost use Rattle.kbm_text.specs.Reading.{readIn};
+ghost use Rattle.answer.specs.Refusals.{count_outcome};
+ghost use Rattle.kbm_text.specs.Reading.{read_in};
 
 use answer::{CountAnswer, Refusal};
 
 // The keys that a mapping of so many entries maps, rising (19, 20, 10).
 pub fn read_keys(octave: u16, text: &[u8], out: &mut [u16]) -> CountAnswer
-    ensures { Filled (readIn octave text.now (length out.old)) (countOutcome result) out.old out.new }
+    ensures { Filled (read_in octave text.now (length out.old)) (count_outcome result) out.old out.new }
 {
     let len = text.len();
     if len < 1 {

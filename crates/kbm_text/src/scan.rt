@@ -4,8 +4,8 @@
 ghost use Rattle.std.specs.Prelude.{◌≡◌, ◌&&◌, ◌+◌, ◌<◌, ◌≤◌, length};
 ghost use Rattle.text.specs.Writing.{Room, Wrote};
 ghost use Rattle.kbm_text.specs.Lines.{lines};
-ghost use Rattle.kbm_text.specs.Reading.{due, fitsAt, agreesAt, key_at, said, keysFrom};
-ghost use Rattle.kbm_text.specs.Parts.{Closed, Cut, keyCount, nextScan, Scanned, PutKey};
+ghost use Rattle.kbm_text.specs.Reading.{due, fits_at, agrees_at, key_at, said, keys_from};
+ghost use Rattle.kbm_text.specs.Parts.{Closed, Cut, key_count, next_scan, Scanned, PutKey};
 
 use crate::kinds::{Kind, is_comment, kind_of};
 
@@ -77,7 +77,7 @@ fn due_at(octave: u16, line: usize) -> usize
 
 // 19, of one line.
 fn fits_at(line: usize, kind: Kind) -> bool
-    ensures { result ≡ fitsAt line kind }
+    ensures { result ≡ fits_at line kind }
 {
     match kind {
         Kind::Number(_) => line != 5,
@@ -90,7 +90,7 @@ fn fits_at(line: usize, kind: Kind) -> bool
 
 // 20, of one line.
 fn agrees_at(octave: u16, line: usize, kind: Kind) -> bool
-    ensures { result ≡ agreesAt octave line kind }
+    ensures { result ≡ agrees_at octave line kind }
 {
     match kind {
         Kind::Number(n) => (n as usize) == due_at(octave, line),
@@ -103,7 +103,7 @@ fn agrees_at(octave: u16, line: usize, kind: Kind) -> bool
 
 // 1 where the line maps a key.
 fn key_count(line: usize, kind: Kind) -> usize
-    ensures { (result ≡ keyCount line kind) × (result ≤ 1) }
+    ensures { (result ≡ key_count line kind) × (result ≤ 1) }
 {
     match kind {
         Kind::Number(_) => {
@@ -122,7 +122,7 @@ fn key_count(line: usize, kind: Kind) -> usize
 // One line more.
 fn step(s: Scan, octave: u16, kind: Kind) -> Scan
     requires { (s.line < 18446744073709551615) × (s.keys ≤ s.line) }
-    ensures { (result ≡ nextScan octave s kind) × (result.line ≤ s.line + 1) × (result.keys ≤ result.line) }
+    ensures { (result ≡ next_scan octave s kind) × (result.line ≤ s.line + 1) × (result.keys ≤ result.line) }
 {
     if is_comment(kind) {
         return s;
@@ -185,8 +185,8 @@ fn put_key(out: &mut [u16], spot: Spot, kind: Kind) -> Spot
 
 // The keys that all lines map, at the front of a slice that is known to hold them.
 pub(crate) fn put_keys(text: &[u8], out: &mut [u16]) -> usize
-    requires { Closed text.now × Room out.old 0 (keysFrom 0 (said (lines text.now))) × (length (said (lines text.now)) ≤ 65542) }
-    ensures { Wrote out.old 0 (keysFrom 0 (said (lines text.now))) out.new result }
+    requires { Closed text.now × Room out.old 0 (keys_from 0 (said (lines text.now))) × (length (said (lines text.now)) ≤ 65542) }
+    ensures { Wrote out.old 0 (keys_from 0 (said (lines text.now))) out.new result }
 {
     let mut at: usize = 0;
     let mut spot = Spot { line: 0, put: 0 };

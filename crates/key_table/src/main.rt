@@ -4,11 +4,13 @@
 // 18 bytes are kept: a longer line is refused whatever follows (`LineIsEnough`). A table is printed in parts, 78 lines at a time (`TablesFit`
 // of `layout_table` bounds a line), so a small stack is enough. specs/: Printing states what the functions between ask for. Which bytes a
 // read hands over, and where written bytes go, rests on the kit's library.
+#![tactic(auto)]
+
 ghost use Rattle.std.specs.Prelude.{◌≤◌, ◌<◌, length};
 ghost use Rattle.text.specs.Writing.{joined};
-ghost use Rattle.layout.specs.Parts.{layoutIn};
+ghost use Rattle.layout.specs.Parts.{layout_in};
 ghost use Rattle.layout_table.specs.Tables.{output};
-ghost use Rattle.layout_table.specs.Parts.{lineFrom};
+ghost use Rattle.layout_table.specs.Parts.{line_from};
 ghost use Rattle.streams.specs.Streams.{Written};
 ghost use Rattle.streams.specs.Reading.{LineRead, LineIsEnough};
 ghost use Rattle.streams.specs.Printing.{Printed};
@@ -43,7 +45,7 @@ fn at_once(left: u16) -> u16
 // Writes the lines of so many keys from a key on, by way of the buffer.
 fn print_lines(prepared: Prepared, from: u16, count: u16, past: Output, out: &mut [u8]) -> Output
     requires { Lines prepared from count × (65536 ≤ length out.old) }
-    ensures { Written past (joined (lineFrom (layoutIn prepared) from) count) result }
+    ensures { Written past (joined (line_from (layout_in prepared) from) count) result }
 {
     let bytes = layout_table::parts::put_lines(out, prepared, from, count);
     output::write(past, &out[..bytes])

@@ -2,14 +2,14 @@
 use Rattle.std.specs.Prelude.{ℕ, List, map}
 use Rattle.answer.specs.Outcome.{Outcome, given, ask}
 use Rattle.answer.specs.Tests.{all_of}
-use Rattle.lamp_codes.specs.Codes.{isOld, wideCode, isConverted, oldCode}
+use Rattle.lamp_codes.specs.Codes.{is_old, wide_code, is_converted, old_code}
 
 -- "17 when an old strip holds a code from 202 to 254"
-unfoldable pub getWidened : List ℕ → Outcome (List ℕ)
-unfolding wideCode
-getWidened strip = ask 17 (all_of isOld strip) (given (map wideCode strip))
+unfoldable pub get_widened : List ℕ → Outcome (List ℕ)
+unfolding wide_code
+get_widened strip = ask 17 (all_of is_old strip) (given (map wide_code strip))
 
 -- ".. or a strip on its way back holds a code that no old code converts to"
-unfoldable pub getNarrowed : List ℕ → Outcome (List ℕ)
-unfolding oldCode
-getNarrowed strip = ask 17 (all_of isConverted strip) (given (map oldCode strip))
+unfoldable pub get_narrowed : List ℕ → Outcome (List ℕ)
+unfolding old_code
+get_narrowed strip = ask 17 (all_of is_converted strip) (given (map old_code strip))

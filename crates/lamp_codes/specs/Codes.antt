@@ -4,22 +4,22 @@ use Rattle.std.specs.Prelude.{ℕ, ◌+◌, ◌*◌, ◌-◌, ◌/◌, ◌%◌, 
 use Rattle.answer.specs.Choice.{pick}
 
 -- Of the bytes, those "from 202 to 254" are no codes.
-abbrev pub isOld : ℕ → Bool
-isOld code = ltb code 202 || eqb code 255
+abbrev pub is_old : ℕ → Bool
+is_old code = ltb code 202 || eqb code 255
 
 -- The two-byte code of what a one-byte code stands for: home and natural; sharp; flat; enharmonic.
-unfoldable pub wideCode : ℕ → ℕ
-wideCode code =
+unfoldable pub wide_code : ℕ → ℕ
+wide_code code =
     pick (ltb code 2) code
     (pick (ltb code 102) (2 + 2 * (code - 2))
     (pick (ltb code 202) (3 + 2 * (code - 102)) 65535))
 
 -- Of the two-byte codes, those that an old code converts to (`Partners` says so).
-abbrev pub isConverted : ℕ → Bool
-isConverted code = ltb code 202 || eqb code 65535
+abbrev pub is_converted : ℕ → Bool
+is_converted code = ltb code 202 || eqb code 65535
 
 -- The one-byte code of what such a code stands for: home and natural; sharp, by even numbers, and flat, by odd ones; enharmonic.
-unfoldable pub oldCode : ℕ → ℕ
-oldCode code =
+unfoldable pub old_code : ℕ → ℕ
+old_code code =
     pick (ltb code 2) code
     (pick (ltb code 202) (pick (eqb (code % 2) 0) (2 + (code - 2) / 2) (102 + (code - 3) / 2)) 255)

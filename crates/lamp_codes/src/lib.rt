@@ -3,14 +3,16 @@
 // Holds the way of a stored strip from one-byte codes to those that `layout_lamps` gives today, and back to the same bytes.
 // specs/: Codes defines, Answers says what each call answers, Theorems and Examples state what holds.
 // Every entry point answers every input; a refusal changes no element that was lent. Nothing is assumed.
+#![tactic(auto)]
+
 ghost use Rattle.std.specs.Prelude.{◌≡◌, map, ◌≤◌, length};
 ghost use Rattle.answer.specs.Outcome.{and_then};
-ghost use Rattle.answer.specs.Lent.{heldIn, Filled};
+ghost use Rattle.answer.specs.Lent.{held_in, Filled};
 ghost use Rattle.answer.specs.Tests.{all_of};
-ghost use Rattle.answer.specs.Refusals.{countOutcome};
+ghost use Rattle.answer.specs.Refusals.{count_outcome};
 ghost use Rattle.text.specs.Writing.{Wrote};
-ghost use Rattle.lamp_codes.specs.Codes.{isOld, wideCode, isConverted, oldCode};
-ghost use Rattle.lamp_codes.specs.Answers.{getWidened, getNarrowed};
+ghost use Rattle.lamp_codes.specs.Codes.{is_old, wide_code, is_converted, old_code};
+ghost use Rattle.lamp_codes.specs.Answers.{get_widened, get_narrowed};
 
 use answer::{CountAnswer, Refusal};
 
@@ -18,7 +20,7 @@ use answer::{CountAnswer, Refusal};
 
 // The two-byte code of a one-byte one.
 fn wide_code(code: u8) -> u16
-    ensures { result ≡ wideCode code }
+    ensures { result ≡ wide_code code }
 {
     let number = code as u16;
     if number < 2 {
@@ -34,7 +36,7 @@ fn wide_code(code: u8) -> u16
 }
 
 fn is_old(code: u8) -> bool
-    ensures { result ≡ isOld code }
+    ensures { result ≡ is_old code }
 {
     if code < 202 {
         return true;
@@ -44,7 +46,7 @@ fn is_old(code: u8) -> bool
 
 // Is each of these a one-byte code?
 fn all_old(strip: &[u8]) -> bool
-    ensures { result ≡ all_of isOld strip.now }
+    ensures { result ≡ all_of is_old strip.now }
 {
     let mut place: usize = 0;
     while place < strip.len() {
@@ -59,7 +61,7 @@ fn all_old(strip: &[u8]) -> bool
 // The two-byte codes at the front of a slice that holds them; how many there are.
 fn put_wide(strip: &[u8], out: &mut [u16]) -> usize
     requires { length strip.now ≤ length out.old }
-    ensures { Wrote out.old 0 (map wideCode strip.now) out.new result }
+    ensures { Wrote out.old 0 (map wide_code strip.now) out.new result }
 {
     let mut place: usize = 0;
     while place < strip.len() {
@@ -71,7 +73,7 @@ fn put_wide(strip: &[u8], out: &mut [u16]) -> usize
 
 // A stored strip of one-byte codes, in codes of two bytes (17, 10).
 pub fn widen_strip(strip: &[u8], out: &mut [u16]) -> CountAnswer
-    ensures { Filled (and_then (getWidened strip.now) (heldIn (length out.old))) (countOutcome result) out.old out.new }
+    ensures { Filled (and_then (get_widened strip.now) (held_in (length out.old))) (count_outcome result) out.old out.new }
 {
     if !all_old(strip) {
         return CountAnswer::Refused(Refusal::Code);
@@ -86,7 +88,7 @@ pub fn widen_strip(strip: &[u8], out: &mut [u16]) -> CountAnswer
 
 // The one-byte code that a two-byte one was converted from.
 fn old_code(code: u16) -> u8
-    ensures { result ≡ oldCode code }
+    ensures { result ≡ old_code code }
 {
     if code < 2 {
         return code as u8;
@@ -101,7 +103,7 @@ fn old_code(code: u16) -> u8
 }
 
 fn is_converted(code: u16) -> bool
-    ensures { result ≡ isConverted code }
+    ensures { result ≡ is_converted code }
 {
     if code < 202 {
         return true;
@@ -111,7 +113,7 @@ fn is_converted(code: u16) -> bool
 
 // Was each of these converted from a one-byte code?
 fn all_converted(strip: &[u16]) -> bool
-    ensures { result ≡ all_of isConverted strip.now }
+    ensures { result ≡ all_of is_converted strip.now }
 {
     let mut place: usize = 0;
     while place < strip.len() {
@@ -126,7 +128,7 @@ fn all_converted(strip: &[u16]) -> bool
 // The one-byte codes at the front of a slice that holds them; how many there are.
 fn put_old(strip: &[u16], out: &mut [u8]) -> usize
     requires { length strip.now ≤ length out.old }
-    ensures { Wrote out.old 0 (map oldCode strip.now) out.new result }
+    ensures { Wrote out.old 0 (map old_code strip.now) out.new result }
 {
     let mut place: usize = 0;
     while place < strip.len() {
@@ -138,7 +140,7 @@ fn put_old(strip: &[u16], out: &mut [u8]) -> usize
 
 // A converted strip, in the one-byte codes that it was stored with (17, 10).
 pub fn narrow_strip(strip: &[u16], out: &mut [u8]) -> CountAnswer
-    ensures { Filled (and_then (getNarrowed strip.now) (heldIn (length out.old))) (countOutcome result) out.old out.new }
+    ensures { Filled (and_then (get_narrowed strip.now) (held_in (length out.old))) (count_outcome result) out.old out.new }
 {
     if !all_converted(strip) {
         return CountAnswer::Refused(Refusal::Code);

@@ -5,141 +5,141 @@ use mathlib.Core.List.{List}
 use lib.IntN.{ℤ, pos}
 use lib.ListN.{length}
 use Rattle.answer.specs.Outcome.{Outcome, given, refused, and_then}
-use Rattle.answer.specs.Lent.{heldIn, inRoom, counted, Filled}
+use Rattle.answer.specs.Lent.{held_in, in_room, counted, Filled}
 use Rattle.genchain.specs.declared.rows.ChainRow.{ChainRow}
-use Rattle.genchain.specs.Chains.{chainOf, row_of}
+use Rattle.genchain.specs.Chains.{chain_of, row_of}
 use Rattle.math.specs.Division.{remainder}
-use Rattle.notes.specs.Names.{nameText}
-use Rattle.notes.specs.Parts.{planText, Measured}
+use Rattle.notes.specs.Names.{name_text}
+use Rattle.notes.specs.Parts.{plan_text, Measured}
 use Rattle.notes.specs.declared.plans.NamePlan.{NamePlan}
 use Rattle.pergen.specs.declared.Accidentals.{Accidentals}
 use Rattle.pergen.specs.declared.stepping.Key.{Key}
 use Rattle.pergen.specs.Parts.{At}
-use Rattle.pergen.proofs.Keys.{key-round}
-use Rattle.layout.specs.Layouts.{Layout, layoutOutcome, accidentalsIn, sharpFirst}
-use Rattle.layout.specs.ScaleNames.{scaleName}
-use Rattle.layout.specs.Names.{nameIn}
-use Rattle.layout.specs.Answers.{ofLayout, createOutcome, getGenchain, getPergen, getMos, getAccidentals, getScaleName, getNoteName}
-use Rattle.layout.specs.Parts.{layout_of, Laid, layoutIn, Ready, PlannedIn}
+use Rattle.pergen.proofs.Keys.{key_round}
+use Rattle.layout.specs.Layouts.{Layout, layout_outcome, accidentals_in, sharp_first}
+use Rattle.layout.specs.ScaleNames.{scale_name}
+use Rattle.layout.specs.Names.{name_in}
+use Rattle.layout.specs.Answers.{of_layout, create_outcome, get_genchain, get_pergen, get_mos, get_accidentals, get_scale_name, get_note_name}
+use Rattle.layout.specs.Parts.{layout_of, Laid, layout_in, Ready, PlannedIn}
 use Rattle.layout.specs.declared.IsomorphicLayout.{IsomorphicLayout}
 use Rattle.layout.specs.declared.parts.Found.{Found}
 use Rattle.layout.specs.declared.prepared.Prepared.{Prepared}
-use Rattle.layout.proofs.Finding.{Parts, accepted, chain-is}
+use Rattle.layout.proofs.Finding.{Parts, accepted, chain_is}
 
 module _ {A : Type 0} (r : IsomorphicLayout) (next : Layout → Outcome A) where
-  pub of-refused : (n : ℕ) → refused n ≡ layoutOutcome r → refused n ≡ ofLayout r next
-  of-refused n e = ap (λ (o : Outcome Layout). and_then o next) e
+  pub of_refused : (n : ℕ) → refused n ≡ layout_outcome r → refused n ≡ of_layout r next
+  of_refused n e = ap (λ (o : Outcome Layout). and_then o next) e
 
-  pub of-given : (l : Layout) → given l ≡ layoutOutcome r → next l ≡ ofLayout r next
-  of-given l e = ap (λ (o : Outcome Layout). and_then o next) e
+  pub of_given : (l : Layout) → given l ≡ layout_outcome r → next l ≡ of_layout r next
+  of_given l e = ap (λ (o : Outcome Layout). and_then o next) e
 
 -- what is known of a layout that was found
-module _ (r : IsomorphicLayout) (l : Layout) (e : given l ≡ layoutOutcome r) where
-  pub parts-of : Parts l
-  parts-of = accepted r l (sym e)
+module _ (r : IsomorphicLayout) (l : Layout) (e : given l ≡ layout_outcome r) where
+  pub parts_of : Parts l
+  parts_of = accepted r l (sym e)
 
   pub laid_of : Laid l
   laid_of = record { caller = r; accepted = sym e }
 
   -- the row that was read for the search is that of its chain
-  pub row-found : (row : ChainRow) → row ≡ row_of (chainOf r.genchain) → row ≡ row_of (chainOf l.chain)
-  row-found row is = is ∙ ap (λ (code : ℕ). row_of (chainOf code)) (sym (chain-is r l (sym e)))
+  pub row_found : (row : ChainRow) → row ≡ row_of (chain_of r.genchain) → row ≡ row_of (chain_of l.chain)
+  row_found row is = is ∙ ap (λ (code : ℕ). row_of (chain_of code)) (sym (chain_is r l (sym e)))
 
 -- a planned name is the key's
-pub text-planned : (l : Layout) (key : ℤ) (plan : NamePlan) → PlannedIn l key plan → planText plan ≡ nameIn l key
-unfolding nameIn
-text-planned l key plan q = q.text
+pub text_planned : (l : Layout) (key : ℤ) (plan : NamePlan) → PlannedIn l key plan → plan_text plan ≡ name_in l key
+unfolding name_in
+text_planned l key plan q = q.text
 
 -- the layout that was found, made ready
-module _ (r : IsomorphicLayout) (f : Found) (e : given (layout_of f) ≡ layoutOutcome r) (p : Prepared) where
-  pub ready-given : p.found ≡ f → given (layoutIn p) ≡ layoutOutcome r
-  ready-given is = ap (λ (x : Found). given (layout_of x)) is ∙ e
+module _ (r : IsomorphicLayout) (f : Found) (e : given (layout_of f) ≡ layout_outcome r) (p : Prepared) where
+  pub ready_given : p.found ≡ f → given (layout_in p) ≡ layout_outcome r
+  ready_given is = ap (λ (x : Found). given (layout_of x)) is ∙ e
 
   -- what the plan of a key's name asks
-  pub plan-asks : (row : ChainRow) → row ≡ row_of (chainOf r.genchain) → Ready p × (p.found ≡ f) → (k : Key) → At p.solved k
-      → (row ≡ row_of (chainOf p.found.chain)) × Ready p × At p.solved k
-  plan-asks row is made k at = (row-found r (layoutIn p) (ready-given made.1) row is, made.0, at)
+  pub plan_asks : (row : ChainRow) → row ≡ row_of (chain_of r.genchain) → Ready p × (p.found ≡ f) → (k : Key) → At p.solved k
+      → (row ≡ row_of (chain_of p.found.chain)) × Ready p × At p.solved k
+  plan_asks row is made k at = (row_found r (layout_in p) (ready_given made.1) row is, made.0, at)
 
 -- ---- each call
 
-module _ (r : IsomorphicLayout) (n : ℕ) (e : refused n ≡ layoutOutcome r) where
-  pub create-refused : refused n ≡ createOutcome r
-  unfolding createOutcome
-  create-refused = of-refused r _ n e
+module _ (r : IsomorphicLayout) (n : ℕ) (e : refused n ≡ layout_outcome r) where
+  pub create_refused : refused n ≡ create_outcome r
+  unfolding create_outcome
+  create_refused = of_refused r _ n e
 
-  pub genchain-refused : refused n ≡ getGenchain r
-  unfolding getGenchain
-  genchain-refused = of-refused r _ n e
+  pub genchain_refused : refused n ≡ get_genchain r
+  unfolding get_genchain
+  genchain_refused = of_refused r _ n e
 
-  pub pergen-refused : refused n ≡ getPergen r
-  unfolding getPergen
-  pergen-refused = of-refused r _ n e
+  pub pergen_refused : refused n ≡ get_pergen r
+  unfolding get_pergen
+  pergen_refused = of_refused r _ n e
 
-  pub mos-refused : refused n ≡ getMos r
-  unfolding getMos
-  mos-refused = of-refused r _ n e
+  pub mos_refused : refused n ≡ get_mos r
+  unfolding get_mos
+  mos_refused = of_refused r _ n e
 
-  pub accidentals-refused : (key : ℤ) → refused n ≡ getAccidentals r key
-  unfolding getAccidentals
-  accidentals-refused key = of-refused r _ n e
+  pub accidentals_refused : (key : ℤ) → refused n ≡ get_accidentals r key
+  unfolding get_accidentals
+  accidentals_refused key = of_refused r _ n e
 
-  pub scale-refused : refused n ≡ getScaleName r
-  unfolding getScaleName
-  scale-refused = of-refused r _ n e
+  pub scale_refused : refused n ≡ get_scale_name r
+  unfolding get_scale_name
+  scale_refused = of_refused r _ n e
 
-  pub name-refused : (key : ℤ) → refused n ≡ getNoteName r key
-  unfolding getNoteName
-  name-refused key = of-refused r _ n e
+  pub name_refused : (key : ℤ) → refused n ≡ get_note_name r key
+  unfolding get_note_name
+  name_refused key = of_refused r _ n e
 
-module _ (r : IsomorphicLayout) (l : Layout) (e : given l ≡ layoutOutcome r) where
-  pub create-given : given r ≡ createOutcome r
-  unfolding createOutcome
-  create-given = of-given r _ l e
+module _ (r : IsomorphicLayout) (l : Layout) (e : given l ≡ layout_outcome r) where
+  pub create_given : given r ≡ create_outcome r
+  unfolding create_outcome
+  create_given = of_given r _ l e
 
-  pub genchain-given : given l.chain ≡ getGenchain r
-  unfolding getGenchain
-  genchain-given = of-given r _ l e
+  pub genchain_given : given l.chain ≡ get_genchain r
+  unfolding get_genchain
+  genchain_given = of_given r _ l e
 
-  pub pergen-given : given (record { period = l.octave; generator = l.generator }) ≡ getPergen r
-  unfolding getPergen
-  pergen-given = of-given r _ l e
+  pub pergen_given : given (record { period = l.octave; generator = l.generator }) ≡ get_pergen r
+  unfolding get_pergen
+  pergen_given = of_given r _ l e
 
-  pub mos-given : given l.pattern ≡ getMos r
-  unfolding getMos
-  mos-given = of-given r _ l e
+  pub mos_given : given l.pattern ≡ get_mos r
+  unfolding get_mos
+  mos_given = of_given r _ l e
 
   -- of a key that was brought round the octave
   module _ (key : ℤ) (i : ℕ) (round : i ≡ remainder key l.octave) where
-    same-spellings : accidentalsIn l (pos i) ≡ accidentalsIn l key
-    unfolding accidentalsIn
-    same-spellings = key-round l.octave l.generator (parts-of r l e).positive l.letters l.start key i round
+    same_spellings : accidentals_in l (pos i) ≡ accidentals_in l key
+    unfolding accidentals_in
+    same_spellings = key_round l.octave l.generator (parts_of r l e).positive l.letters l.start key i round
 
-    pub same_name : nameIn l (pos i) ≡ nameIn l key
-    unfolding nameIn
-    same_name = ap (nameText (chainOf l.chain).letters (sharpFirst l)) same-spellings
+    pub same_name : name_in l (pos i) ≡ name_in l key
+    unfolding name_in
+    same_name = ap (name_text (chain_of l.chain).letters (sharp_first l)) same_spellings
 
-    pub accidentals-given : (a : Accidentals) → a ≡ accidentalsIn l (pos i) → given a ≡ getAccidentals r key
-    unfolding getAccidentals
-    accidentals-given a q = ap given (q ∙ same-spellings) ∙ of-given r _ l e
+    pub accidentals_given : (a : Accidentals) → a ≡ accidentals_in l (pos i) → given a ≡ get_accidentals r key
+    unfolding get_accidentals
+    accidentals_given a q = ap given (q ∙ same_spellings) ∙ of_given r _ l e
 
-  pub scale-given : given (scaleName l.chain l.pattern) ≡ getScaleName r
-  unfolding getScaleName
-  scale-given = of-given r _ l e
+  pub scale_given : given (scale_name l.chain l.pattern) ≡ get_scale_name r
+  unfolding get_scale_name
+  scale_given = of_given r _ l e
 
-  pub name-given : (key : ℤ) → given (nameIn l key) ≡ getNoteName r key
-  unfolding getNoteName
-  name-given key = of-given r _ l e
+  pub name_given : (key : ℤ) → given (name_in l key) ≡ get_note_name r key
+  unfolding get_note_name
+  name_given key = of_given r _ l e
 
   module _ (key : ℤ) (i : ℕ) (round : i ≡ remainder key l.octave) where
-    pub name-held : (room : ℕ) → heldIn room (nameIn l (pos i)) ≡ inRoom room (getNoteName r key)
-    name-held room = ap (heldIn room) (same_name key i round) ∙ ap (inRoom room) (name-given key)
+    pub name_held : (room : ℕ) → held_in room (name_in l (pos i)) ≡ in_room room (get_note_name r key)
+    name_held room = ap (held_in room) (same_name key i round) ∙ ap (in_room room) (name_given key)
 
-    pub name-measured : (n : ℕ) → n ≡ length (nameIn l (pos i)) → given n ≡ counted (getNoteName r key)
-    name-measured n q = ap given (q ∙ ap length (same_name key i round)) ∙ ap counted (name-given key)
+    pub name_measured : (n : ℕ) → n ≡ length (name_in l (pos i)) → given n ≡ counted (get_note_name r key)
+    name_measured n q = ap given (q ∙ ap length (same_name key i round)) ∙ ap counted (name_given key)
 
 -- a text that is held, said otherwise
-pub filled-as : {o p : Outcome (List ℕ)} {a : Outcome ℕ} {xs ys : List ℕ} → o ≡ p → Filled o a xs ys → Filled p a xs ys
-filled-as {a = a} {xs = xs} {ys = ys} e f = subst (λ (x : Outcome (List ℕ)). Filled x a xs ys) e f
+pub filled_as : {o p : Outcome (List ℕ)} {a : Outcome ℕ} {xs ys : List ℕ} → o ≡ p → Filled o a xs ys → Filled p a xs ys
+filled_as {a = a} {xs = xs} {ys = ys} e f = subst (λ (x : Outcome (List ℕ)). Filled x a xs ys) e f
 
-pub refused-in-room : (room n : ℕ) (o : Outcome (List ℕ)) → refused n ≡ o → inRoom room o ≡ refused n
-refused-in-room room n o e = sym (ap (λ (x : Outcome (List ℕ)). and_then x (heldIn room)) e)
+pub refused_in_room : (room n : ℕ) (o : Outcome (List ℕ)) → refused n ≡ o → in_room room o ≡ refused n
+refused_in_room room n o e = sym (ap (λ (x : Outcome (List ℕ)). and_then x (held_in room)) e)

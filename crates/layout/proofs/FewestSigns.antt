@@ -12,122 +12,122 @@ use lib.IntN.{ℤ, pos}
 use lib.ListN.{length}
 use borrow.Author.Tests.{eq-eqb}
 use Rattle.math.specs.Division.{Apart}
-use Rattle.notes.specs.Names.{signsIn, letterAlone}
+use Rattle.notes.specs.Names.{signs_in, letter_alone}
 use Rattle.notes.specs.Theorems.{SameSpelling}
-use Rattle.notes.proofs.Printing.{ByCounts, alone, fewer-sharps, fewer-flats, sharp-flat, flat-sharp, by-counts, alone-by-indices}
-use Rattle.notes.proofs.OneSpelling.{same-spelling}
+use Rattle.notes.proofs.Printing.{ByCounts, alone, fewer_sharps, fewer_flats, sharp_flat, flat_sharp, by_counts, alone_by_indices}
+use Rattle.notes.proofs.OneSpelling.{same_spelling}
 use Rattle.pergen.specs.declared.Accidentals.{Accidentals}
 use Rattle.pergen.specs.declared.Signs.{Signs}
 use Rattle.pergen.specs.declared.Signs.TheVariants.{Sharps, Flats}
 use Rattle.pergen.specs.declared.Spelling.{Spelling}
-use Rattle.pergen.specs.Pergen.{keyDegree, keyCycle}
-use Rattle.pergen.specs.Spelling.{place, starsOf, sharpSpelling, flatSpelling}
-use Rattle.pergen.proofs.Keys.{sounds-at-the-degree}
-use Rattle.pergen.proofs.DegreePlaces.{stars-of-key, letter-without-signs}
-use Rattle.pergen.proofs.FewestSigns.{FewestOfEach, fewest-of-each}
-use Rattle.layout.specs.Layouts.{Layout, reducedIn, accidentalsIn, sharpFirst}
-use Rattle.layout.specs.Names.{keyOf, printedIn, cycleIn}
+use Rattle.pergen.specs.Pergen.{key_degree, key_cycle}
+use Rattle.pergen.specs.Spelling.{place, stars_of, sharp_spelling, flat_spelling}
+use Rattle.pergen.proofs.Keys.{sounds_at_the_degree}
+use Rattle.pergen.proofs.DegreePlaces.{stars_of_key, letter_without_signs}
+use Rattle.pergen.proofs.FewestSigns.{FewestOfEach, fewest_of_each}
+use Rattle.layout.specs.Layouts.{Layout, reduced_in, accidentals_in, sharp_first}
+use Rattle.layout.specs.Names.{key_of, printed_in, cycle_in}
 use Rattle.layout.specs.Theorems.{SoundsKey}
-use Rattle.layout.specs.FewestSigns.{signCount, Sounding, Simplest, Least, EquallyMany, NamesHaveFewestSigns}
+use Rattle.layout.specs.FewestSigns.{sign_count, Sounding, Simplest, Least, EquallyMany, NamesHaveFewestSigns}
 use Rattle.layout.proofs.Finding.{Parts, accepted}
-use Rattle.layout.proofs.PatternShape.{pattern-shape}
-use Rattle.layout.proofs.Naming.{sharp-sound, flat_sound, names-sound-their-key}
+use Rattle.layout.proofs.PatternShape.{pattern_shape}
+use Rattle.layout.proofs.Naming.{sharp_sound, flat_sound, names_sound_their_key}
 
 module _ (l : Layout) (a : Parts l) (key : ℤ) where
   abbrev both : Accidentals
-  both = accidentalsIn l key
+  both = accidentals_in l key
 
   abbrev sharps : ℕ
-  sharps = (accidentalsIn l key).sharp_count
+  sharps = (accidentals_in l key).sharp_count
 
   abbrev flats : ℕ
-  flats = (accidentalsIn l key).flat_count
+  flats = (accidentals_in l key).flat_count
 
-  fewest : FewestOfEach (reducedIn l) l.letters l.start (keyDegree l.octave l.generator key) both
-  unfolding accidentalsIn
+  fewest : FewestOfEach (reduced_in l) l.letters l.start (key_degree l.octave l.generator key) both
+  unfolding accidentals_in
   fewest =
-      fewest-of-each l.octave l.generator l.letters l.start key a.positive a.start-below (pattern-shape l a).enough-keys
+      fewest_of_each l.octave l.generator l.letters l.start key a.positive a.start_below (pattern_shape l a).enough_keys
 
-  one-letter : sharps ≡ 0 → flats ≡ 0 → both.sharp_index ≡ both.flat_index
-  unfolding accidentalsIn
-  one-letter =
-      letter-without-signs l.octave l.generator l.letters l.start key a.positive a.start-below
-      (pattern-shape l a).enough-keys
+  one_letter : sharps ≡ 0 → flats ≡ 0 → both.sharp_index ≡ both.flat_index
+  unfolding accidentals_in
+  one_letter =
+      letter_without_signs l.octave l.generator l.letters l.start key a.positive a.start_below
+      (pattern_shape l a).enough_keys
 
   -- a spelling that sounds the key stands at its degree, and has its stars
-  at-the-degree : (x : Spelling) → Sounding l key x
-      → (x.stars ≡ keyCycle l.octave l.generator key)
-      × Apart (reducedIn l) (place l.letters l.start x) (pos (keyDegree l.octave l.generator key))
-  unfolding keyOf
-  at-the-degree x h =
-      sounds-at-the-degree l.octave l.generator a.positive key (place l.letters l.start x) x.stars h.spelling.stars h.sounds
+  at_the_degree : (x : Spelling) → Sounding l key x
+      → (x.stars ≡ key_cycle l.octave l.generator key)
+      × Apart (reduced_in l) (place l.letters l.start x) (pos (key_degree l.octave l.generator key))
+  unfolding key_of
+  at_the_degree x h =
+      sounds_at_the_degree l.octave l.generator a.positive key (place l.letters l.start x) x.stars h.spelling.stars h.sounds
 
-  stands : (x : Spelling) → Sounding l key x → Apart (reducedIn l) (place l.letters l.start x) (pos (keyDegree l.octave l.generator key))
-  stands x h = (at-the-degree x h).1
+  stands : (x : Spelling) → Sounding l key x → Apart (reduced_in l) (place l.letters l.start x) (pos (key_degree l.octave l.generator key))
+  stands x h = (at_the_degree x h).1
 
-  stars-follow : (x : Spelling) → Sounding l key x → x.stars ≡ starsOf (cycleIn l key)
-  stars-follow x h = (at-the-degree x h).0 ∙ sym (stars-of-key l.octave l.generator key a.positive)
+  stars_follow : (x : Spelling) → Sounding l key x → x.stars ≡ stars_of (cycle_in l key)
+  stars_follow x h = (at_the_degree x h).0 ∙ sym (stars_of_key l.octave l.generator key a.positive)
 
   -- both spellings of the key sound it
   sounding : (x : Spelling) → SoundsKey l key x → Sounding l key x
   sounding x h = record { spelling = h.spelling; sounds = h.sounds }
 
-  sharp-sounding : Sounding l key (sharpSpelling both)
-  sharp-sounding = sounding _ (sharp-sound l a key)
+  sharp_sounding : Sounding l key (sharp_spelling both)
+  sharp_sounding = sounding _ (sharp_sound l a key)
 
-  flat-sounding : Sounding l key (flatSpelling both)
-  flat-sounding = sounding _ (flat_sound l a key)
+  flat_sounding : Sounding l key (flat_spelling both)
+  flat_sounding = sounding _ (flat_sound l a key)
 
   -- ---- any spelling that sounds the key
 
   abbrev spelt : ℕ → Signs → ℕ → Spelling
   spelt index signs stars = record { index = index; signs = signs; stars = stars }
 
-  sharps-least : (i k s : ℕ) → Sounding l key (spelt i (Sharps k) s) → sharps ≤ k
-  sharps-least i k s h = fewest.sharps i k s h.spelling.letter (stands _ h)
+  sharps_least : (i k s : ℕ) → Sounding l key (spelt i (Sharps k) s) → sharps ≤ k
+  sharps_least i k s h = fewest.sharps i k s h.spelling.letter (stands _ h)
 
-  flats-least : (i k s : ℕ) → Sounding l key (spelt i (Flats k) s) → flats ≤ k
-  flats-least i k s h = fewest.flats i k s h.spelling.letter (stands _ h)
+  flats_least : (i k s : ℕ) → Sounding l key (spelt i (Flats k) s) → flats ≤ k
+  flats_least i k s h = fewest.flats i k s h.spelling.letter (stands _ h)
 
-  at_least : (m : ℕ) → m ≤ sharps → m ≤ flats → (y : Spelling) → Sounding l key y → m ≤ signCount y
+  at_least : (m : ℕ) → m ≤ sharps → m ≤ flats → (y : Spelling) → Sounding l key y → m ≤ sign_count y
   at_least m p q y = by y.index y.signs y.stars
     where
-      by : (i : ℕ) (g : Signs) (s : ℕ) → Sounding l key (spelt i g s) → m ≤ signsIn g
-      by i (Sharps k) s h = omega (arith, sharps-least i k s h)
-      by i (Flats k) s h = omega (arith, flats-least i k s h)
+      by : (i : ℕ) (g : Signs) (s : ℕ) → Sounding l key (spelt i g s) → m ≤ signs_in g
+      by i (Sharps k) s h = omega (arith, sharps_least i k s h)
+      by i (Flats k) s h = omega (arith, flats_least i k s h)
 
   -- ---- the two that may be printed
 
-  sharp-count : signCount (sharpSpelling both) ≡ sharps
-  unfolding sharpSpelling
-  sharp-count = refl
+  sharp_count : sign_count (sharp_spelling both) ≡ sharps
+  unfolding sharp_spelling
+  sharp_count = refl
 
-  flat-count : signCount (flatSpelling both) ≡ flats
-  unfolding flatSpelling
-  flat-count = refl
+  flat_count : sign_count (flat_spelling both) ≡ flats
+  unfolding flat_spelling
+  flat_count = refl
 
-  sharp-simplest : sharps ≤ flats → Simplest l key (sharpSpelling both)
-  sharp-simplest h =
+  sharp_simplest : sharps ≤ flats → Simplest l key (sharp_spelling both)
+  sharp_simplest h =
       record {
-        sounding = sharp-sounding;
-        fewest = λ y s. omega (arith, sharp-count, at_least sharps (omega arith) h y s);
+        sounding = sharp_sounding;
+        fewest = λ y s. omega (arith, sharp_count, at_least sharps (omega arith) h y s);
       }
 
-  flat-simplest : flats ≤ sharps → Simplest l key (flatSpelling both)
-  flat-simplest h =
+  flat_simplest : flats ≤ sharps → Simplest l key (flat_spelling both)
+  flat_simplest h =
       record {
-        sounding = flat-sounding;
-        fewest = λ y s. omega (arith, flat-count, at_least flats h (omega arith) y s);
+        sounding = flat_sounding;
+        fewest = λ y s. omega (arith, flat_count, at_least flats h (omega arith) y s);
       }
 
   -- both only where they have signs
-  with-signs : letterAlone both ≡ false → sharps ≡ flats → 0 < sharps
-  with-signs n e = by sharps refl
+  with_signs : letter_alone both ≡ false → sharps ≡ flats → 0 < sharps
+  with_signs n e = by sharps refl
     where
       by : (k : ℕ) → sharps ≡ k → 0 < sharps
       by zero q =
           let f : flats ≡ 0 = omega arith in
-          let z : false ≡ true = sym n ∙ alone-by-indices both q f ∙ eq-eqb _ _ (one-letter q f) in
+          let z : false ≡ true = sym n ∙ alone_by_indices both q f ∙ eq-eqb _ _ (one_letter q f) in
           absurd (let y : ◌≡◌ {A = ℕ} 0 1 = cc in omega arith)
       by (suc k) q = omega arith
 
@@ -136,18 +136,18 @@ module _ (l : Layout) (a : Parts l) (key : ℤ) where
   two_in : (x s t : Spelling) → Memᴰ x (s ∷ t ∷ []) → (x ≡ s) ⊎ (x ≡ t)
   two_in x s t m = ⊎_elim (λ e. inl e) (λ n. inr (Memᴰ.eq_of_singleton n)) (Memᴰ.cases_cons m)
 
-  is-sharp : sharps ≤ flats → (x : Spelling) → x ≡ sharpSpelling both → Simplest l key x
-  is-sharp h x e = subst (Simplest l key) (sym e) (sharp-simplest h)
+  is_sharp : sharps ≤ flats → (x : Spelling) → x ≡ sharp_spelling both → Simplest l key x
+  is_sharp h x e = subst (Simplest l key) (sym e) (sharp_simplest h)
 
-  is-flat : flats ≤ sharps → (x : Spelling) → x ≡ flatSpelling both → Simplest l key x
-  is-flat h x e = subst (Simplest l key) (sym e) (flat-simplest h)
+  is_flat : flats ≤ sharps → (x : Spelling) → x ≡ flat_spelling both → Simplest l key x
+  is_flat h x e = subst (Simplest l key) (sym e) (flat_simplest h)
 
-  each-simplest : {names : List Spelling} → ByCounts both names → (x : Spelling) → Memᴰ x names → Simplest l key x
-  each-simplest (alone p q) x m = is-sharp (omega arith) x (Memᴰ.eq_of_singleton m)
-  each-simplest (fewer-sharps p) x m = is-sharp (omega arith) x (Memᴰ.eq_of_singleton m)
-  each-simplest (fewer-flats p) x m = is-flat (omega arith) x (Memᴰ.eq_of_singleton m)
-  each-simplest (sharp-flat n p) x m = ⊎_elim (is-sharp (omega arith) x) (is-flat (omega arith) x) (two_in x _ _ m)
-  each-simplest (flat-sharp n p) x m = ⊎_elim (is-flat (omega arith) x) (is-sharp (omega arith) x) (two_in x _ _ m)
+  each_simplest : {names : List Spelling} → ByCounts both names → (x : Spelling) → Memᴰ x names → Simplest l key x
+  each_simplest (alone p q) x m = is_sharp (omega arith) x (Memᴰ.eq_of_singleton m)
+  each_simplest (fewer_sharps p) x m = is_sharp (omega arith) x (Memᴰ.eq_of_singleton m)
+  each_simplest (fewer_flats p) x m = is_flat (omega arith) x (Memᴰ.eq_of_singleton m)
+  each_simplest (sharp_flat n p) x m = ⊎_elim (is_sharp (omega arith) x) (is_flat (omega arith) x) (two_in x _ _ m)
+  each_simplest (flat_sharp n p) x m = ⊎_elim (is_flat (omega arith) x) (is_sharp (omega arith) x) (two_in x _ _ m)
 
   -- ---- every simplest one is printed
 
@@ -155,65 +155,65 @@ module _ (l : Layout) (a : Parts l) (key : ℤ) where
   Among names y = (x : Spelling) × Memᴰ x names × SameSpelling x y
 
   -- with sharps: it has no more than the sharp spelling, so it is that one
-  sharps-same : (i k s : ℕ) → Sounding l key (spelt i (Sharps k) s) → k ≤ sharps → SameSpelling (sharpSpelling both) (spelt i (Sharps k) s)
-  unfolding sharpSpelling
-  sharps-same i k s h p =
-      same-spelling _ _ (sym (fewest.sharp-index i k s h.spelling.letter (stands _ h) p)) (le_antisymm (sharps-least i k s h) p) refl
-      ((sharp-sound l a key).stars ∙ sym (stars-follow _ h))
+  sharps_same : (i k s : ℕ) → Sounding l key (spelt i (Sharps k) s) → k ≤ sharps → SameSpelling (sharp_spelling both) (spelt i (Sharps k) s)
+  unfolding sharp_spelling
+  sharps_same i k s h p =
+      same_spelling _ _ (sym (fewest.sharp_index i k s h.spelling.letter (stands _ h) p)) (le_antisymm (sharps_least i k s h) p) refl
+      ((sharp_sound l a key).stars ∙ sym (stars_follow _ h))
 
-  sharps-among : {names : List Spelling} → ByCounts both names → (i k s : ℕ) → Sounding l key (spelt i (Sharps k) s)
+  sharps_among : {names : List Spelling} → ByCounts both names → (i k s : ℕ) → Sounding l key (spelt i (Sharps k) s)
       → k ≤ sharps → k ≤ flats → Among names (spelt i (Sharps k) s)
-  sharps-among (alone u w) i k s h p q = (_, Memᴰ.head refl, sharps-same i k s h p)
-  sharps-among (fewer-sharps u) i k s h p q = (_, Memᴰ.head refl, sharps-same i k s h p)
-  sharps-among (fewer-flats u) i k s h p q = absurd (let z : ⊥ = omega (arith, sharps-least i k s h) in z)
-  sharps-among (sharp-flat n u) i k s h p q = (_, Memᴰ.head refl, sharps-same i k s h p)
-  sharps-among (flat-sharp n u) i k s h p q = (_, Memᴰ.tail (Memᴰ.head refl), sharps-same i k s h p)
+  sharps_among (alone u w) i k s h p q = (_, Memᴰ.head refl, sharps_same i k s h p)
+  sharps_among (fewer_sharps u) i k s h p q = (_, Memᴰ.head refl, sharps_same i k s h p)
+  sharps_among (fewer_flats u) i k s h p q = absurd (let z : ⊥ = omega (arith, sharps_least i k s h) in z)
+  sharps_among (sharp_flat n u) i k s h p q = (_, Memᴰ.head refl, sharps_same i k s h p)
+  sharps_among (flat_sharp n u) i k s h p q = (_, Memᴰ.tail (Memᴰ.head refl), sharps_same i k s h p)
 
   -- with flats: likewise, and without signs it is the letter alone
-  flats-same : (i k s : ℕ) → Sounding l key (spelt i (Flats k) s) → k ≤ flats → SameSpelling (flatSpelling both) (spelt i (Flats k) s)
-  unfolding flatSpelling
-  flats-same i k s h p =
-      same-spelling _ _ (sym (fewest.flat-index i k s h.spelling.letter (stands _ h) p)) refl (le_antisymm (flats-least i k s h) p)
-      ((flat_sound l a key).stars ∙ sym (stars-follow _ h))
+  flats_same : (i k s : ℕ) → Sounding l key (spelt i (Flats k) s) → k ≤ flats → SameSpelling (flat_spelling both) (spelt i (Flats k) s)
+  unfolding flat_spelling
+  flats_same i k s h p =
+      same_spelling _ _ (sym (fewest.flat_index i k s h.spelling.letter (stands _ h) p)) refl (le_antisymm (flats_least i k s h) p)
+      ((flat_sound l a key).stars ∙ sym (stars_follow _ h))
 
-  bare-same : sharps ≡ 0 → flats ≡ 0 → (i k s : ℕ) → Sounding l key (spelt i (Flats k) s) → k ≤ flats
-      → SameSpelling (sharpSpelling both) (spelt i (Flats k) s)
-  unfolding sharpSpelling
-  bare-same u w i k s h p =
-      same-spelling _ _ (one-letter u w ∙ sym (fewest.flat-index i k s h.spelling.letter (stands _ h) p)) u (omega arith)
-      ((sharp-sound l a key).stars ∙ sym (stars-follow _ h))
+  bare_same : sharps ≡ 0 → flats ≡ 0 → (i k s : ℕ) → Sounding l key (spelt i (Flats k) s) → k ≤ flats
+      → SameSpelling (sharp_spelling both) (spelt i (Flats k) s)
+  unfolding sharp_spelling
+  bare_same u w i k s h p =
+      same_spelling _ _ (one_letter u w ∙ sym (fewest.flat_index i k s h.spelling.letter (stands _ h) p)) u (omega arith)
+      ((sharp_sound l a key).stars ∙ sym (stars_follow _ h))
 
-  flats-among : {names : List Spelling} → ByCounts both names → (i k s : ℕ) → Sounding l key (spelt i (Flats k) s)
+  flats_among : {names : List Spelling} → ByCounts both names → (i k s : ℕ) → Sounding l key (spelt i (Flats k) s)
       → k ≤ sharps → k ≤ flats → Among names (spelt i (Flats k) s)
-  flats-among (alone u w) i k s h p q = (_, Memᴰ.head refl, bare-same u w i k s h q)
-  flats-among (fewer-sharps u) i k s h p q = absurd (let z : ⊥ = omega (arith, flats-least i k s h) in z)
-  flats-among (fewer-flats u) i k s h p q = (_, Memᴰ.head refl, flats-same i k s h q)
-  flats-among (sharp-flat n u) i k s h p q = (_, Memᴰ.tail (Memᴰ.head refl), flats-same i k s h q)
-  flats-among (flat-sharp n u) i k s h p q = (_, Memᴰ.head refl, flats-same i k s h q)
+  flats_among (alone u w) i k s h p q = (_, Memᴰ.head refl, bare_same u w i k s h q)
+  flats_among (fewer_sharps u) i k s h p q = absurd (let z : ⊥ = omega (arith, flats_least i k s h) in z)
+  flats_among (fewer_flats u) i k s h p q = (_, Memᴰ.head refl, flats_same i k s h q)
+  flats_among (sharp_flat n u) i k s h p q = (_, Memᴰ.tail (Memᴰ.head refl), flats_same i k s h q)
+  flats_among (flat_sharp n u) i k s h p q = (_, Memᴰ.head refl, flats_same i k s h q)
 
-  every-among : {names : List Spelling} → ByCounts both names → (y : Spelling) → Simplest l key y → Among names y
-  every-among {names} v y h =
+  every_among : {names : List Spelling} → ByCounts both names → (y : Spelling) → Simplest l key y → Among names y
+  every_among {names} v y h =
       by y.index y.signs y.stars h.sounding
-      (omega (arith, h.fewest _ sharp-sounding, sharp-count)) (omega (arith, h.fewest _ flat-sounding, flat-count))
+      (omega (arith, h.fewest _ sharp_sounding, sharp_count)) (omega (arith, h.fewest _ flat_sounding, flat_count))
     where
-      by : (i : ℕ) (g : Signs) (s : ℕ) → Sounding l key (spelt i g s) → signsIn g ≤ sharps → signsIn g ≤ flats → Among names (spelt i g s)
-      by i (Sharps k) s = sharps-among v i k s
-      by i (Flats k) s = flats-among v i k s
+      by : (i : ℕ) (g : Signs) (s : ℕ) → Sounding l key (spelt i g s) → signs_in g ≤ sharps → signs_in g ≤ flats → Among names (spelt i g s)
+      by i (Sharps k) s = sharps_among v i k s
+      by i (Flats k) s = flats_among v i k s
 
   -- ---- a bare letter
 
-  letter : {names : List Spelling} → ByCounts both names → (y : Spelling) → Sounding l key y → signCount y ≡ 0
-      → (x : Spelling) × (names ≡ x ∷ []) × (signCount x ≡ 0)
-  letter (alone p q) y h e = (_, refl, sharp-count ∙ p)
-  letter (fewer-sharps p) y h e = (_, refl, (let t : signCount (sharpSpelling both) ≡ 0 = omega (arith, (sharp-simplest (omega arith)).fewest y h) in t))
-  letter (fewer-flats p) y h e = (_, refl, (let t : signCount (flatSpelling both) ≡ 0 = omega (arith, (flat-simplest (omega arith)).fewest y h) in t))
-  letter (sharp-flat n p) y h e = absurd (let z : ⊥ = omega (arith, with-signs n p, at_least sharps (omega arith) (omega arith) y h) in z)
-  letter (flat-sharp n p) y h e = absurd (let z : ⊥ = omega (arith, with-signs n p, at_least sharps (omega arith) (omega arith) y h) in z)
+  letter : {names : List Spelling} → ByCounts both names → (y : Spelling) → Sounding l key y → sign_count y ≡ 0
+      → (x : Spelling) × (names ≡ x ∷ []) × (sign_count x ≡ 0)
+  letter (alone p q) y h e = (_, refl, sharp_count ∙ p)
+  letter (fewer_sharps p) y h e = (_, refl, (let t : sign_count (sharp_spelling both) ≡ 0 = omega (arith, (sharp_simplest (omega arith)).fewest y h) in t))
+  letter (fewer_flats p) y h e = (_, refl, (let t : sign_count (flat_spelling both) ≡ 0 = omega (arith, (flat_simplest (omega arith)).fewest y h) in t))
+  letter (sharp_flat n p) y h e = absurd (let z : ⊥ = omega (arith, with_signs n p, at_least sharps (omega arith) (omega arith) y h) in z)
+  letter (flat_sharp n p) y h e = absurd (let z : ⊥ = omega (arith, with_signs n p, at_least sharps (omega arith) (omega arith) y h) in z)
 
-  bare-letter : {names : List Spelling} → ByCounts both names
-      → ((x : Spelling) × (names ≡ x ∷ []) × (signCount x ≡ 0)) ↔ ((y : Spelling) × Sounding l key y × (signCount y ≡ 0))
-  bare-letter {names} v = (
-    λ t. (t.0, (each-simplest v t.0 (subst (Memᴰ t.0) (sym t.1) (Memᴰ.head refl))).sounding, t.2),
+  bare_letter : {names : List Spelling} → ByCounts both names
+      → ((x : Spelling) × (names ≡ x ∷ []) × (sign_count x ≡ 0)) ↔ ((y : Spelling) × Sounding l key y × (sign_count y ≡ 0))
+  bare_letter {names} v = (
+    λ t. (t.0, (each_simplest v t.0 (subst (Memᴰ t.0) (sym t.1) (Memᴰ.head refl))).sounding, t.2),
     λ t. letter v t.0 t.1 t.2,
   )
 
@@ -222,67 +222,67 @@ module _ (l : Layout) (a : Parts l) (key : ℤ) where
   -- of one kind of sign, a spelling with the fewest has the least number, and there is one least number
   module _ (kind : ℕ → Signs) (x : Spelling) (n : ℕ) (h : Sounding l key x) (is : x.signs ≡ kind n)
       (few : (i k s : ℕ) → Sounding l key (spelt i (kind k) s) → n ≤ k) where
-    few-of : (y : Spelling) (k : ℕ) → Sounding l key y → y.signs ≡ kind k → n ≤ k
-    few-of y k s q = few y.index k y.stars (subst (λ (z : Signs). Sounding l key (spelt y.index z y.stars)) q s)
+    few_of : (y : Spelling) (k : ℕ) → Sounding l key y → y.signs ≡ kind k → n ≤ k
+    few_of y k s q = few y.index k y.stars (subst (λ (z : Signs). Sounding l key (spelt y.index z y.stars)) q s)
 
-    least-of : (k : ℕ) → k ≡ n → Least l key kind k
-    least-of k e = record { some = (x, h, is ∙ ap kind (sym e)); least = λ y m s q. omega (arith, few-of y m s q) }
+    least_of : (k : ℕ) → k ≡ n → Least l key kind k
+    least_of k e = record { some = (x, h, is ∙ ap kind (sym e)); least = λ y m s q. omega (arith, few_of y m s q) }
 
-    least-is : (k : ℕ) → Least l key kind k → k ≡ n
-    least-is k t = le_antisymm (t.least x n h is) (few-of t.some.0 k t.some.1 t.some.2)
+    least_is : (k : ℕ) → Least l key kind k → k ≡ n
+    least_is k t = le_antisymm (t.least x n h is) (few_of t.some.0 k t.some.1 t.some.2)
 
   -- the sharp spelling has the least number of sharps, the flat one of flats
-  least-sharps : (k : ℕ) → k ≡ sharps → Least l key Sharps k
-  unfolding sharpSpelling
-  least-sharps = least-of Sharps (sharpSpelling both) sharps sharp-sounding refl sharps-least
+  least_sharps : (k : ℕ) → k ≡ sharps → Least l key Sharps k
+  unfolding sharp_spelling
+  least_sharps = least_of Sharps (sharp_spelling both) sharps sharp_sounding refl sharps_least
 
-  least-flats : (k : ℕ) → k ≡ flats → Least l key Flats k
-  unfolding flatSpelling
-  least-flats = least-of Flats (flatSpelling both) flats flat-sounding refl flats-least
+  least_flats : (k : ℕ) → k ≡ flats → Least l key Flats k
+  unfolding flat_spelling
+  least_flats = least_of Flats (flat_spelling both) flats flat_sounding refl flats_least
 
-  sharps-are : (k : ℕ) → Least l key Sharps k → k ≡ sharps
-  unfolding sharpSpelling
-  sharps-are = least-is Sharps (sharpSpelling both) sharps sharp-sounding refl sharps-least
+  sharps_are : (k : ℕ) → Least l key Sharps k → k ≡ sharps
+  unfolding sharp_spelling
+  sharps_are = least_is Sharps (sharp_spelling both) sharps sharp_sounding refl sharps_least
 
-  flats-are : (k : ℕ) → Least l key Flats k → k ≡ flats
-  unfolding flatSpelling
-  flats-are = least-is Flats (flatSpelling both) flats flat-sounding refl flats-least
+  flats_are : (k : ℕ) → Least l key Flats k → k ≡ flats
+  unfolding flat_spelling
+  flats_are = least_is Flats (flat_spelling both) flats flat_sounding refl flats_least
 
-  equally-many : sharps ≡ flats → 0 < sharps → EquallyMany l key
-  equally-many p q = (sharps, omega arith, least-sharps sharps refl, least-flats sharps p)
+  equally_many : sharps ≡ flats → 0 < sharps → EquallyMany l key
+  equally_many p q = (sharps, omega arith, least_sharps sharps refl, least_flats sharps p)
 
-  two-names : {names : List Spelling} → ByCounts both names → length names ≡ 2 → EquallyMany l key
-  two-names (alone p q) e = absurd (let z : ◌≡◌ {A = ℕ} 1 2 = e in let t : ⊥ = omega arith in t)
-  two-names (fewer-sharps p) e = absurd (let z : ◌≡◌ {A = ℕ} 1 2 = e in let t : ⊥ = omega arith in t)
-  two-names (fewer-flats p) e = absurd (let z : ◌≡◌ {A = ℕ} 1 2 = e in let t : ⊥ = omega arith in t)
-  two-names (sharp-flat n p) e = equally-many p (with-signs n p)
-  two-names (flat-sharp n p) e = equally-many p (with-signs n p)
+  two_names : {names : List Spelling} → ByCounts both names → length names ≡ 2 → EquallyMany l key
+  two_names (alone p q) e = absurd (let z : ◌≡◌ {A = ℕ} 1 2 = e in let t : ⊥ = omega arith in t)
+  two_names (fewer_sharps p) e = absurd (let z : ◌≡◌ {A = ℕ} 1 2 = e in let t : ⊥ = omega arith in t)
+  two_names (fewer_flats p) e = absurd (let z : ◌≡◌ {A = ℕ} 1 2 = e in let t : ⊥ = omega arith in t)
+  two_names (sharp_flat n p) e = equally_many p (with_signs n p)
+  two_names (flat_sharp n p) e = equally_many p (with_signs n p)
 
-  names-two : {names : List Spelling} → ByCounts both names → sharps ≡ flats → 0 < sharps → length names ≡ 2
-  names-two (alone p q) e h = absurd (let z : ⊥ = omega arith in z)
-  names-two (fewer-sharps p) e h = absurd (let z : ⊥ = omega arith in z)
-  names-two (fewer-flats p) e h = absurd (let z : ⊥ = omega arith in z)
-  names-two (sharp-flat n p) e h = refl
-  names-two (flat-sharp n p) e h = refl
+  names_two : {names : List Spelling} → ByCounts both names → sharps ≡ flats → 0 < sharps → length names ≡ 2
+  names_two (alone p q) e h = absurd (let z : ⊥ = omega arith in z)
+  names_two (fewer_sharps p) e h = absurd (let z : ⊥ = omega arith in z)
+  names_two (fewer_flats p) e h = absurd (let z : ⊥ = omega arith in z)
+  names_two (sharp_flat n p) e h = refl
+  names_two (flat_sharp n p) e h = refl
 
-  two-printed : {names : List Spelling} → ByCounts both names → (length names ≡ 2) ↔ EquallyMany l key
-  two-printed v = (
-    two-names v,
-    λ t. let s = sharps-are t.0 t.2 in
-        let f = flats-are t.0 t.3 in
-        names-two v (sym s ∙ f) (omega (arith, t.1)),
+  two_printed : {names : List Spelling} → ByCounts both names → (length names ≡ 2) ↔ EquallyMany l key
+  two_printed v = (
+    two_names v,
+    λ t. let s = sharps_are t.0 t.2 in
+        let f = flats_are t.0 t.3 in
+        names_two v (sym s ∙ f) (omega (arith, t.1)),
   )
 
-pub names-have-fewest-signs : NamesHaveFewestSigns
-unfolding printedIn
-names-have-fewest-signs r l e key =
+pub names_have_fewest_signs : NamesHaveFewestSigns
+unfolding printed_in
+names_have_fewest_signs r l e key =
     let a = accepted r l e in
-    let v = by-counts (sharpFirst l) (accidentalsIn l key) in
+    let v = by_counts (sharp_first l) (accidentals_in l key) in
     record {
-      name = names-sound-their-key r l e key;
-      each = each-simplest l a key v;
-      every = every-among l a key v;
-      bare = bare-letter l a key v;
-      two = two-printed l a key v;
-      stars = stars-follow l a key;
+      name = names_sound_their_key r l e key;
+      each = each_simplest l a key v;
+      every = every_among l a key v;
+      bare = bare_letter l a key v;
+      two = two_printed l a key v;
+      stars = stars_follow l a key;
     }

@@ -9,44 +9,44 @@ use lib.IntN.{pos}
 use lib.ListN.{replicate}
 use borrow.Author.Tests.{eq-eqb}
 use Rattle.answer.specs.Outcome.{given}
-use Rattle.genchain.specs.Chains.{chainOf}
-use Rattle.notes.specs.Names.{letterText, letterAt, spellingText, letterAlone, printedText, nameText}
-use Rattle.notes.proofs.Printing.{printed-alone}
+use Rattle.genchain.specs.Chains.{chain_of}
+use Rattle.notes.specs.Names.{letter_text, letter_at, spelling_text, letter_alone, printed_text, name_text}
+use Rattle.notes.proofs.Printing.{printed_alone}
 use Rattle.pergen.specs.declared.Cycle.{Cycle}
 use Rattle.pergen.specs.declared.Accidentals.{Accidentals}
-use Rattle.pergen.specs.Pergen.{cycles, reduced, inverse, degree, cycle, keyDegree, keyCycle}
-use Rattle.pergen.specs.Spelling.{sharpCoordinate, flatCoordinate, byCoordinates, accidentalsOf, keyAccidentals, starsOf, sharpSpelling}
-use Rattle.pergen.proofs.CarriedWalk.{degree-start}
+use Rattle.pergen.specs.Pergen.{cycles, reduced, inverse, degree, cycle, key_degree, key_cycle}
+use Rattle.pergen.specs.Spelling.{sharp_coordinate, flat_coordinate, by_coordinates, accidentals_of, key_accidentals, stars_of, sharp_spelling}
+use Rattle.pergen.proofs.CarriedWalk.{degree_start}
 use Rattle.pergen.proofs.DegreePlaces.{stars_are}
-use Rattle.pergen.proofs.Indices.{sharp-first, flat-inside, accidentals-high}
-use Rattle.pergen.proofs.Keys.{keys-from-zero-on}
-use Rattle.layout.specs.Layouts.{Layout, reducedIn, accidentalsIn, sharpFirst}
-use Rattle.layout.specs.Names.{nameIn, cycleIn}
+use Rattle.pergen.proofs.Indices.{sharp_first_lem, flat_inside, accidentals_high}
+use Rattle.pergen.proofs.Keys.{keys_from_zero_on}
+use Rattle.layout.specs.Layouts.{Layout, reduced_in, accidentals_in, sharp_first}
+use Rattle.layout.specs.Names.{name_in, cycle_in}
 use Rattle.layout.specs.Theorems.{KeyZeroIsTheStart}
 use Rattle.layout.proofs.Finding.{accepted}
-use Rattle.layout.proofs.PatternShape.{pattern-shape}
-use Rattle.layout.proofs.Calls.{name-given}
+use Rattle.layout.proofs.PatternShape.{pattern_shape}
+use Rattle.layout.proofs.Calls.{name_given}
 
 -- a letter without signs, from both sides
 abbrev bare : Cycle → ℕ → Accidentals
 bare c s = record { cycle = c; sharp_index = s; sharp_count = 0; flat_index = s; flat_count = 0 }
 
-bare-name : (letters : List ℕ) (sf : Bool) (c : Cycle) (s : ℕ) → starsOf c ≡ 0 → nameText letters sf (bare c s) ≡ letterText (letterAt letters s)
-unfolding nameText spellingText sharpSpelling letterAlone
-bare-name letters sf c s e =
-    ap (printedText letters sf c) (printed-alone sf (bare c s) (eq-eqb s s refl))
-    ∙ ap (λ (n : ℕ). spellingText letters sf (sharpSpelling (bare c s)) ++ replicate n 42) e
+bare_name : (letters : List ℕ) (sf : Bool) (c : Cycle) (s : ℕ) → stars_of c ≡ 0 → name_text letters sf (bare c s) ≡ letter_text (letter_at letters s)
+unfolding name_text spelling_text sharp_spelling letter_alone
+bare_name letters sf c s e =
+    ap (printed_text letters sf c) (printed_alone sf (bare c s) (eq-eqb s s refl))
+    ∙ ap (λ (n : ℕ). spelling_text letters sf (sharp_spelling (bare c s)) ++ replicate n 42) e
     ∙ append-nil _
     ∙ append-nil _
 
 -- degree 0 of an origin below N, where R is at least N
-bare-degree : (R N o : ℕ) (c : Cycle) → o < N → N ≤ R → accidentalsOf R N o 0 c ≡ bare c o
-unfolding byCoordinates
-bare-degree R N o c ho h =
+bare_degree : (R N o : ℕ) (c : Cycle) → o < N → N ≤ R → accidentals_of R N o 0 c ≡ bare c o
+unfolding by_coordinates
+bare_degree R N o c ho h =
     sym
-    (accidentals-high R N o 0 c h o (N - 1 - o)
-    (sharp-first R o (omega arith) ∙ ap (sharpCoordinate R) (sym (add-zero o)))
-    (flat-inside R N o (omega arith) h (omega arith) ∙ ap (flatCoordinate R N) (sym (add-zero o))))
+    (accidentals_high R N o 0 c h o (N - 1 - o)
+    (sharp_first_lem R o (omega arith) ∙ ap (sharp_coordinate R) (sym (add-zero o)))
+    (flat_inside R N o (omega arith) h (omega arith) ∙ ap (flat_coordinate R N) (sym (add-zero o))))
     ∙ ap₂ (λ (i k : ℕ). record { cycle = c; sharp_index = i; sharp_count = k; flat_index = N - 1 - (N - 1 - o) % N; flat_count = (N - 1 - o) / N })
     (mod-eq_of_lt ho) (div-eq_of_lt ho)
     ∙ ap₂ (λ (i k : ℕ). record { cycle = c; sharp_index = o; sharp_count = 0; flat_index = N - 1 - i; flat_count = k })
@@ -55,31 +55,31 @@ bare-degree R N o c ho h =
     (let q : N - 1 - (N - 1 - o) ≡ o = omega arith in q)
 
 module _ (P G : ℕ) (hP : 0 < P) where
-  zero-degree : keyDegree P G (pos 0) ≡ 0
+  zero_degree : key_degree P G (pos 0) ≡ 0
   unfolding degree
-  zero-degree =
-      (keys-from-zero-on P G hP 0).degree-stays
+  zero_degree =
+      (keys_from_zero_on P G hP 0).degree_stays
       ∙ ap (λ (k : ℕ). inverse P G * k % reduced P G) (zero-div (cycles P G))
-      ∙ sym (degree-start (inverse P G) (reduced P G))
+      ∙ sym (degree_start (inverse P G) (reduced P G))
 
-  zero-cycle : keyCycle P G (pos 0) ≡ 0
+  zero_cycle : key_cycle P G (pos 0) ≡ 0
   unfolding cycle
-  zero-cycle = (keys-from-zero-on P G hP 0).cycle-stays ∙ zero-mod (cycles P G)
+  zero_cycle = (keys_from_zero_on P G hP 0).cycle_stays ∙ zero-mod (cycles P G)
 
-pub key-zero-is-the-start : KeyZeroIsTheStart
-unfolding nameIn accidentalsIn keyAccidentals
-key-zero-is-the-start r l e =
+pub key_zero_is_the_start : KeyZeroIsTheStart
+unfolding name_in accidentals_in key_accidentals
+key_zero_is_the_start r l e =
     let a = accepted r l e in
     let P = l.octave in
     let G = l.generator in
-    let letters = (chainOf l.chain).letters in
-    let spelled : accidentalsIn l (pos 0) ≡ bare (cycleIn l (pos 0)) l.start
-    = ap (λ (d : ℕ). accidentalsOf (reducedIn l) l.letters l.start d (cycleIn l (pos 0))) (zero-degree P G a.positive)
-    ∙ bare-degree (reducedIn l) l.letters l.start (cycleIn l (pos 0)) a.start-below (pattern-shape l a).enough-keys in
-    let none : starsOf (cycleIn l (pos 0)) ≡ 0
-    = ap (λ (x : Accidentals). starsOf x.cycle) (sym spelled)
-    ∙ stars_are P G l.letters l.start (pos 0) a.positive a.start-below
-    ∙ zero-cycle P G a.positive in
-    sym (name-given r l (sym e) (pos 0))
-    ∙ ap (λ (x : Accidentals). given (nameText letters (sharpFirst l) x)) spelled
-    ∙ ap given (bare-name letters (sharpFirst l) (cycleIn l (pos 0)) l.start none)
+    let letters = (chain_of l.chain).letters in
+    let spelled : accidentals_in l (pos 0) ≡ bare (cycle_in l (pos 0)) l.start
+    = ap (λ (d : ℕ). accidentals_of (reduced_in l) l.letters l.start d (cycle_in l (pos 0))) (zero_degree P G a.positive)
+    ∙ bare_degree (reduced_in l) l.letters l.start (cycle_in l (pos 0)) a.start_below (pattern_shape l a).enough_keys in
+    let none : stars_of (cycle_in l (pos 0)) ≡ 0
+    = ap (λ (x : Accidentals). stars_of x.cycle) (sym spelled)
+    ∙ stars_are P G l.letters l.start (pos 0) a.positive a.start_below
+    ∙ zero_cycle P G a.positive in
+    sym (name_given r l (sym e) (pos 0))
+    ∙ ap (λ (x : Accidentals). given (name_text letters (sharp_first l) x)) spelled
+    ∙ ap given (bare_name letters (sharp_first l) (cycle_in l (pos 0)) l.start none)

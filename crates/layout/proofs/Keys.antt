@@ -11,24 +11,24 @@ use lib.ListN.{get_elem?}
 use lib.Dec.{eqb}
 use borrow.Author.Tests.{eqb-true}
 use Rattle.math.specs.Gcd.{gcd}
-use Rattle.math.proofs.Gcd.{gcd-is}
+use Rattle.math.proofs.Gcd.{gcd_is}
 use Rattle.mos.specs.declared.Mos.{Mos}
 use Rattle.mos.specs.Patterns.{primaries, secondaries, primary, secondary, count_of, size_of, genesis}
-use Rattle.mos.specs.Walks.{children, firstWith}
-use Rattle.mos.proofs.Descent.{child-at, child-counts, child-steps, child-keeps-size}
-use Rattle.mos.proofs.Theorems.{walk-keeps, child-keeps, letters-fit, genesis-size}
+use Rattle.mos.specs.Walks.{children, first_with}
+use Rattle.mos.proofs.Descent.{child_at, child_counts, child_steps, child_keeps_size}
+use Rattle.mos.proofs.Theorems.{walk_keeps, child_keeps, letters_fit, genesis_size}
 use Rattle.pergen.specs.Pergen.{cycles, reduced}
-use Rattle.pergen.proofs.Inverse.{cycles-positive}
-use Rattle.layout.specs.Layouts.{Layout, reducedIn}
+use Rattle.pergen.proofs.Inverse.{cycles_positive}
+use Rattle.layout.specs.Layouts.{Layout, reduced_in}
 use Rattle.layout.proofs.Finding.{Parts}
 
 -- the first pattern with n steps stands somewhere on the walk and has n steps
-pub first-at : (n : ℕ) (ms : List Mos) (m : Mos) → firstWith n ms ≡ some m → (k : ℕ) × (get_elem? ms k ≡ some m) × (count_of m ≡ n)
-first-at n [] m e = absurd (let z : ◌≡◌ {A = ℕ} 0 1 = cc in omega arith)
-first-at n (x ∷ ms) m e = by (eqb (count_of x) n) refl e (first-at n ms m)
+pub first_at : (n : ℕ) (ms : List Mos) (m : Mos) → first_with n ms ≡ some m → (k : ℕ) × (get_elem? ms k ≡ some m) × (count_of m ≡ n)
+first_at n [] m e = absurd (let z : ◌≡◌ {A = ℕ} 0 1 = cc in omega arith)
+first_at n (x ∷ ms) m e = by (eqb (count_of x) n) refl e (first_at n ms m)
   where
-    by : (b : Bool) → eqb (count_of x) n ≡ b → elim b [ true ↦ some x | false ↦ firstWith n ms ] ≡ some m
-        → (firstWith n ms ≡ some m → (k : ℕ) × (get_elem? ms k ≡ some m) × (count_of m ≡ n))
+    by : (b : Bool) → eqb (count_of x) n ≡ b → elim b [ true ↦ some x | false ↦ first_with n ms ] ≡ some m
+        → (first_with n ms ≡ some m → (k : ℕ) × (get_elem? ms k ≡ some m) × (count_of m ≡ n))
         → (k : ℕ) × (get_elem? (x ∷ ms) k ≡ some m) × (count_of m ≡ n)
     by true t q ih = (
       zero,
@@ -38,33 +38,33 @@ first-at n (x ∷ ms) m e = by (eqb (count_of x) n) refl e (first-at n ms m)
     by false t q ih = let r = ih q in (suc r.0, r.1, r.2)
 
 -- a pattern of the walk with more than two steps is a child, so both its steps are above 0
-pub steps-above : (P G k : ℕ) (m : Mos) → get_elem? (children (genesis P G)) k ≡ some m → 2 < count_of m → (0 < primary m) × (0 < secondary m)
-steps-above P G k m e h =
+pub steps_above : (P G k : ℕ) (m : Mos) → get_elem? (children (genesis P G)) k ≡ some m → 2 < count_of m → (0 < primary m) × (0 < secondary m)
+steps_above P G k m e h =
     ⊎_elim (λ (s : count_of m ≤ 2). absurd (let z : ⊥ = omega arith in z)) (λ (s : (0 < primary m) × (0 < secondary m)). s)
-    (walk-keeps (λ x. (count_of x ≤ 2) ⊎ ((0 < primary x) × (0 < secondary x))) (λ x c f h. inr (child-steps (child-at f))) k (genesis P G) m e
+    (walk_keeps (λ x. (count_of x ≤ 2) ⊎ ((0 < primary x) × (0 < secondary x))) (λ x c f h. inr (child_steps (child_at f))) k (genesis P G) m e
     (inl (le_refl 2)))
 
 -- counts never fall, so both are above 0
-pub counts-above : (P G k : ℕ) (m : Mos) → get_elem? (children (genesis P G)) k ≡ some m → (0 < primaries m) × (0 < secondaries m)
-counts-above P G k m e =
-    walk-keeps (λ x. (0 < primaries x) × (0 < secondaries x))
-    (λ x c f h. (omega (arith, h.0, child-counts (child-at f)), omega (arith, h.1, child-counts (child-at f))))
+pub counts_above : (P G k : ℕ) (m : Mos) → get_elem? (children (genesis P G)) k ≡ some m → (0 < primaries m) × (0 < secondaries m)
+counts_above P G k m e =
+    walk_keeps (λ x. (0 < primaries x) × (0 < secondaries x))
+    (λ x c f h. (omega (arith, h.0, child_counts (child_at f)), omega (arith, h.1, child_counts (child_at f))))
     k (genesis P G) m e (omega arith, omega arith)
 
-pub walk-size : (P G k : ℕ) (m : Mos) → 0 < P → get_elem? (children (genesis P G)) k ≡ some m → size_of m ≡ P
-walk-size P G k m h e =
-    walk-keeps (λ x. size_of x ≡ P) (λ x c f s. child-keeps-size (child-at f) ∙ s) k (genesis P G) m e (genesis-size P G h)
+pub walk_size : (P G k : ℕ) (m : Mos) → 0 < P → get_elem? (children (genesis P G)) k ≡ some m → size_of m ≡ P
+walk_size P G k m h e =
+    walk_keeps (λ x. size_of x ≡ P) (λ x c f s. child_keeps_size (child_at f) ∙ s) k (genesis P G) m e (genesis_size P G h)
 
-pub walk-divisor : (P G k : ℕ) (m : Mos) → get_elem? (children (genesis P G)) k ≡ some m → gcd (primary m) (secondary m) ≡ gcd (G % P) (P - G % P)
-walk-divisor P G k m e =
-    walk-keeps (λ x. gcd (primary x) (secondary x) ≡ gcd (G % P) (P - G % P)) (λ x c f s. child-keeps.divisor x c f ∙ s) k (genesis P G) m e refl
+pub walk_divisor : (P G k : ℕ) (m : Mos) → get_elem? (children (genesis P G)) k ≡ some m → gcd (primary m) (secondary m) ≡ gcd (G % P) (P - G % P)
+walk_divisor P G k m e =
+    walk_keeps (λ x. gcd (primary x) (secondary x) ≡ gcd (G % P) (P - G % P)) (λ x c f s. child_keeps.divisor x c f ∙ s) k (genesis P G) m e refl
 
 -- the genesis' steps have the greatest common divisor of period and generator
-pub genesis-divisor : (P G : ℕ) → 0 < P → gcd (G % P) (P - G % P) ≡ gcd P G
-genesis-divisor P G h =
+pub genesis_divisor : (P G : ℕ) → 0 < P → gcd (G % P) (P - G % P) ≡ gcd P G
+genesis_divisor P G h =
     let below = mod-lt G h in
-    let x = gcd-is (G % P) (P - G % P) in
-    let y = gcd-is P G in
+    let x = gcd_is (G % P) (P - G % P) in
+    let y = gcd_is P G in
     let rest : gcd P G ∣ G % P = (dvd-mod_iff _ y.left).1 y.right in
     let whole : gcd (G % P) (P - G % P) ∣ P
     = subst (λ (z : ℕ). gcd (G % P) (P - G % P) ∣ z) (let q : G % P + (P - G % P) ≡ P = omega arith in q) (dvd-add _ x.left x.right) in
@@ -72,19 +72,19 @@ genesis-divisor P G h =
     (y.greatest _ whole ((dvd-mod_iff _ whole).0 x.left))
     (x.greatest _ rest (dvd-sub _ y.left rest))
 
-pub enough : (l : Layout) → Parts l → 2 < l.letters → l.letters ≤ reducedIn l
+pub enough : (l : Layout) → Parts l → 2 < l.letters → l.letters ≤ reduced_in l
 unfolding reduced cycles
 enough l a h =
     let P = l.octave in
     let G = l.generator in
     let m = l.pattern in
-    let at = first-at l.letters (children (genesis P G)) m a.pattern in
+    let at = first_at l.letters (children (genesis P G)) m a.pattern in
     let more : 2 < count_of m = subst (λ (n : ℕ). 2 < n) (sym at.2) h in
-    let above = steps-above P G at.0 m at.1 more in
-    let fits : count_of m * gcd (primary m) (secondary m) ≤ size_of m = letters-fit.size m above.0 above.1 in
-    let divisor : gcd (primary m) (secondary m) ≡ gcd P G = walk-divisor P G at.0 m at.1 ∙ genesis-divisor P G a.positive in
+    let above = steps_above P G at.0 m at.1 more in
+    let fits : count_of m * gcd (primary m) (secondary m) ≤ size_of m = letters_fit.size m above.0 above.1 in
+    let divisor : gcd (primary m) (secondary m) ≡ gcd P G = walk_divisor P G at.0 m at.1 ∙ genesis_divisor P G a.positive in
     let all : l.letters * gcd P G ≤ P
     = subst (λ (n : ℕ). n * gcd P G ≤ P) at.2
     (subst (λ (d : ℕ). count_of m * d ≤ P) divisor
-    (subst (λ (s : ℕ). count_of m * gcd (primary m) (secondary m) ≤ s) (walk-size P G at.0 m a.positive at.1) fits)) in
-    (le-div_iff_mul-le (cycles-positive P G a.positive)).1 all
+    (subst (λ (s : ℕ). count_of m * gcd (primary m) (secondary m) ≤ s) (walk_size P G at.0 m a.positive at.1) fits)) in
+    (le-div_iff_mul-le (cycles_positive P G a.positive)).1 all

@@ -7,59 +7,59 @@ use Rattle.pergen.specs.declared.PerGen.{PerGen}
 use Rattle.pergen.specs.declared.Accidentals.{Accidentals}
 use Rattle.pergen.specs.declared.Spelling.{Spelling}
 use Rattle.pergen.specs.Pergen.{cycles}
-use Rattle.layout.specs.Layouts.{Layout, layoutOutcome, cyclesIn, accidentalsIn}
-use Rattle.layout.specs.ScaleNames.{scaleName}
-use Rattle.layout.specs.Names.{keyOf, nameIn}
+use Rattle.layout.specs.Layouts.{Layout, layout_outcome, cycles_in, accidentals_in}
+use Rattle.layout.specs.ScaleNames.{scale_name}
+use Rattle.layout.specs.Names.{key_of, name_in}
 use Rattle.layout.specs.declared.IsomorphicLayout.{IsomorphicLayout}
 use Rattle.layout.specs.declared.LayoutAnswer.{LayoutAnswer}
 use Rattle.layout.specs.declared.LayoutAnswer.TheVariants as LayoutAnswer
 
 -- Questions 1 to 4 and 18 of a caller's record, then what is asked of the layout.
-abbrev pub ofLayout : {A : Type 0} → IsomorphicLayout → (Layout → Outcome A) → Outcome A
-ofLayout r next = and_then (layoutOutcome r) next
+abbrev pub of_layout : {A : Type 0} → IsomorphicLayout → (Layout → Outcome A) → Outcome A
+of_layout r next = and_then (layout_outcome r) next
 
-unfoldable pub createOutcome : IsomorphicLayout → Outcome IsomorphicLayout
-unfolding layoutOutcome
-createOutcome r = ofLayout r (λ (l : Layout). given r)
+unfoldable pub create_outcome : IsomorphicLayout → Outcome IsomorphicLayout
+unfolding layout_outcome
+create_outcome r = of_layout r (λ (l : Layout). given r)
 
-unfoldable pub getGenchain : IsomorphicLayout → Outcome ℕ
-unfolding layoutOutcome
-getGenchain r = ofLayout r (λ (l : Layout). given l.chain)
+unfoldable pub get_genchain : IsomorphicLayout → Outcome ℕ
+unfolding layout_outcome
+get_genchain r = of_layout r (λ (l : Layout). given l.chain)
 
-unfoldable pub getPergen : IsomorphicLayout → Outcome PerGen
-unfolding layoutOutcome
-getPergen r = ofLayout r (λ (l : Layout). given (record { period = l.octave; generator = l.generator }))
+unfoldable pub get_pergen : IsomorphicLayout → Outcome PerGen
+unfolding layout_outcome
+get_pergen r = of_layout r (λ (l : Layout). given (record { period = l.octave; generator = l.generator }))
 
-unfoldable pub getMos : IsomorphicLayout → Outcome Mos
-unfolding layoutOutcome
-getMos r = ofLayout r (λ (l : Layout). given l.pattern)
+unfoldable pub get_mos : IsomorphicLayout → Outcome Mos
+unfolding layout_outcome
+get_mos r = of_layout r (λ (l : Layout). given l.pattern)
 
-unfoldable pub getAccidentals : IsomorphicLayout → ℤ → Outcome Accidentals
-unfolding layoutOutcome accidentalsIn
-getAccidentals r key = ofLayout r (λ (l : Layout). given (accidentalsIn l key))
+unfoldable pub get_accidentals : IsomorphicLayout → ℤ → Outcome Accidentals
+unfolding layout_outcome accidentals_in
+get_accidentals r key = of_layout r (λ (l : Layout). given (accidentals_in l key))
 
 -- Questions 1 to 4 and 18, then the scale's name.
-unfoldable pub getScaleName : IsomorphicLayout → Outcome (List ℕ)
-unfolding layoutOutcome scaleName
-getScaleName r = ofLayout r (λ (l : Layout). given (scaleName l.chain l.pattern))
+unfoldable pub get_scale_name : IsomorphicLayout → Outcome (List ℕ)
+unfolding layout_outcome scale_name
+get_scale_name r = of_layout r (λ (l : Layout). given (scale_name l.chain l.pattern))
 
 -- Questions 1 to 4 and 18, then the key's name.
-unfoldable pub getNoteName : IsomorphicLayout → ℤ → Outcome (List ℕ)
-unfolding layoutOutcome nameIn
-getNoteName r key = ofLayout r (λ (l : Layout). given (nameIn l key))
+unfoldable pub get_note_name : IsomorphicLayout → ℤ → Outcome (List ℕ)
+unfolding layout_outcome name_in
+get_note_name r key = of_layout r (λ (l : Layout). given (name_in l key))
 
 -- 16. Is the letter's place below the number of letters? 21. Are the stars below the number of cycles? (Document 02.) Then the key
 -- of the octave that the spelling sounds.
-unfoldable pub soundedIn : Layout → Spelling → Outcome ℕ
-unfolding cycles keyOf
-soundedIn l x = ask 16 (ltb x.index l.letters) (ask 21 (ltb x.stars (cyclesIn l)) (given (keyOf l x)))
+unfoldable pub sounded_in : Layout → Spelling → Outcome ℕ
+unfolding cycles key_of
+sounded_in l x = ask 16 (ltb x.index l.letters) (ask 21 (ltb x.stars (cycles_in l)) (given (key_of l x)))
 
 -- Questions 1 to 4 and 18, then those of the spelling.
-unfoldable pub getSoundedKey : IsomorphicLayout → Spelling → Outcome ℕ
-unfolding layoutOutcome soundedIn
-getSoundedKey r x = ofLayout r (λ (l : Layout). soundedIn l x)
+unfoldable pub get_sounded_key : IsomorphicLayout → Spelling → Outcome ℕ
+unfolding layout_outcome sounded_in
+get_sounded_key r x = of_layout r (λ (l : Layout). sounded_in l x)
 
 -- What each answer means.
-abbrev pub answerOutcome : LayoutAnswer → Outcome IsomorphicLayout
-answerOutcome (LayoutAnswer.Given r) = given r
-answerOutcome (LayoutAnswer.Refused q) = refused (number_of q)
+abbrev pub answer_outcome : LayoutAnswer → Outcome IsomorphicLayout
+answer_outcome (LayoutAnswer.Given r) = given r
+answer_outcome (LayoutAnswer.Refused q) = refused (number_of q)

@@ -6,14 +6,14 @@ use Rattle.mos.specs.Patterns.{mos}
 use Rattle.pergen.specs.declared.Signs.{Signs}
 use Rattle.pergen.specs.declared.Signs.TheVariants.{Sharps, Flats}
 use Rattle.pergen.specs.declared.Spelling.{Spelling}
-use Rattle.layout.specs.Layouts.{Layout, Accepted, defaultLayout}
-use Rattle.layout.specs.Names.{IsSpelling, place_in, printedIn}
-use Rattle.layout.specs.Answers.{ofLayout, getMos, getScaleName, getNoteName, getSoundedKey}
+use Rattle.layout.specs.Layouts.{Layout, Accepted, default_layout}
+use Rattle.layout.specs.Names.{IsSpelling, place_in, printed_in}
+use Rattle.layout.specs.Answers.{of_layout, get_mos, get_scale_name, get_note_name, get_sounded_key}
 use Rattle.layout.specs.declared.IsomorphicLayout.{IsomorphicLayout}
 
 -- With the chain's own start.
 abbrev pub layout : ℕ → ℕ → ℕ → IsomorphicLayout
-layout code octave tritave = defaultLayout code octave tritave
+layout code octave tritave = default_layout code octave tritave
 
 -- Beginning at another letter.
 abbrev pub beginning : ℕ → ℕ → ℕ → ℕ → IsomorphicLayout
@@ -25,8 +25,8 @@ pub record ScaleExample : Type 0 where
   pub scale : Outcome (List ℕ)
 
 -- "Code 3, 15, 24: pine. Code 0, 16, 25: armotonic."; antidiatonic, where the primary step is the shorter; a refusal by each question.
-abbrev pub scaleExamples : List ScaleExample
-scaleExamples =
+abbrev pub scale_examples : List ScaleExample
+scale_examples =
     record {
       layout = layout 3 15 24;
       pattern = given (mos 7 1 2 1);
@@ -62,8 +62,8 @@ pub record NameExample : Type 0 where
   pub name : Outcome (List ℕ)
 
 -- D+/E-, flats first where the primary step is the shorter; β in two bytes; parentheses and stars, in the next octave too.
-abbrev pub nameExamples : List NameExample
-nameExamples =
+abbrev pub name_examples : List NameExample
+name_examples =
     record { layout = layout 1 16 25; key = pos 1; name = given (68 ∷ 43 ∷ 47 ∷ 69 ∷ 45 ∷ []) }
     ∷ record { layout = layout 0 16 25; key = pos 12; name = given (206 ∷ 178 ∷ []) }
     ∷ record { layout = layout 1 24 38; key = pos 8; name = given (40 ∷ 70 ∷ 35 ∷ 47 ∷ 71 ∷ 98 ∷ 41 ∷ []) }
@@ -100,8 +100,8 @@ pub record SpellingExample : Type 0 where
   pub place : ℤ
   pub key : Outcome ℕ
 
-abbrev pub spellingExamples : List SpellingExample
-spellingExamples =
+abbrev pub spelling_examples : List SpellingExample
+spelling_examples =
     -- D, the letter of key 0; F, three places below it (`negsuc 2` is −3); D# and Eb, which are one key
     record { layout = layout 1 12 19; spelling = spelt 3 (Sharps 0) 0; place = pos 0; key = given 0 }
     ∷ record { layout = layout 1 12 19; spelling = spelt 0 (Sharps 0) 0; place = negsuc 2; key = given 3 }
@@ -130,8 +130,8 @@ pub record RefusedSpelling : Type 0 where
   pub spelling : Spelling
   pub question : ℕ
 
-abbrev pub refusedSpellings : List RefusedSpelling
-refusedSpellings =
+abbrev pub refused_spellings : List RefusedSpelling
+refused_spellings =
     -- in two cycles: two stars; an eighth letter; 16 comes before 21
     record { layout = layout 1 24 38; spelling = spelt 3 (Sharps 0) 2; question = 21 }
     ∷ record { layout = layout 1 24 38; spelling = spelt 7 (Sharps 0) 1; question = 16 }
@@ -149,8 +149,8 @@ pub record PrintedExample : Type 0 where
   pub key : ℤ
   pub spellings : Outcome (List Spelling)
 
-abbrev pub printedExamples : List PrintedExample
-printedExamples =
+abbrev pub printed_examples : List PrintedExample
+printed_examples =
     -- D; D#/Eb; Ebb
     record { layout = layout 1 12 19; key = pos 0; spellings = given (spelt 3 (Sharps 0) 0 ∷ []) }
     ∷ record { layout = layout 1 12 19; key = pos 1; spellings = given (spelt 3 (Sharps 1) 0 ∷ spelt 5 (Flats 1) 0 ∷ []) }
@@ -168,24 +168,24 @@ printedExamples =
     ∷ []
 
 -- Code 1, 24, 38: seven letters and two cycles.
-abbrev pub twoCycles : Layout
-twoCycles = record { chain = 1; octave = 24; generator = 14; letters = 7; start = 3; pattern = mos 5 2 4 2 }
+abbrev pub two_cycles : Layout
+two_cycles = record { chain = 1; octave = 24; generator = 14; letters = 7; start = 3; pattern = mos 5 2 4 2 }
 
 -- Theorem.
 pub record ExamplesHold : Type 0 where
-  pub patterns : map (λ (e : ScaleExample). getMos e.layout) scaleExamples ≡ map (λ (e : ScaleExample). e.pattern) scaleExamples
-  pub scales : map (λ (e : ScaleExample). getScaleName e.layout) scaleExamples ≡ map (λ (e : ScaleExample). e.scale) scaleExamples
-  pub names : map (λ (e : NameExample). getNoteName e.layout e.key) nameExamples ≡ map (λ (e : NameExample). e.name) nameExamples
-  pub places : map (λ (e : SpellingExample). ofLayout e.layout (λ (l : Layout). given (place_in l e.spelling))) spellingExamples
-      ≡ map (λ (e : SpellingExample). given e.place) spellingExamples
-  pub keys : map (λ (e : SpellingExample). getSoundedKey e.layout e.spelling) spellingExamples
-      ≡ map (λ (e : SpellingExample). e.key) spellingExamples
-  pub printings : map (λ (e : PrintedExample). ofLayout e.layout (λ (l : Layout). given (printedIn l e.key))) printedExamples
-      ≡ map (λ (e : PrintedExample). e.spellings) printedExamples
-  pub refusals : map (λ (e : RefusedSpelling). getSoundedKey e.layout e.spelling) refusedSpellings
-      ≡ map (λ (e : RefusedSpelling). refused e.question) refusedSpellings
+  pub patterns : map (λ (e : ScaleExample). get_mos e.layout) scale_examples ≡ map (λ (e : ScaleExample). e.pattern) scale_examples
+  pub scales : map (λ (e : ScaleExample). get_scale_name e.layout) scale_examples ≡ map (λ (e : ScaleExample). e.scale) scale_examples
+  pub names : map (λ (e : NameExample). get_note_name e.layout e.key) name_examples ≡ map (λ (e : NameExample). e.name) name_examples
+  pub places : map (λ (e : SpellingExample). of_layout e.layout (λ (l : Layout). given (place_in l e.spelling))) spelling_examples
+      ≡ map (λ (e : SpellingExample). given e.place) spelling_examples
+  pub keys : map (λ (e : SpellingExample). get_sounded_key e.layout e.spelling) spelling_examples
+      ≡ map (λ (e : SpellingExample). e.key) spelling_examples
+  pub printings : map (λ (e : PrintedExample). of_layout e.layout (λ (l : Layout). given (printed_in l e.key))) printed_examples
+      ≡ map (λ (e : PrintedExample). e.spellings) printed_examples
+  pub refusals : map (λ (e : RefusedSpelling). get_sounded_key e.layout e.spelling) refused_spellings
+      ≡ map (λ (e : RefusedSpelling). refused e.question) refused_spellings
   -- in two cycles B with three sharps and a star is a spelling; one with an eighth letter, or with a second star, is none
-  pub two-cycles : Accepted (layout 1 24 38) twoCycles
-  pub b-sharps-star : IsSpelling twoCycles (spelt 6 (Sharps 3) 1)
-  pub eighth-letter : IsSpelling twoCycles (spelt 7 (Sharps 0) 0) → ⊥
-  pub second-star : IsSpelling twoCycles (spelt 0 (Sharps 0) 2) → ⊥
+  pub two_cycles_lem : Accepted (layout 1 24 38) two_cycles
+  pub b_sharps_star : IsSpelling two_cycles (spelt 6 (Sharps 3) 1)
+  pub eighth_letter : IsSpelling two_cycles (spelt 7 (Sharps 0) 0) → ⊥
+  pub second_star : IsSpelling two_cycles (spelt 0 (Sharps 0) 2) → ⊥

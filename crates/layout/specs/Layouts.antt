@@ -3,19 +3,19 @@
 use Rattle.std.specs.Prelude.{ℕ, Bool, ◌≡◌, length, leb, ltb, ℤ}
 use Rattle.std.proofs.Math.Option.{Option, none, some}
 use Rattle.answer.specs.Outcome.{Outcome, given, refused, ask, and_then}
-use Rattle.genchain.specs.Chains.{chainOf}
-use Rattle.genchain.specs.Answers.{generatorOutcome}
+use Rattle.genchain.specs.Chains.{chain_of}
+use Rattle.genchain.specs.Answers.{generator_outcome}
 use Rattle.mos.specs.declared.Mos.{Mos}
 use Rattle.mos.specs.Patterns.{primary, secondary, genesis}
-use Rattle.mos.specs.Walks.{children, firstWith}
+use Rattle.mos.specs.Walks.{children, first_with}
 use Rattle.pergen.specs.declared.Accidentals.{Accidentals}
 use Rattle.pergen.specs.Pergen.{cycles, reduced}
-use Rattle.pergen.specs.Spelling.{keyAccidentals}
+use Rattle.pergen.specs.Spelling.{key_accidentals}
 use Rattle.layout.specs.declared.IsomorphicLayout.{IsomorphicLayout}
 
 -- How many letters a chain has.
-abbrev pub lettersOf : ℕ → ℕ
-lettersOf code = length (chainOf code).letters
+abbrev pub letters_of : ℕ → ℕ
+letters_of code = length (chain_of code).letters
 
 -- What the questions find, and all that the definitions of keys and names read: "In a layout P is the octave, G the chain's
 -- generator, N its number of letters and the origin the start."
@@ -34,51 +34,51 @@ pub record Layout : Type 0 where
   pub pattern : Mos
 
 -- What a caller's record, a generator and a pattern make; the start is the record's.
-abbrev pub layoutWith : IsomorphicLayout → ℕ → Mos → Layout
-layoutWith r G m =
+abbrev pub layout_with : IsomorphicLayout → ℕ → Mos → Layout
+layout_with r G m =
     record {
       chain = r.genchain;
       octave = r.octave;
       generator = G;
-      letters = lettersOf r.genchain;
+      letters = letters_of r.genchain;
       start = r.start;
       pattern = m;
     }
 
 -- 4. "Does the walk of step patterns meet one with as many steps as the chain has letters? No: 4."
 -- 18. "18 when the start is not below the number of letters, after question 4" (document 02, W-209)
-abbrev pub withPattern : IsomorphicLayout → ℕ → Option Mos → Outcome Layout
-withPattern r G none = refused 4
-withPattern r G (some m) = ask 18 (ltb r.start (lettersOf r.genchain)) (given (layoutWith r G m))
+abbrev pub with_pattern : IsomorphicLayout → ℕ → Option Mos → Outcome Layout
+with_pattern r G none = refused 4
+with_pattern r G (some m) = ask 18 (ltb r.start (letters_of r.genchain)) (given (layout_with r G m))
 
 -- Of a caller's numbers, questions 1 to 3 give the generator, and the walk from its genesis the pattern.
-unfoldable pub layoutOutcome : IsomorphicLayout → Outcome Layout
-unfolding generatorOutcome children
-layoutOutcome r =
-    and_then (generatorOutcome r.genchain r.octave r.tritave)
-    (λ (G : ℕ). withPattern r G (firstWith (lettersOf r.genchain) (children (genesis r.octave G))))
+unfoldable pub layout_outcome : IsomorphicLayout → Outcome Layout
+unfolding generator_outcome children
+layout_outcome r =
+    and_then (generator_outcome r.genchain r.octave r.tritave)
+    (λ (G : ℕ). with_pattern r G (first_with (letters_of r.genchain) (children (genesis r.octave G))))
 
 -- "A layout is accepted when the questions on it, here 1 to 4, all have the answer yes": and 18.
 abbrev pub Accepted : IsomorphicLayout → Layout → Type 0
-Accepted r l = layoutOutcome r ≡ given l
+Accepted r l = layout_outcome r ≡ given l
 
 -- "Document 01's start column becomes the default": the record of three numbers, with the chain's own start.
-abbrev pub defaultLayout : (code octave tritave : ℕ) → IsomorphicLayout
-defaultLayout code octave tritave = record { genchain = code; octave = octave; tritave = tritave; start = (chainOf code).start }
+abbrev pub default_layout : (code octave tritave : ℕ) → IsomorphicLayout
+default_layout code octave tritave = record { genchain = code; octave = octave; tritave = tritave; start = (chain_of code).start }
 
 -- "n their greatest common divisor (cycles)"
-abbrev pub cyclesIn : Layout → ℕ
-cyclesIn l = cycles l.octave l.generator
+abbrev pub cycles_in : Layout → ℕ
+cycles_in l = cycles l.octave l.generator
 
 -- "R = P / n the reduced period"
-abbrev pub reducedIn : Layout → ℕ
-reducedIn l = reduced l.octave l.generator
+abbrev pub reduced_in : Layout → ℕ
+reduced_in l = reduced l.octave l.generator
 
 -- The spellings of a key: any number, "round the octave with the remainder that is never negative" (document 02, W-201).
-unfoldable pub accidentalsIn : Layout → ℤ → Accidentals
-unfolding keyAccidentals
-accidentalsIn l key = keyAccidentals l.octave l.generator l.letters l.start key
+unfoldable pub accidentals_in : Layout → ℤ → Accidentals
+unfolding key_accidentals
+accidentals_in l key = key_accidentals l.octave l.generator l.letters l.start key
 
 -- "If the primary step is at least the secondary, signs are # and b, sharp first"
-abbrev pub sharpFirst : Layout → Bool
-sharpFirst l = leb (secondary l.pattern) (primary l.pattern)
+abbrev pub sharp_first : Layout → Bool
+sharp_first l = leb (secondary l.pattern) (primary l.pattern)

@@ -3,11 +3,11 @@ use Rattle.std.specs.Prelude.{ℕ, List, ltb}
 use Rattle.answer.specs.Choice.{pick}
 use Rattle.mos.specs.declared.Mos.{Mos}
 use Rattle.mos.specs.Patterns.{primary, secondary}
-use Rattle.genchain.specs.Chains.{chainOf, equalized}
+use Rattle.genchain.specs.Chains.{chain_of, equalized}
 
 -- The scale name of a pattern; sharpness is the primary less the secondary step.
-unfoldable pub scaleName : ℕ → Mos → List ℕ
-unfolding chainOf
-scaleName code m =
-    pick (ltb (secondary m) (primary m)) (chainOf code).scaleAbove
-    (pick (ltb (primary m) (secondary m)) (chainOf code).scaleBelow equalized)
+unfoldable pub scale_name : ℕ → Mos → List ℕ
+unfolding chain_of
+scale_name code m =
+    pick (ltb (secondary m) (primary m)) (chain_of code).scale_above
+    (pick (ltb (primary m) (secondary m)) (chain_of code).scale_below equalized)

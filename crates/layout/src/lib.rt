@@ -6,24 +6,26 @@
 // of key names may rely on, FewestSigns that no spelling is simpler. A layout holds only the four numbers that a caller chose; each call
 // asks questions 1 to 4 and 18 of them again.
 // Every entry point answers every input; the modules of parts ask for more, as their heads say. Nothing is assumed.
+#![tactic(auto)]
+
 pub mod parts;
 pub mod prepared;
 
 ghost use Rattle.std.specs.Prelude.{◌≡◌, length};
-ghost use Rattle.answer.specs.Refusals.{numberOutcome, countOutcome};
-ghost use Rattle.answer.specs.Lent.{inRoom, counted, Filled};
-ghost use Rattle.mos.specs.Answers.{mosOutcome};
-ghost use Rattle.pergen.specs.Answers.{pergenOutcome, accidentalsOutcome};
-ghost use Rattle.layout.specs.Layouts.{defaultLayout};
+ghost use Rattle.answer.specs.Refusals.{number_outcome, count_outcome};
+ghost use Rattle.answer.specs.Lent.{in_room, counted, Filled};
+ghost use Rattle.mos.specs.Answers.{mos_outcome};
+ghost use Rattle.pergen.specs.Answers.{pergen_outcome, accidentals_outcome};
+ghost use Rattle.layout.specs.Layouts.{default_layout};
 ghost use Rattle.layout.specs.Answers.{
-  createOutcome,
-  getGenchain,
-  getPergen,
-  getMos,
-  getAccidentals,
-  getNoteName,
-  getSoundedKey,
-  answerOutcome,
+  create_outcome,
+  get_genchain,
+  get_pergen,
+  get_mos,
+  get_accidentals,
+  get_note_name,
+  get_sounded_key,
+  answer_outcome,
 };
 
 use answer::{CountAnswer, NumberAnswer, Refusal};
@@ -49,7 +51,7 @@ pub enum LayoutAnswer {
 
 // The record with the chain's own start; nothing is asked.
 pub fn default_layout(genchain: u16, octave: u16, tritave: u16) -> IsomorphicLayout
-    ensures { result ≡ defaultLayout genchain octave tritave }
+    ensures { result ≡ default_layout genchain octave tritave }
 {
     let chain = rows::numbers(genchain);
     IsomorphicLayout {
@@ -62,7 +64,7 @@ pub fn default_layout(genchain: u16, octave: u16, tritave: u16) -> IsomorphicLay
 
 // The record as it came, where its questions have the answer yes (1, 2, 3, 4, 18).
 fn accept(layout: IsomorphicLayout) -> LayoutAnswer
-    ensures { answerOutcome result ≡ createOutcome layout }
+    ensures { answer_outcome result ≡ create_outcome layout }
 {
     match parts::ask(layout) {
         FoundAnswer::Refused(q) => LayoutAnswer::Refused(q),
@@ -72,14 +74,14 @@ fn accept(layout: IsomorphicLayout) -> LayoutAnswer
 
 // The layout of a chain in a tuning with so many steps to the octave and to the tritave, with the chain's own start (1, 2, 3, 4).
 pub fn create_layout(genchain: u16, octave: u16, tritave: u16) -> LayoutAnswer
-    ensures { answerOutcome result ≡ createOutcome (defaultLayout genchain octave tritave) }
+    ensures { answer_outcome result ≡ create_outcome (default_layout genchain octave tritave) }
 {
     accept(default_layout(genchain, octave, tritave))
 }
 
 // The same, with another letter on key 0: the one at index `start` along the chain (1, 2, 3, 4, 18).
 pub fn create_layout_beginning(genchain: u16, octave: u16, tritave: u16, start: u16) -> LayoutAnswer
-    ensures { answerOutcome result ≡ createOutcome (record { genchain = genchain; octave = octave; tritave = tritave; start = start }) }
+    ensures { answer_outcome result ≡ create_outcome (record { genchain = genchain; octave = octave; tritave = tritave; start = start }) }
 {
     accept(IsomorphicLayout {
         genchain,
@@ -92,7 +94,7 @@ pub fn create_layout_beginning(genchain: u16, octave: u16, tritave: u16, start: 
 impl IsomorphicLayout {
     // The chain's code (1, 2, 3, 4, 18).
     pub fn genchain(self) -> NumberAnswer
-        ensures { numberOutcome result ≡ getGenchain self }
+        ensures { number_outcome result ≡ get_genchain self }
     {
         match parts::ask(self) {
             FoundAnswer::Refused(q) => NumberAnswer::Refused(q),
@@ -102,7 +104,7 @@ impl IsomorphicLayout {
 
     // The octave as period, with the chain's generator in steps (1, 2, 3, 4, 18).
     pub fn pergen(self) -> PerGenAnswer
-        ensures { pergenOutcome result ≡ getPergen self }
+        ensures { pergen_outcome result ≡ get_pergen self }
     {
         match parts::ask(self) {
             FoundAnswer::Refused(q) => PerGenAnswer::Refused(q),
@@ -115,7 +117,7 @@ impl IsomorphicLayout {
 
     // The pattern of the letters (1, 2, 3, 4, 18).
     pub fn mos(self) -> MosAnswer
-        ensures { mosOutcome result ≡ getMos self }
+        ensures { mos_outcome result ≡ get_mos self }
     {
         match parts::ask(self) {
             FoundAnswer::Refused(q) => MosAnswer::Refused(q),
@@ -128,7 +130,7 @@ impl IsomorphicLayout {
 
     // The sharp and the flat spelling of a key; a number below 0 is brought round the octave, as in all calls here (1, 2, 3, 4, 18).
     pub fn get_accidentals(self, key: i32) -> AccidentalsAnswer
-        ensures { accidentalsOutcome result ≡ getAccidentals self key }
+        ensures { accidentals_outcome result ≡ get_accidentals self key }
     {
         match parts::ask(self) {
             FoundAnswer::Refused(q) => AccidentalsAnswer::Refused(q),
@@ -148,7 +150,7 @@ impl IsomorphicLayout {
 
     // How many bytes a key's name has (1, 2, 3, 4, 18).
     pub fn note_name_len(self, key: i32) -> CountAnswer
-        ensures { countOutcome result ≡ counted (getNoteName self key) }
+        ensures { count_outcome result ≡ counted (get_note_name self key) }
     {
         let row = rows::row(self.genchain);
         match parts::ask_with_row(self, row) {
@@ -162,7 +164,7 @@ impl IsomorphicLayout {
 
     // The name of a key, as an engraver cuts it (1, 2, 3, 4, 18, 10).
     pub fn get_note_name(self, key: i32, out: &mut [u8]) -> CountAnswer
-        ensures { Filled (inRoom (length out.old) (getNoteName self key)) (countOutcome result) out.old out.new }
+        ensures { Filled (in_room (length out.old) (get_note_name self key)) (count_outcome result) out.old out.new }
     {
         let row = rows::row(self.genchain);
         match parts::ask_with_row(self, row) {
@@ -176,7 +178,7 @@ impl IsomorphicLayout {
 
     // The key of the octave that a spelling sounds: a letter of the chain, sharps or flats, stars (1, 2, 3, 4, 18, 16, 21).
     pub fn get_sounded_key(self, spelling: Spelling) -> NumberAnswer
-        ensures { numberOutcome result ≡ getSoundedKey self spelling }
+        ensures { number_outcome result ≡ get_sounded_key self spelling }
     {
         match parts::ask(self) {
             FoundAnswer::Refused(q) => NumberAnswer::Refused(q),

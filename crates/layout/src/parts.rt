@@ -1,13 +1,13 @@
 // How a layout is found, and the key that a spelling sounds in it: parts, and no entry points. Callers have asked the questions that a
 // `requires` names.
 ghost use Rattle.std.specs.Prelude.{◌≡◌, ◌<◌, ◌%◌};
-ghost use Rattle.answer.specs.Refusals.{numberOutcome};
-ghost use Rattle.genchain.specs.Chains.{chainOf, row_of};
+ghost use Rattle.answer.specs.Refusals.{number_outcome};
+ghost use Rattle.genchain.specs.Chains.{chain_of, row_of};
 ghost use Rattle.mos.specs.Patterns.{genesis};
-ghost use Rattle.mos.specs.Walks.{children, firstWith};
-ghost use Rattle.layout.specs.Layouts.{lettersOf, withPattern, layoutOutcome};
-ghost use Rattle.layout.specs.Answers.{soundedIn};
-ghost use Rattle.layout.specs.Parts.{layout_of, foundOutcome, Laid};
+ghost use Rattle.mos.specs.Walks.{children, first_with};
+ghost use Rattle.layout.specs.Layouts.{letters_of, with_pattern, layout_outcome};
+ghost use Rattle.layout.specs.Answers.{sounded_in};
+ghost use Rattle.layout.specs.Parts.{layout_of, found_outcome, Laid};
 
 use crate::IsomorphicLayout;
 use answer::{NumberAnswer, Refusal};
@@ -48,8 +48,8 @@ pub fn within_octave(octave: u16, generator: u16) -> u16
 
 // The layout with this generator, and the pattern that the walk from its genesis meets (4, 18).
 fn with_pattern(layout: IsomorphicLayout, num_letters: u16, generator: u16) -> FoundAnswer
-    requires { (num_letters ≡ lettersOf layout.genchain) × (0 < layout.octave) }
-    ensures { foundOutcome result ≡ withPattern layout generator (firstWith (lettersOf layout.genchain) (children (genesis layout.octave generator))) }
+    requires { (num_letters ≡ letters_of layout.genchain) × (0 < layout.octave) }
+    ensures { found_outcome result ≡ with_pattern layout generator (first_with (letters_of layout.genchain) (children (genesis layout.octave generator))) }
 {
     let octave = layout.octave;
     let step = within_octave(octave, generator);
@@ -85,8 +85,8 @@ fn ask_with_letters(
     start: u16,
     num_letters: u16,
 ) -> FoundAnswer
-    requires { num_letters ≡ lettersOf genchain }
-    ensures { foundOutcome result ≡ layoutOutcome (record { genchain = genchain; octave = octave; tritave = tritave; start = start }) }
+    requires { num_letters ≡ letters_of genchain }
+    ensures { found_outcome result ≡ layout_outcome (record { genchain = genchain; octave = octave; tritave = tritave; start = start }) }
 {
     match genchain::generator(genchain, octave, tritave) {
         NumberAnswer::Refused(q) => FoundAnswer::Refused(q),
@@ -104,8 +104,8 @@ fn ask_with_letters(
 
 // Questions 1 to 4 and 18, of a layout whose chain has this row.
 pub fn ask_with_row(layout: IsomorphicLayout, row: ChainRow) -> FoundAnswer
-    requires { row ≡ row_of (chainOf layout.genchain) }
-    ensures { foundOutcome result ≡ layoutOutcome layout }
+    requires { row ≡ row_of (chain_of layout.genchain) }
+    ensures { found_outcome result ≡ layout_outcome layout }
 {
     ask_with_letters(
         layout.genchain,
@@ -118,7 +118,7 @@ pub fn ask_with_row(layout: IsomorphicLayout, row: ChainRow) -> FoundAnswer
 
 // Questions 1 to 4 and 18.
 pub fn ask(layout: IsomorphicLayout) -> FoundAnswer
-    ensures { foundOutcome result ≡ layoutOutcome layout }
+    ensures { found_outcome result ≡ layout_outcome layout }
 {
     let chain = rows::numbers(layout.genchain);
     ask_with_letters(
@@ -133,7 +133,7 @@ pub fn ask(layout: IsomorphicLayout) -> FoundAnswer
 // The key that a spelling sounds (16, 21).
 pub(crate) fn sounded(found: Found, spelling: Spelling) -> NumberAnswer
     requires { Laid (layout_of found) }
-    ensures { numberOutcome result ≡ soundedIn (layout_of found) spelling }
+    ensures { number_outcome result ≡ sounded_in (layout_of found) spelling }
 {
     let stars = spelling.stars;
     if found.num_letters <= spelling.index {

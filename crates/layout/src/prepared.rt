@@ -4,15 +4,15 @@
 // also goes on to the next; here are the key's spellings and its name. The crates `layout_layers` and `layout_lamps` have its layer and its
 // lamp. A name's letters stand in the chain's row, which a call reads once and hands on.
 ghost use Rattle.std.specs.Prelude.{◌≡◌, ◌*◌, ◌<◌, pos, length};
-ghost use Rattle.answer.specs.Lent.{heldIn, Filled};
-ghost use Rattle.answer.specs.Refusals.{countOutcome};
+ghost use Rattle.answer.specs.Lent.{held_in, Filled};
+ghost use Rattle.answer.specs.Refusals.{count_outcome};
 ghost use Rattle.math.specs.Division.{remainder};
-ghost use Rattle.genchain.specs.Chains.{chainOf, row_of};
-ghost use Rattle.pergen.specs.Parts.{Walkable, At, solvedOf};
-ghost use Rattle.pergen.specs.Spelling.{keyAccidentals};
-ghost use Rattle.layout.specs.Layouts.{accidentalsIn};
-ghost use Rattle.layout.specs.Names.{nameIn};
-ghost use Rattle.layout.specs.Parts.{layout_of, Laid, layoutIn, Ready, NamePlanned, StepsLeft, spelledBy, OneKey};
+ghost use Rattle.genchain.specs.Chains.{chain_of, row_of};
+ghost use Rattle.pergen.specs.Parts.{Walkable, At, solved_of};
+ghost use Rattle.pergen.specs.Spelling.{key_accidentals};
+ghost use Rattle.layout.specs.Layouts.{accidentals_in};
+ghost use Rattle.layout.specs.Names.{name_in};
+ghost use Rattle.layout.specs.Parts.{layout_of, Laid, layout_in, Ready, NamePlanned, StepsLeft, spelled_by, OneKey};
 
 use crate::parts::Found;
 use answer::CountAnswer;
@@ -37,7 +37,7 @@ pub struct Prepared {
 // time: the walk to the pattern stands for the divisions before it.
 fn solve_from_steps(octave: u16, generator: u16, pattern: Mos) -> Solved
     requires { (0 < octave) × StepsLeft octave generator pattern }
-    ensures { result ≡ solvedOf octave generator }
+    ensures { result ≡ solved_of octave generator }
 {
     if pattern.primary_step < pattern.secondary_step {
         return euclid::solve_from(
@@ -68,7 +68,7 @@ fn solve_from_steps(octave: u16, generator: u16, pattern: Mos) -> Solved
 // The two spellings of one key of the octave, by what was solved.
 pub(crate) fn spelled(solved: Solved, num_letters: u16, start: u16, number: u16) -> Accidentals
     requires { (start < num_letters) × Walkable solved × (number < 2 * (solved.reduced_period * solved.num_cycles)) }
-    ensures { result ≡ spelledBy solved num_letters start number }
+    ensures { result ≡ spelled_by solved num_letters start number }
 {
     let key = stepping::key_at(solved, number as u32);
     let generation = stepping::generation(solved, key);
@@ -90,7 +90,7 @@ pub(crate) fn spell_one(
     number: u16,
 ) -> Accidentals
     requires { (0 < octave) × StepsLeft octave generator pattern × (start < num_letters) × (number < octave) }
-    ensures { result ≡ keyAccidentals octave generator num_letters start (pos number) }
+    ensures { result ≡ key_accidentals octave generator num_letters start (pos number) }
 {
     let solved = solve_from_steps(octave, generator, pattern);
     spelled(solved, num_letters, start, number)
@@ -119,7 +119,7 @@ pub fn key_round(prepared: Prepared, number: i32) -> Key
 // The two spellings of a key.
 pub fn spellings(prepared: Prepared, key: Key) -> Accidentals
     requires { Ready prepared × At prepared.solved key }
-    ensures { result ≡ accidentalsIn (layoutIn prepared) (pos key.number) }
+    ensures { result ≡ accidentals_in (layout_in prepared) (pos key.number) }
 {
     let found = prepared.found;
     let solved = prepared.solved;
@@ -134,7 +134,7 @@ pub fn spellings(prepared: Prepared, key: Key) -> Accidentals
 // The plan of a key's name, with the letters of its chain's row. The style goes by the steps: sharp first where the primary is at least the
 // secondary.
 pub fn plan_name(prepared: Prepared, row: ChainRow, key: Key) -> NamePlan
-    requires { (row ≡ row_of (chainOf prepared.found.chain)) × Ready prepared × At prepared.solved key }
+    requires { (row ≡ row_of (chain_of prepared.found.chain)) × Ready prepared × At prepared.solved key }
     ensures { NamePlanned prepared key result }
 {
     let pattern = prepared.found.pattern;
@@ -145,7 +145,7 @@ pub fn plan_name(prepared: Prepared, row: ChainRow, key: Key) -> NamePlan
 // The two spellings of one key of the octave of an accepted layout.
 fn spelled_in(found: Found, number: u16) -> Accidentals
     requires { Laid (layout_of found) × (number < found.octave) }
-    ensures { result ≡ accidentalsIn (layout_of found) (pos number) }
+    ensures { result ≡ accidentals_in (layout_of found) (pos number) }
 {
     spell_one(
         found.octave,
@@ -160,7 +160,7 @@ fn spelled_in(found: Found, number: u16) -> Accidentals
 // How many bytes the name of one key of the octave has.
 pub(crate) fn name_length(row: ChainRow, found: Found, number: u16) -> usize
     requires { OneKey row found number }
-    ensures { result ≡ length (nameIn (layout_of found) (pos number)) }
+    ensures { result ≡ length (name_in (layout_of found) (pos number)) }
 {
     let spelled = spelled_in(found, number);
     let sharp_first = found.pattern.secondary_step <= found.pattern.primary_step;
@@ -171,7 +171,7 @@ pub(crate) fn name_length(row: ChainRow, found: Found, number: u16) -> usize
 // The name of one key of the octave at the front of a slice that holds it (10).
 pub(crate) fn write_name(row: ChainRow, found: Found, number: u16, out: &mut [u8]) -> CountAnswer
     requires { OneKey row found number }
-    ensures { Filled (heldIn (length out.old) (nameIn (layout_of found) (pos number))) (countOutcome result) out.old out.new }
+    ensures { Filled (held_in (length out.old) (name_in (layout_of found) (pos number))) (count_outcome result) out.old out.new }
 {
     let spelled = spelled_in(found, number);
     let sharp_first = found.pattern.secondary_step <= found.pattern.primary_step;

@@ -1,8 +1,8 @@
 -- The worked examples hold by computation.
 use mathlib.Core.Path.{refl}
-use Rattle.layout_book.specs.LayoutBooks.{getBook}
+use Rattle.layout_book.specs.LayoutBooks.{get_book}
 use Rattle.layout_book.specs.Examples.{ExamplesHold}
 
-pub examples-hold : ExamplesHold
-unfolding getBook
-examples-hold = refl
+pub examples_hold : ExamplesHold
+unfolding get_book
+examples_hold = refl

@@ -5,56 +5,56 @@ use mathlib.Core.List.{List}
 use native.Mathlib.Omega.{arith}
 use lib.ListN.{length, get_or}
 use Rattle.text.specs.Writing.{joined}
-use Rattle.text.proofs.Joined.{joined-none, length-joined-more}
-use Rattle.genchain.specs.Chains.{chainOf, row_of, TableRow, lettersIn}
+use Rattle.text.proofs.Joined.{joined_none, length_joined_more}
+use Rattle.genchain.specs.Chains.{chain_of, row_of, TableRow, letters_in}
 use Rattle.genchain.specs.declared.rows.ChainRow.{ChainRow}
-use Rattle.genchain.proofs.TableRows.{table-row, row-letters, row_count}
+use Rattle.genchain.proofs.TableRows.{table_row, row_letters, row_count}
 use Rattle.layout.specs.declared.prepared.Prepared.{Prepared}
-use Rattle.layout.specs.Layouts.{sharpFirst}
-use Rattle.layout.specs.Parts.{layoutIn, Ready}
-use Rattle.layout.proofs.Readiness.{parts-ready}
-use Rattle.notes.specs.Names.{letterText}
+use Rattle.layout.specs.Layouts.{sharp_first}
+use Rattle.layout.specs.Parts.{layout_in, Ready}
+use Rattle.layout.proofs.Readiness.{parts_ready}
+use Rattle.notes.specs.Names.{letter_text}
 use Rattle.notes.specs.Parts.{Planned}
 use Rattle.notes.specs.declared.plans.NamePlan.{NamePlan}
-use Rattle.notes.proofs.RowLetters.{letter-inside}
+use Rattle.notes.proofs.RowLetters.{letter_inside}
 use Rattle.pergen.specs.declared.Accidentals.{Accidentals}
-use Rattle.layout_book.specs.Parts.{SpelledPlanned, letterIn}
+use Rattle.layout_book.specs.Parts.{SpelledPlanned, letter_in}
 
-module _ (p : Prepared) (h : Ready p) (row : ChainRow) (is : row ≡ row_of (chainOf p.found.chain)) where
-  abbrev pub ready-row : TableRow row
-  ready-row = table-row p.found.chain row (parts-ready p h).chain is
+module _ (p : Prepared) (h : Ready p) (row : ChainRow) (is : row ≡ row_of (chain_of p.found.chain)) where
+  abbrev pub ready_row : TableRow row
+  ready_row = table_row p.found.chain row (parts_ready p h).chain is
 
-  pub ready-letters : lettersIn row ≡ (chainOf p.found.chain).letters
-  ready-letters = row-letters row ready-row
+  pub ready_letters : letters_in row ≡ (chain_of p.found.chain).letters
+  ready_letters = row_letters row ready_row
 
-  pub ready-count : row.num_letters ≡ p.found.num_letters
-  ready-count = row_count row ready-row ∙ sym (parts-ready p h).letters-are
+  pub ready_count : row.num_letters ≡ p.found.num_letters
+  ready_count = row_count row ready_row ∙ sym (parts_ready p h).letters_are
 
   -- the length of the row's letters is that of the chain's
-  pub row-length : {n : ℕ} → n ≡ length (joined (letterIn (lettersIn row)) row.num_letters)
-      → n ≡ length (joined (letterIn (chainOf p.found.chain).letters) p.found.num_letters)
-  row-length e = e ∙ ap₂ (λ (letters : List ℕ) (k : ℕ). length (joined (letterIn letters) k)) ready-letters ready-count
+  pub row_length : {n : ℕ} → n ≡ length (joined (letter_in (letters_in row)) row.num_letters)
+      → n ≡ length (joined (letter_in (chain_of p.found.chain).letters) p.found.num_letters)
+  row_length e = e ∙ ap₂ (λ (letters : List ℕ) (k : ℕ). length (joined (letter_in letters) k)) ready_letters ready_count
 
   -- a plan by the letters of the row
-  pub row-planned : {a : Accidentals} {plan : NamePlan} → Planned (lettersIn row) (sharpFirst (layoutIn p)) a plan → SpelledPlanned p a plan
-  row-planned {a} {plan} = subst (λ (letters : List ℕ). Planned letters (sharpFirst (layoutIn p)) a plan) ready-letters
+  pub row_planned : {a : Accidentals} {plan : NamePlan} → Planned (letters_in row) (sharp_first (layout_in p)) a plan → SpelledPlanned p a plan
+  row_planned {a} {plan} = subst (λ (letters : List ℕ). Planned letters (sharp_first (layout_in p)) a plan) ready_letters
 
 -- ---- how long they are together, one after the other
 
 pub record LettersAdded (row : ChainRow) (index total : ℕ) : Type 0 where
-  pub is : total ≡ length (joined (letterIn (lettersIn row)) index)
+  pub is : total ≡ length (joined (letter_in (letters_in row)) index)
   pub small : total ≤ 2 * index
 
-pub letters-none : (row : ChainRow) → LettersAdded row 0 0
-letters-none row = record { is = sym (ap length (joined-none (letterIn (lettersIn row)))); small = omega arith }
+pub letters_none : (row : ChainRow) → LettersAdded row 0 0
+letters_none row = record { is = sym (ap length (joined_none (letter_in (letters_in row)))); small = omega arith }
 
-pub letters-more : (row : ChainRow) → TableRow row → (index total m : ℕ) → index < row.num_letters
-    → (m ≡ length (letterText (get_or row.letters index 0))) × (m ≤ 2) → LettersAdded row index total → LettersAdded row (index + 1) (total + m)
-unfolding letterIn
-letters-more row t index total m l e w =
+pub letters_more : (row : ChainRow) → TableRow row → (index total m : ℕ) → index < row.num_letters
+    → (m ≡ length (letter_text (get_or row.letters index 0))) × (m ≤ 2) → LettersAdded row index total → LettersAdded row (index + 1) (total + m)
+unfolding letter_in
+letters_more row t index total m l e w =
     record {
       is =
-          ap₂ (λ (x y : ℕ). x + y) w.is (e.0 ∙ ap (λ (x : ℕ). length (letterText x)) (letter-inside row t index l))
-          ∙ sym (length-joined-more (letterIn (lettersIn row)) index);
+          ap₂ (λ (x y : ℕ). x + y) w.is (e.0 ∙ ap (λ (x : ℕ). length (letter_text x)) (letter_inside row t index l))
+          ∙ sym (length_joined_more (letter_in (letters_in row)) index);
       small = omega (arith, w.small, e.1);
     }

@@ -5,24 +5,24 @@ use native.Mathlib.Decide.{dec_lt}
 use native.Mathlib.Omega.{arith}
 use lib.IntN.{ℤ}
 use lib.ListN.{length}
-use Rattle.genchain.specs.Chains.{chainOf}
-use Rattle.layout.specs.Layouts.{Layout, cyclesIn, reducedIn, accidentalsIn, sharpFirst}
-use Rattle.layout.specs.Names.{nameIn}
+use Rattle.genchain.specs.Chains.{chain_of}
+use Rattle.layout.specs.Layouts.{Layout, cycles_in, reduced_in, accidentals_in, sharp_first}
+use Rattle.layout.specs.Names.{name_in}
 use Rattle.layout.proofs.Finding.{Parts}
-use Rattle.layout.proofs.PatternShape.{pattern-shape}
-use Rattle.notes.proofs.ShortNames.{names-are-short, names-are-not-empty}
-use Rattle.pergen.proofs.Inverse.{period-is, cycles-positive}
-use Rattle.pergen.proofs.Keys.{key-cycle-below}
-use Rattle.pergen.proofs.DegreePlaces.{few-signs, stars_are}
+use Rattle.layout.proofs.PatternShape.{pattern_shape}
+use Rattle.notes.proofs.ShortNames.{names_are_short, names_are_not_empty}
+use Rattle.pergen.proofs.Inverse.{period_is, cycles_positive}
+use Rattle.pergen.proofs.Keys.{key_cycle_below}
+use Rattle.pergen.proofs.DegreePlaces.{few_signs, stars_are}
 
 -- no name is empty
-pub name-some : (l : Layout) (key : ℤ) → 1 ≤ length (nameIn l key)
-unfolding nameIn
-name-some l key = names-are-not-empty (chainOf l.chain).letters (sharpFirst l) (accidentalsIn l key)
+pub name_some : (l : Layout) (key : ℤ) → 1 ≤ length (name_in l key)
+unfolding name_in
+name_some l key = names_are_not_empty (chain_of l.chain).letters (sharp_first l) (accidentals_in l key)
 
 -- N letters with so many signs each are less than a round more than the degrees
-signs-small : (N R signs : ℕ) → 5 ≤ N → R ≤ 65535 → N * signs < R + N → signs ≤ 13107
-signs-small N R signs five small few = by (dec_lt 13107 signs)
+signs_small : (N R signs : ℕ) → 5 ≤ N → R ≤ 65535 → N * signs < R + N → signs ≤ 13107
+signs_small N R signs five small few = by (dec_lt 13107 signs)
   where
     by : Dec (13107 < signs) → signs ≤ 13107
     by (no h) = omega (arith, h)
@@ -37,30 +37,30 @@ module _ (l : Layout) (a : Parts l) (small : l.octave ≤ 65535) where
   abbrev G : ℕ
   G = l.generator
 
-  pub few-degrees : reducedIn l ≤ 65535
-  few-degrees =
-      let q : reducedIn l * 1 ≤ reducedIn l * cyclesIn l
-      = mul-le-mul {n₂ = reducedIn l} {m₂ = cyclesIn l} (le_refl (reducedIn l)) (cycles-positive P G a.positive) in
-      omega (arith, q, mul-one (reducedIn l), period-is P G a.positive, small)
+  pub few_degrees : reduced_in l ≤ 65535
+  few_degrees =
+      let q : reduced_in l * 1 ≤ reduced_in l * cycles_in l
+      = mul-le-mul {n₂ = reduced_in l} {m₂ = cycles_in l} (le_refl (reduced_in l)) (cycles_positive P G a.positive) in
+      omega (arith, q, mul-one (reduced_in l), period_is P G a.positive, small)
 
-  pub few-cycles : cyclesIn l ≤ 13107
-  few-cycles =
-      let shape = pattern-shape l a in
-      let q : 5 * cyclesIn l ≤ reducedIn l * cyclesIn l
-      = mul-le-mul {n₂ = reducedIn l} {m₂ = cyclesIn l} (omega (arith, shape.at-least-five, shape.enough-keys)) (le_refl (cyclesIn l)) in
-      omega (arith, q, period-is P G a.positive, small)
+  pub few_cycles : cycles_in l ≤ 13107
+  few_cycles =
+      let shape = pattern_shape l a in
+      let q : 5 * cycles_in l ≤ reduced_in l * cycles_in l
+      = mul-le-mul {n₂ = reduced_in l} {m₂ = cycles_in l} (omega (arith, shape.at_least_five, shape.enough_keys)) (le_refl (cycles_in l)) in
+      omega (arith, q, period_is P G a.positive, small)
 
   -- at most 7 bytes, 13,107 signs and 13,106 stars
-  pub name-short : (key : ℤ) → length (nameIn l key) ≤ 39325
-  unfolding nameIn accidentalsIn
-  name-short key =
-      let shape = pattern-shape l a in
+  pub name_short : (key : ℤ) → length (name_in l key) ≤ 39325
+  unfolding name_in accidentals_in
+  name_short key =
+      let shape = pattern_shape l a in
       let N = l.letters in
       omega (
         arith,
-        names-are-short (chainOf l.chain).letters (sharpFirst l) (accidentalsIn l key),
-        signs-small N (reducedIn l) _ shape.at-least-five few-degrees (few-signs P G N l.start key a.positive a.start-below shape.enough-keys),
-        stars_are P G N l.start key a.positive a.start-below,
-        key-cycle-below P G a.positive key,
-        few-cycles,
+        names_are_short (chain_of l.chain).letters (sharp_first l) (accidentals_in l key),
+        signs_small N (reduced_in l) _ shape.at_least_five few_degrees (few_signs P G N l.start key a.positive a.start_below shape.enough_keys),
+        stars_are P G N l.start key a.positive a.start_below,
+        key_cycle_below P G a.positive key,
+        few_cycles,
       )

@@ -10,158 +10,158 @@ use borrow.Author.Tests.{ltb-true, ltb-false}
 use native.Mathlib.Nat.{mod-lt, mod_self, mod-eq_of_lt, div_self, div-eq_of_lt, div-le_self, mul_comm, mul-one, mul-le-mul, le_refl, le_antisymm}
 use native.Mathlib.Omega.{arith}
 use Rattle.text.specs.Writing.{joined}
-use Rattle.text.proofs.Joined.{joined-none, length-joined-more}
-use Rattle.genchain.specs.Chains.{chainOf}
+use Rattle.text.proofs.Joined.{joined_none, length_joined_more}
+use Rattle.genchain.specs.Chains.{chain_of}
 use Rattle.layout.specs.declared.prepared.Prepared.{Prepared}
-use Rattle.layout.specs.Layouts.{sharpFirst}
-use Rattle.layout.specs.Parts.{layoutIn}
-use Rattle.notes.specs.Names.{nameText}
+use Rattle.layout.specs.Layouts.{sharp_first}
+use Rattle.layout.specs.Parts.{layout_in}
+use Rattle.notes.specs.Names.{name_text}
 use Rattle.notes.specs.Parts.{Measured}
 use Rattle.notes.specs.declared.plans.NamePlan.{NamePlan}
 use Rattle.pergen.specs.declared.Accidentals.{Accidentals}
 use Rattle.pergen.specs.declared.Cycle.{Cycle}
 use Rattle.pergen.specs.Pergen.{shown}
-use Rattle.pergen.specs.Spelling.{byCoordinates}
-use Rattle.pergen.proofs.CarriedWalk.{stay-high, stay-low, carry-high, carry-low}
-use Rattle.layout_book.specs.Parts.{SpelledPlanned, placeAt, bareAt, stretchName, Stretch}
+use Rattle.pergen.specs.Spelling.{by_coordinates}
+use Rattle.pergen.proofs.CarriedWalk.{stay_high, stay_low, carry_high, carry_low}
+use Rattle.layout_book.specs.Parts.{SpelledPlanned, place_at, bare_at, stretch_name, Stretch}
 use Rattle.layout_book.proofs.ReadyNumbers.{Numbers}
-use Rattle.layout_book.proofs.BareNames.{bare-short}
-use Rattle.layout_book.proofs.BareLengths.{flat-past-letters}
+use Rattle.layout_book.proofs.BareNames.{bare_short}
+use Rattle.layout_book.proofs.BareLengths.{flat_past_letters}
 
 -- ---- a letter on
 
-pub letter-stays : (n i : ℕ) → i + 1 < n → i + 1 ≡ (i + 1) % n
-letter-stays n i l = sym (mod-eq_of_lt l)
+pub letter_stays : (n i : ℕ) → i + 1 < n → i + 1 ≡ (i + 1) % n
+letter_stays n i l = sym (mod-eq_of_lt l)
 
-pub letter-first : (n i : ℕ) → i < n → n ≤ i + 1 → 0 ≡ (i + 1) % n
-letter-first n i l h = sym (ap (λ (x : ℕ). x % n) (let q : i + 1 ≡ n = omega arith in q) ∙ mod_self n)
+pub letter_first : (n i : ℕ) → i < n → n ≤ i + 1 → 0 ≡ (i + 1) % n
+letter_first n i l h = sym (ap (λ (x : ℕ). x % n) (let q : i + 1 ≡ n = omega arith in q) ∙ mod_self n)
 
-pub carry-none : (n i : ℕ) → i + 1 < n → 0 ≡ (i + 1) / n
-carry-none n i l = sym (div-eq_of_lt l)
+pub carry_none : (n i : ℕ) → i + 1 < n → 0 ≡ (i + 1) / n
+carry_none n i l = sym (div-eq_of_lt l)
 
-pub carry-one : (n i : ℕ) → i < n → n ≤ i + 1 → 1 ≡ (i + 1) / n
-carry-one n i l h = sym (ap (λ (x : ℕ). x / n) (let q : i + 1 ≡ n = omega arith in q) ∙ div_self (omega arith))
+pub carry_one : (n i : ℕ) → i < n → n ≤ i + 1 → 1 ≡ (i + 1) / n
+carry_one n i l h = sym (ap (λ (x : ℕ). x / n) (let q : i + 1 ≡ n = omega arith in q) ∙ div_self (omega arith))
 
 -- ---- indices and counts at a place
 
 pub record Placed (N R place sharp sharps flat flats : ℕ) : Type 0 where
-  pub sharp-is : sharp ≡ place % N
-  pub sharps-is : sharps ≡ place / N
-  pub flat-is : flat ≡ N - 1 - (R + (N - 1) - place) % N
-  pub flats-is : flats ≡ (R + (N - 1) - place) / N
+  pub sharp_is : sharp ≡ place % N
+  pub sharps_is : sharps ≡ place / N
+  pub flat_is : flat ≡ N - 1 - (R + (N - 1) - place) % N
+  pub flats_is : flats ≡ (R + (N - 1) - place) / N
 
 module _ (N : ℕ) (some : 0 < N) where
   -- up: remainder and quotient of the next number
-  up-index : (place : ℕ) → (place % N + 1) % N ≡ (place + 1) % N
-  up-index place = by (ltb (place % N + 1) N) refl
+  up_index : (place : ℕ) → (place % N + 1) % N ≡ (place + 1) % N
+  up_index place = by (ltb (place % N + 1) N) refl
     where
       by : (b : Bool) → ltb (place % N + 1) N ≡ b → (place % N + 1) % N ≡ (place + 1) % N
-      by true q = let l = ltb-true (place % N + 1) N q in mod-eq_of_lt l ∙ sym (stay-low N place some l)
+      by true q = let l = ltb-true (place % N + 1) N q in mod-eq_of_lt l ∙ sym (stay_low N place some l)
       by false q =
-          let l = ltb-false (place % N + 1) N q in sym (letter-first N (place % N) (mod-lt place some) l) ∙ sym (carry-low N place some l)
+          let l = ltb-false (place % N + 1) N q in sym (letter_first N (place % N) (mod-lt place some) l) ∙ sym (carry_low N place some l)
 
-  up-count : (place : ℕ) → place / N + (place % N + 1) / N ≡ (place + 1) / N
-  up-count place = by (ltb (place % N + 1) N) refl
+  up_count : (place : ℕ) → place / N + (place % N + 1) / N ≡ (place + 1) / N
+  up_count place = by (ltb (place % N + 1) N) refl
     where
       by : (b : Bool) → ltb (place % N + 1) N ≡ b → place / N + (place % N + 1) / N ≡ (place + 1) / N
-      by true q = let l = ltb-true (place % N + 1) N q in omega (arith, carry-none N (place % N) l, stay-high N place some l)
+      by true q = let l = ltb-true (place % N + 1) N q in omega (arith, carry_none N (place % N) l, stay_high N place some l)
       by false q =
-          let l = ltb-false (place % N + 1) N q in omega (arith, carry-one N (place % N) (mod-lt place some) l, carry-high N place some l)
+          let l = ltb-false (place % N + 1) N q in omega (arith, carry_one N (place % N) (mod-lt place some) l, carry_high N place some l)
 
   -- down: of the number before, the remainder taken from the last index
-  down-index : (f : ℕ) → (N - 1 - (f + 1) % N + 1) % N ≡ N - 1 - f % N
-  down-index f = by (ltb (f % N + 1) N) refl
+  down_index : (f : ℕ) → (N - 1 - (f + 1) % N + 1) % N ≡ N - 1 - f % N
+  down_index f = by (ltb (f % N + 1) N) refl
     where
       by : (b : Bool) → ltb (f % N + 1) N ≡ b → (N - 1 - (f + 1) % N + 1) % N ≡ N - 1 - f % N
       by true q =
           let l = ltb-true (f % N + 1) N q in
-          let e : N - 1 - (f + 1) % N + 1 ≡ N - 1 - f % N = omega (arith, stay-low N f some l, l) in
+          let e : N - 1 - (f + 1) % N + 1 ≡ N - 1 - f % N = omega (arith, stay_low N f some l, l) in
           ap (λ (x : ℕ). x % N) e ∙ mod-eq_of_lt (omega (arith, some))
       by false q =
           let l = ltb-false (f % N + 1) N q in
-          let e : N - 1 - (f + 1) % N + 1 ≡ N = omega (arith, carry-low N f some l, some) in
+          let e : N - 1 - (f + 1) % N + 1 ≡ N = omega (arith, carry_low N f some l, some) in
           ap (λ (x : ℕ). x % N) e ∙ mod_self N ∙ omega (arith, l, mod-lt f some)
 
-  down-count : (f : ℕ) → (f + 1) / N - (N - 1 - (f + 1) % N + 1) / N ≡ f / N
-  down-count f = by (ltb (f % N + 1) N) refl
+  down_count : (f : ℕ) → (f + 1) / N - (N - 1 - (f + 1) % N + 1) / N ≡ f / N
+  down_count f = by (ltb (f % N + 1) N) refl
     where
       by : (b : Bool) → ltb (f % N + 1) N ≡ b → (f + 1) / N - (N - 1 - (f + 1) % N + 1) / N ≡ f / N
       by true q =
           let l = ltb-true (f % N + 1) N q in
-          let e : N - 1 - (f + 1) % N + 1 < N = omega (arith, stay-low N f some l, l) in
-          omega (arith, div-eq_of_lt e, stay-high N f some l)
+          let e : N - 1 - (f + 1) % N + 1 < N = omega (arith, stay_low N f some l, l) in
+          omega (arith, div-eq_of_lt e, stay_high N f some l)
       by false q =
           let l = ltb-false (f % N + 1) N q in
-          let e : N - 1 - (f + 1) % N + 1 ≡ N = omega (arith, carry-low N f some l, some) in
-          omega (arith, ap (λ (x : ℕ). x / N) e, div_self some, carry-high N f some l)
+          let e : N - 1 - (f + 1) % N + 1 ≡ N = omega (arith, carry_low N f some l, some) in
+          omega (arith, ap (λ (x : ℕ). x / N) e, div_self some, carry_high N f some l)
 
   module _ (R place sharp sharps flat flats : ℕ) (w : Placed N R place sharp sharps flat flats) where
-    pub sharp-inside : sharp < N
-    sharp-inside = omega (arith, w.sharp-is, mod-lt place some)
+    pub sharp_inside : sharp < N
+    sharp_inside = omega (arith, w.sharp_is, mod-lt place some)
 
-    pub flat-inside : flat < N
-    flat-inside = omega (arith, w.flat-is, some)
+    pub flat_inside : flat < N
+    flat_inside = omega (arith, w.flat_is, some)
 
     module _ (l : place < R) where
       before : R + (N - 1) - place ≡ R + (N - 1) - (place + 1) + 1
       before = omega (arith, l)
 
-      pub placed-next : {a b c d : ℕ} → a ≡ (sharp + 1) % N → b ≡ (sharp + 1) / N → c ≡ (flat + 1) % N → d ≡ (flat + 1) / N
+      pub placed_next : {a b c d : ℕ} → a ≡ (sharp + 1) % N → b ≡ (sharp + 1) / N → c ≡ (flat + 1) % N → d ≡ (flat + 1) / N
           → Placed N R (place + 1) a (sharps + b) c (flats - d)
-      placed-next ea eb ec ed =
+      placed_next ea eb ec ed =
           let f = R + (N - 1) - (place + 1) in
-          let e : flat ≡ N - 1 - (f + 1) % N = w.flat-is ∙ ap (λ (x : ℕ). N - 1 - x % N) before in
+          let e : flat ≡ N - 1 - (f + 1) % N = w.flat_is ∙ ap (λ (x : ℕ). N - 1 - x % N) before in
           record {
-            sharp-is = ea ∙ ap (λ (x : ℕ). (x + 1) % N) w.sharp-is ∙ up-index place;
-            sharps-is = ap₂ (λ (x y : ℕ). x + y) w.sharps-is (eb ∙ ap (λ (x : ℕ). (x + 1) / N) w.sharp-is) ∙ up-count place;
-            flat-is = ec ∙ ap (λ (x : ℕ). (x + 1) % N) e ∙ down-index f;
-            flats-is =
-                ap₂ (λ (x y : ℕ). x - y) (w.flats-is ∙ ap (λ (x : ℕ). x / N) before) (ed ∙ ap (λ (x : ℕ). (x + 1) / N) e) ∙ down-count f;
+            sharp_is = ea ∙ ap (λ (x : ℕ). (x + 1) % N) w.sharp_is ∙ up_index place;
+            sharps_is = ap₂ (λ (x y : ℕ). x + y) w.sharps_is (eb ∙ ap (λ (x : ℕ). (x + 1) / N) w.sharp_is) ∙ up_count place;
+            flat_is = ec ∙ ap (λ (x : ℕ). (x + 1) % N) e ∙ down_index f;
+            flats_is =
+                ap₂ (λ (x y : ℕ). x - y) (w.flats_is ∙ ap (λ (x : ℕ). x / N) before) (ed ∙ ap (λ (x : ℕ). (x + 1) / N) e) ∙ down_count f;
           }
 
       -- there is a flat to take away
-      pub some-flats : N ≤ place → {d : ℕ} → d ≡ (flat + 1) / N → d ≤ flats
-      some-flats h {d} ed =
+      pub some_flats : N ≤ place → {d : ℕ} → d ≡ (flat + 1) / N → d ≤ flats
+      some_flats h {d} ed =
           let f = R + (N - 1) - (place + 1) in
-          let e : flat ≡ N - 1 - (f + 1) % N = w.flat-is ∙ ap (λ (x : ℕ). N - 1 - x % N) before in
-          by f (ed ∙ ap (λ (x : ℕ). (x + 1) / N) e) (w.flats-is ∙ ap (λ (x : ℕ). x / N) before) (ltb (f % N + 1) N) refl
+          let e : flat ≡ N - 1 - (f + 1) % N = w.flat_is ∙ ap (λ (x : ℕ). N - 1 - x % N) before in
+          by f (ed ∙ ap (λ (x : ℕ). (x + 1) / N) e) (w.flats_is ∙ ap (λ (x : ℕ). x / N) before) (ltb (f % N + 1) N) refl
         where
           by : (f : ℕ) → d ≡ (N - 1 - (f + 1) % N + 1) / N → flats ≡ (f + 1) / N → (b : Bool) → ltb (f % N + 1) N ≡ b → d ≤ flats
           by f u v true q =
               let k = ltb-true (f % N + 1) N q in
-              let less : N - 1 - (f + 1) % N + 1 < N = omega (arith, stay-low N f some k, k) in
+              let less : N - 1 - (f + 1) % N + 1 < N = omega (arith, stay_low N f some k, k) in
               omega (arith, u, v, div-eq_of_lt less)
           by f u v false q =
               let k = ltb-false (f % N + 1) N q in
-              let all : N - 1 - (f + 1) % N + 1 ≡ N = omega (arith, carry-low N f some k, some) in
-              omega (arith, u, v, ap (λ (x : ℕ). x / N) all, div_self some, carry-high N f some k)
+              let all : N - 1 - (f + 1) % N + 1 ≡ N = omega (arith, carry_low N f some k, some) in
+              omega (arith, u, v, ap (λ (x : ℕ). x / N) all, div_self some, carry_high N f some k)
 
   pub placed_first : (R sharps : ℕ) {flat : ℕ} → flat ≡ R + (N - 1) - N * sharps
       → Placed N R (N * sharps) 0 sharps (N - 1 - flat % N) (flat / N)
   placed_first R sharps e =
       let q : N * sharps ≡ sharps * N + 0 = omega (arith, mul_comm N sharps) in
       record {
-        sharp-is = sym (ap (λ (x : ℕ). x % N) q ∙ digits_mod sharps some);
-        sharps-is = sym (ap (λ (x : ℕ). x / N) q ∙ digits_div sharps some);
-        flat-is = ap (λ (x : ℕ). N - 1 - x % N) e;
-        flats-is = ap (λ (x : ℕ). x / N) e;
+        sharp_is = sym (ap (λ (x : ℕ). x % N) q ∙ digits_mod sharps some);
+        sharps_is = sym (ap (λ (x : ℕ). x / N) q ∙ digits_div sharps some);
+        flat_is = ap (λ (x : ℕ). N - 1 - x % N) e;
+        flats_is = ap (λ (x : ℕ). x / N) e;
       }
 
 -- ---- a loop that adds the lengths of a stretch's names
 
-abbrev pub spelledBy : Cycle → (sharp sharps flat flats : ℕ) → Accidentals
-spelledBy c sharp sharps flat flats =
+abbrev pub spelled_by : Cycle → (sharp sharps flat flats : ℕ) → Accidentals
+spelled_by c sharp sharps flat flats =
     record { cycle = c; sharp_index = sharp; sharp_count = sharps; flat_index = flat; flat_count = flats }
 
 -- before a place, indices and counts are the place's, and the total is the length of the names before it
 pub record Adding (p : Prepared) (from end : ℕ) (c : Cycle) (place sharp sharps flat flats total : ℕ) : Type 0 where
   pub numbers : Numbers p
   pub stretch : Stretch p from end
-  pub cycle-is : c ≡ shown p.solved.num_cycles 0
+  pub cycle_is : c ≡ shown p.solved.num_cycles 0
   pub placed : Placed p.found.num_letters p.solved.reduced_period place sharp sharps flat flats
   pub begun : p.found.num_letters * from ≤ place
   pub inside : place ≤ end
-  pub is : total ≡ length (joined (stretchName p from) (place - p.found.num_letters * from))
+  pub is : total ≡ length (joined (stretch_name p from) (place - p.found.num_letters * from))
   pub small : total ≤ 39325 * (place - p.found.num_letters * from)
 
 module _ (p : Prepared) (h : Numbers p) (from end : ℕ) (w : Stretch p from end) where
@@ -175,19 +175,19 @@ module _ (p : Prepared) (h : Numbers p) (from end : ℕ) (w : Stretch p from end
       let q : N * 1 ≤ N * from = mul-le-mul {n₂ = N} {m₂ = from} (le_refl N) w.past in
       omega (arith, mul-one N, q)
 
-  pub adding-first : {c : Cycle} {flat : ℕ} → c ≡ shown p.solved.num_cycles 0
+  pub adding_first : {c : Cycle} {flat : ℕ} → c ≡ shown p.solved.num_cycles 0
       → flat ≡ p.solved.reduced_period + (p.found.num_letters - 1) - first
       → Adding p from end c first 0 from (p.found.num_letters - 1 - flat % p.found.num_letters) (flat / p.found.num_letters) 0
-  adding-first e q =
+  adding_first e q =
       let none : first - first ≡ 0 = omega arith in
       record {
         numbers = h;
         stretch = w;
-        cycle-is = e;
+        cycle_is = e;
         placed = placed_first p.found.num_letters (omega (arith, h.five)) p.solved.reduced_period from q;
         begun = omega arith;
         inside = w.inside;
-        is = sym (ap (λ (k : ℕ). length (joined (stretchName p from) k)) none ∙ ap length (joined-none (stretchName p from)));
+        is = sym (ap (λ (k : ℕ). length (joined (stretch_name p from) k)) none ∙ ap length (joined_none (stretch_name p from)));
         small = omega arith;
       }
 
@@ -199,72 +199,72 @@ module _ {p : Prepared} {from end : ℕ} {c : Cycle} {place sharp sharps flat fl
   abbrev R : ℕ
   R = p.solved.reduced_period
 
-  some-letters : 0 < N
-  some-letters = omega (arith, w.numbers.five)
+  some_letters : 0 < N
+  some_letters = omega (arith, w.numbers.five)
 
-  pub sharp-below : sharp < N
-  sharp-below = sharp-inside N some-letters R place sharp sharps flat flats w.placed
+  pub sharp_below : sharp < N
+  sharp_below = sharp_inside N some_letters R place sharp sharps flat flats w.placed
 
-  pub flat-below : flat < N
-  flat-below = flat-inside N some-letters R place sharp sharps flat flats w.placed
+  pub flat_below : flat < N
+  flat_below = flat_inside N some_letters R place sharp sharps flat flats w.placed
 
   module _ (more : place < end) where
     below : place < R
-    below = omega (arith, w.stretch.end-inside)
+    below = omega (arith, w.stretch.end_inside)
 
     past : N ≤ place
     past = omega (arith, first_past p w.numbers from end w.stretch, w.begun)
 
-    pub sharps-fit : {b : ℕ} → b ≡ (sharp + 1) / N → sharps + b ≤ 65535
-    sharps-fit {b} e =
-        let next = placed-next N some-letters R place sharp sharps flat flats w.placed below refl e refl refl in
-        omega (arith, next.sharps-is, div-le_self (place + 1) N, below, w.numbers.few-degrees)
+    pub sharps_fit : {b : ℕ} → b ≡ (sharp + 1) / N → sharps + b ≤ 65535
+    sharps_fit {b} e =
+        let next = placed_next N some_letters R place sharp sharps flat flats w.placed below refl e refl refl in
+        omega (arith, next.sharps_is, div-le_self (place + 1) N, below, w.numbers.few_degrees)
 
     -- there is a flat to take away
-    pub flat-left : {b : ℕ} → b ≡ (flat + 1) / N → b ≤ flats
-    flat-left e = some-flats N some-letters R place sharp sharps flat flats w.placed below past e
+    pub flat_left : {b : ℕ} → b ≡ (flat + 1) / N → b ≤ flats
+    flat_left e = some_flats N some_letters R place sharp sharps flat flats w.placed below past e
 
     -- with the name at the place, by a plan of it that was measured
-    module _ {plan : NamePlan} {m : ℕ} (planned : SpelledPlanned p (spelledBy c sharp sharps flat flats) plan) (measured : Measured plan m) where
-      place_is : spelledBy c sharp sharps flat flats ≡ placeAt p place
-      unfolding placeAt byCoordinates
+    module _ {plan : NamePlan} {m : ℕ} (planned : SpelledPlanned p (spelled_by c sharp sharps flat flats) plan) (measured : Measured plan m) where
+      place_is : spelled_by c sharp sharps flat flats ≡ place_at p place
+      unfolding place_at by_coordinates
       place_is =
           let a = w.placed in
-          rw (w.cycle-is, a.sharp-is, a.sharps-is, a.flat-is, a.flats-is, flat-past-letters p place past) refl
+          rw (w.cycle_is, a.sharp_is, a.sharps_is, a.flat_is, a.flats_is, flat_past_letters p place past) refl
 
-      name-is : m ≡ length (bareAt p place)
-      unfolding bareAt
-      name-is =
-          measured.length-is
+      name_is : m ≡ length (bare_at p place)
+      unfolding bare_at
+      name_is =
+          measured.length_is
           ∙ ap length planned.text
-          ∙ ap (λ (a : Accidentals). length (nameText (chainOf p.found.chain).letters (sharpFirst (layoutIn p)) a)) place_is
+          ∙ ap (λ (a : Accidentals). length (name_text (chain_of p.found.chain).letters (sharp_first (layout_in p)) a)) place_is
 
-      pub total-fits : total + m ≤ 39325 * 65535
-      total-fits = omega (arith, w.small, name-is, bare-short p w.numbers place below, below, w.numbers.few-degrees)
+      pub total_fits : total + m ≤ 39325 * 65535
+      total_fits = omega (arith, w.small, name_is, bare_short p w.numbers place below, below, w.numbers.few_degrees)
 
-      pub adding-next : {a b d e : ℕ} → a ≡ (sharp + 1) % N → b ≡ (sharp + 1) / N → d ≡ (flat + 1) % N → e ≡ (flat + 1) / N
+      pub adding_next : {a b d e : ℕ} → a ≡ (sharp + 1) % N → b ≡ (sharp + 1) / N → d ≡ (flat + 1) % N → e ≡ (flat + 1) / N
           → Adding p from end c (place + 1) a (sharps + b) d (flats - e) (total + m)
-      unfolding stretchName
-      adding-next ea eb ed ee =
+      unfolding stretch_name
+      adding_next ea eb ed ee =
           let k = place - N * from in
           let here : N * from + k ≡ place = omega (arith, w.begun) in
           let on : place + 1 - N * from ≡ k + 1 = omega (arith, w.begun) in
           record {
             numbers = w.numbers;
             stretch = w.stretch;
-            cycle-is = w.cycle-is;
-            placed = placed-next N some-letters R place sharp sharps flat flats w.placed below ea eb ed ee;
+            cycle_is = w.cycle_is;
+            placed = placed_next N some_letters R place sharp sharps flat flats w.placed below ea eb ed ee;
             begun = omega (arith, w.begun);
             inside = omega (arith, more);
             is =
-                ap₂ (λ (x y : ℕ). x + y) w.is (name-is ∙ ap (λ (x : ℕ). length (bareAt p x)) (sym here))
-                ∙ sym (ap (λ (x : ℕ). length (joined (stretchName p from) x)) on ∙ length-joined-more (stretchName p from) k);
-            small = omega (arith, w.small, on, bare-short p w.numbers place below, name-is);
+                ap₂ (λ (x y : ℕ). x + y) w.is (name_is ∙ ap (λ (x : ℕ). length (bare_at p x)) (sym here))
+                ∙ sym (ap (λ (x : ℕ). length (joined (stretch_name p from) x)) on ∙ length_joined_more (stretch_name p from) k);
+            small = omega (arith, w.small, on, bare_short p w.numbers place below, name_is);
           }
 
-  pub all-added : end ≤ place → (total ≡ length (joined (stretchName p from) (end - N * from))) × (total ≤ 39325 * 65535)
-  all-added done =
+  pub all_added : end ≤ place → (total ≡ length (joined (stretch_name p from) (end - N * from))) × (total ≤ 39325 * 65535)
+  all_added done =
       let all : place ≡ end = le_antisymm w.inside done in (
-        w.is ∙ ap (λ (k : ℕ). length (joined (stretchName p from) (k - N * from))) all,
-        omega (arith, w.small, w.inside, w.stretch.end-inside, w.numbers.few-degrees),
+        w.is ∙ ap (λ (k : ℕ). length (joined (stretch_name p from) (k - N * from))) all,
+        omega (arith, w.small, w.inside, w.stretch.end_inside, w.numbers.few_degrees),
       )

@@ -2,12 +2,12 @@
 use Prim.Native.Nat.{ℕ, ◌*◌, ◌/◌, ◌%◌, ◌≤◌, ◌<◌}
 use mathlib.Core.Path.{◌≡◌}
 use Rattle.layout.specs.declared.prepared.Prepared.{Prepared}
-use Rattle.layout.specs.Parts.{layoutIn, Ready}
+use Rattle.layout.specs.Parts.{layout_in, Ready}
 use Rattle.layout.proofs.Finding.{Parts}
-use Rattle.layout.proofs.PatternShape.{PatternShape, pattern-shape}
-use Rattle.layout.proofs.Readiness.{parts-ready, ready-walkable, ready-octave}
+use Rattle.layout.proofs.PatternShape.{PatternShape, pattern_shape}
+use Rattle.layout.proofs.Readiness.{parts_ready, ready_walkable, ready_octave}
 use Rattle.pergen.specs.Pergen.{cycles}
-use Rattle.pergen.specs.Parts.{solvedOf, Walkable}
+use Rattle.pergen.specs.Parts.{solved_of, Walkable}
 use Rattle.pergen.proofs.Inverse.{numbers}
 use Rattle.layout_book.proofs.NameBounds as Bounds
 
@@ -15,16 +15,16 @@ pub record Numbers (p : Prepared) : Type 0 where
   pub ready : Ready p
   pub five : 5 ≤ p.found.num_letters
   pub nine : p.found.num_letters ≤ 9
-  pub start-below : p.found.start < p.found.num_letters
+  pub start_below : p.found.start < p.found.num_letters
   pub enough : p.found.num_letters ≤ p.solved.reduced_period
   pub walkable : Walkable p.solved
-  pub octave-is : p.found.octave ≡ p.solved.reduced_period * p.solved.num_cycles
-  pub few-keys : p.found.octave ≤ 65535
-  pub few-degrees : p.solved.reduced_period ≤ 65535
-  pub few-cycles : p.solved.num_cycles ≤ 13107
+  pub octave_is : p.found.octave ≡ p.solved.reduced_period * p.solved.num_cycles
+  pub few_keys : p.found.octave ≤ 65535
+  pub few_degrees : p.solved.reduced_period ≤ 65535
+  pub few_cycles : p.solved.num_cycles ≤ 13107
   -- the inverse has a partner, the steps of a generator: so each degree comes once in an octave
   pub partner : ℕ
-  pub partner-is : p.solved.generator_inverse * partner % p.solved.reduced_period ≡ 1 % p.solved.reduced_period
+  pub partner_is : p.solved.generator_inverse * partner % p.solved.reduced_period ≡ 1 % p.solved.reduced_period
 
 module _ (p : Prepared) (h : Ready p) (small : p.found.octave ≤ 65535) where
   abbrev P : ℕ
@@ -33,26 +33,26 @@ module _ (p : Prepared) (h : Ready p) (small : p.found.octave ≤ 65535) where
   abbrev G : ℕ
   G = p.found.generator
 
-  parts : Parts (layoutIn p)
-  parts = parts-ready p h
+  parts : Parts (layout_in p)
+  parts = parts_ready p h
 
-  shape : PatternShape (layoutIn p)
-  shape = pattern-shape (layoutIn p) parts
+  shape : PatternShape (layout_in p)
+  shape = pattern_shape (layout_in p) parts
 
-  pub ready-numbers : Numbers p
-  unfolding solvedOf
-  ready-numbers =
+  pub ready_numbers : Numbers p
+  unfolding solved_of
+  ready_numbers =
       record {
         ready = h;
-        five = shape.at-least-five;
-        nine = shape.at-most-nine;
-        start-below = shape.start-below;
-        enough = rw h.solved-is shape.enough-keys;
-        walkable = ready-walkable p h;
-        octave-is = ready-octave p h;
-        few-keys = small;
-        few-degrees = rw h.solved-is (Bounds.few-degrees (layoutIn p) parts small);
-        few-cycles = rw h.solved-is (Bounds.few-cycles (layoutIn p) parts small);
+        five = shape.at_least_five;
+        nine = shape.at_most_nine;
+        start_below = shape.start_below;
+        enough = rw h.solved_is shape.enough_keys;
+        walkable = ready_walkable p h;
+        octave_is = ready_octave p h;
+        few_keys = small;
+        few_degrees = rw h.solved_is (Bounds.few_degrees (layout_in p) parts small);
+        few_cycles = rw h.solved_is (Bounds.few_cycles (layout_in p) parts small);
         partner = G / cycles P G;
-        partner-is = rw h.solved-is (numbers P G parts.positive).one;
+        partner_is = rw h.solved_is (numbers P G parts.positive).one;
       }

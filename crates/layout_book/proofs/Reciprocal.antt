@@ -45,11 +45,11 @@ module _ (n x : ℕ) (some : 0 < n) (few : n ≤ 9) (small : x ≤ 65535) where
       let a : w * n ≤ w * 9 = mul-le-mul {n₂ = w} {m₂ = 9} (le_refl w) few in
       omega (arith, a, whole_is, mod-lt whole some)
 
-  left-small : q * left ≤ q * n
-  left-small = mul-le-mul {n₂ = q} {m₂ = n} (le_refl q) (let a : left ≤ n = omega (arith, mod-lt whole some) in a)
+  left_small : q * left ≤ q * n
+  left_small = mul-le-mul {n₂ = q} {m₂ = n} (le_refl q) (let a : left ≤ n = omega (arith, mod-lt whole some) in a)
 
-  rest-small : q * n + r * (w + 1) - q * left < whole
-  rest-small =
+  rest_small : q * n + r * (w + 1) - q * left < whole
+  rest_small =
       let a : (r + 1) * (w + 1) ≤ n * (w + 1) = mul-le-mul {n₂ = n} {m₂ = w + 1} (let b : r + 1 ≤ n = omega (arith, mod-lt x some) in b) (le_refl (w + 1)) in
       omega (
         arith,
@@ -68,8 +68,8 @@ module _ (n x : ℕ) (some : 0 < n) (few : n ≤ 9) (small : x ≤ 65535) where
 
   pub quotient_by : x * (w + 1) / whole ≡ x / n
   quotient_by =
-      ap (λ (y : ℕ). y / whole) (let e : x * (w + 1) ≡ q * whole + (q * n + r * (w + 1) - q * left) = omega (arith, product, left-small) in e)
-      ∙ digits_div q rest-small
+      ap (λ (y : ℕ). y / whole) (let e : x * (w + 1) ≡ q * whole + (q * n + r * (w + 1) - q * left) = omega (arith, product, left_small) in e)
+      ∙ digits_div q rest_small
 
   -- and the product fits 64 bits
   pub product_small : x * (w + 1) ≤ 65535 * 2147483649

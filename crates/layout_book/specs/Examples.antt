@@ -3,11 +3,11 @@ use Rattle.std.specs.Prelude.{ℕ, List, [], ◌∷◌, map, ◌≡◌}
 use Rattle.answer.specs.Outcome.{Outcome, given, refused}
 use Rattle.layout.specs.declared.IsomorphicLayout.{IsomorphicLayout}
 use Rattle.layout.specs.Examples.{layout}
-use Rattle.layout_book.specs.LayoutBooks.{getBook}
+use Rattle.layout_book.specs.LayoutBooks.{get_book}
 
 -- Five letters: D E G A C. The count, five pairs, the text.
-abbrev pub fiveKeys : List ℕ
-fiveKeys =
+abbrev pub five_keys : List ℕ
+five_keys =
     5 ∷ 0 ∷ 0 ∷ 0
     ∷ 44 ∷ 0 ∷ 0 ∷ 0 ∷ 1 ∷ 0 ∷ 0 ∷ 0
     ∷ 45 ∷ 0 ∷ 0 ∷ 0 ∷ 1 ∷ 0 ∷ 0 ∷ 0
@@ -17,8 +17,8 @@ fiveKeys =
     ∷ 68 ∷ 69 ∷ 71 ∷ 65 ∷ 67 ∷ []
 
 -- Seven keys: D E E+/G- G A A+/C- C.
-abbrev pub sevenKeys : List ℕ
-sevenKeys =
+abbrev pub seven_keys : List ℕ
+seven_keys =
     7 ∷ 0 ∷ 0 ∷ 0
     ∷ 60 ∷ 0 ∷ 0 ∷ 0 ∷ 1 ∷ 0 ∷ 0 ∷ 0
     ∷ 61 ∷ 0 ∷ 0 ∷ 0 ∷ 1 ∷ 0 ∷ 0 ∷ 0
@@ -33,8 +33,8 @@ abbrev pub layouts : List IsomorphicLayout
 layouts = layout 2 5 8 ∷ layout 2 7 11 ∷ layout 6 5 8 ∷ layout 2 0 8 ∷ layout 2 5 3 ∷ layout 0 12 19 ∷ []
 
 abbrev pub books : List (Outcome (List ℕ))
-books = given fiveKeys ∷ given sevenKeys ∷ refused 1 ∷ refused 2 ∷ refused 3 ∷ refused 4 ∷ []
+books = given five_keys ∷ given seven_keys ∷ refused 1 ∷ refused 2 ∷ refused 3 ∷ refused 4 ∷ []
 
 -- Theorem: each layout has the book, or the refusal, that stands at its place.
 abbrev pub ExamplesHold : Type 0
-ExamplesHold = map getBook layouts ≡ books
+ExamplesHold = map get_book layouts ≡ books

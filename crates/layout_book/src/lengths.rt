@@ -4,16 +4,16 @@
 // The length is taken along the chain, in whole rounds through the letters where it can be.
 ghost use Rattle.std.specs.Prelude.{◌≡◌, ◌+◌, ◌*◌, ◌-◌, ◌/◌, ◌%◌, ◌<◌, ◌≤◌, length};
 ghost use Rattle.text.specs.Writing.{joined};
-ghost use Rattle.genchain.specs.Chains.{chainOf, row_of, TableRow, lettersIn};
+ghost use Rattle.genchain.specs.Chains.{chain_of, row_of, TableRow, letters_in};
 ghost use Rattle.layout.specs.Parts.{Ready};
 ghost use Rattle.pergen.specs.Pergen.{shown};
 ghost use Rattle.pergen.specs.Parts.{Walkable};
 ghost use Rattle.layout_book.specs.Parts.{
   SpelledPlanned,
-  bareAt,
+  bare_at,
   Stretch,
-  stretchName,
-  letterIn,
+  stretch_name,
+  letter_in,
   NamesMeasured,
 };
 
@@ -27,7 +27,7 @@ use pergen::{Accidentals, Cycle, stepping};
 // How many bytes the letters of a chain have together.
 fn letters_length(row: ChainRow) -> usize
     requires { TableRow row }
-    ensures { (result ≡ length (joined (letterIn (lettersIn row)) row.num_letters)) × (result ≤ 18) }
+    ensures { (result ≡ length (joined (letter_in (letters_in row)) row.num_letters)) × (result ≤ 18) }
 {
     let letters = row.letters;
     let mut total: usize = 0;
@@ -74,7 +74,7 @@ pub(crate) fn first_cycle(solved: Solved) -> Cycle
 
 // The plan of a name by its spellings.
 pub(crate) fn plan_spelled(prepared: Prepared, row: ChainRow, spelled: Accidentals) -> NamePlan
-    requires { (row ≡ row_of (chainOf prepared.found.chain)) × Ready prepared }
+    requires { (row ≡ row_of (chain_of prepared.found.chain)) × Ready prepared }
     ensures { SpelledPlanned prepared spelled result }
 {
     let pattern = prepared.found.pattern;
@@ -84,8 +84,8 @@ pub(crate) fn plan_spelled(prepared: Prepared, row: ChainRow, spelled: Accidenta
 // How many bytes the names without stars have together, along the chain from a place with the first letter and `sharps` sharps
 // up to another. Indices and counts are carried from place to place.
 fn stretch_length(prepared: Prepared, row: ChainRow, sharps: u16, end: u16) -> usize
-    requires { (row ≡ row_of (chainOf prepared.found.chain)) × Ready prepared × Stretch prepared sharps end }
-    ensures { (result ≡ length (joined (stretchName prepared sharps) (end - prepared.found.num_letters * sharps))) × (result ≤ 39325 * 65535) }
+    requires { (row ≡ row_of (chain_of prepared.found.chain)) × Ready prepared × Stretch prepared sharps end }
+    ensures { (result ≡ length (joined (stretch_name prepared sharps) (end - prepared.found.num_letters * sharps))) × (result ≤ 39325 * 65535) }
 {
     let letters = prepared.found.num_letters;
     let cycle = first_cycle(prepared.solved);
@@ -126,8 +126,8 @@ fn rounds_of(letters: u16, degrees: u16) -> u16
 // two sharps and so on, and from the other end rounds with one flat, two flats and so on, each as long as the letters and their
 // signs; only the names in the middle, less than two rounds, are looked at one by one.
 fn bare_length(prepared: Prepared, row: ChainRow) -> usize
-    requires { (row ≡ row_of (chainOf prepared.found.chain)) × Ready prepared }
-    ensures { result ≡ length (joined (bareAt prepared) prepared.solved.reduced_period) }
+    requires { (row ≡ row_of (chain_of prepared.found.chain)) × Ready prepared }
+    ensures { result ≡ length (joined (bare_at prepared) prepared.solved.reduced_period) }
 {
     let letters = prepared.found.num_letters;
     let degrees = prepared.solved.reduced_period;
@@ -141,7 +141,7 @@ fn bare_length(prepared: Prepared, row: ChainRow) -> usize
 
 // How many bytes the names of an octave's keys have together: in each cycle the bare names, and a star for each cycle before it.
 pub fn names_length(prepared: Prepared, row: ChainRow) -> usize
-    requires { (row ≡ row_of (chainOf prepared.found.chain)) × Ready prepared }
+    requires { (row ≡ row_of (chain_of prepared.found.chain)) × Ready prepared }
     ensures { NamesMeasured prepared result }
 {
     let cycles = prepared.solved.num_cycles as usize;

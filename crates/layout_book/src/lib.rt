@@ -5,13 +5,15 @@
 // and that a written book is read back, name for name.
 // `parts` plans each degree's name once; `lengths` measures an octave's names together, for the book and for the key table. Every entry
 // point answers every input. Nothing is assumed.
+#![tactic(auto)]
+
 pub mod lengths;
 pub mod parts;
 
 ghost use Rattle.std.specs.Prelude.{◌≡◌, length};
-ghost use Rattle.answer.specs.Lent.{inRoom, counted, Filled};
-ghost use Rattle.answer.specs.Refusals.{countOutcome};
-ghost use Rattle.layout_book.specs.LayoutBooks.{getBook};
+ghost use Rattle.answer.specs.Lent.{in_room, counted, Filled};
+ghost use Rattle.answer.specs.Refusals.{count_outcome};
+ghost use Rattle.layout_book.specs.LayoutBooks.{get_book};
 
 use answer::CountAnswer;
 use genchain::rows;
@@ -20,7 +22,7 @@ use layout::{IsomorphicLayout, prepared};
 
 // How many bytes the book of a layout's key names has (1, 2, 3, 4, 18).
 pub fn book_len(layout: IsomorphicLayout) -> CountAnswer
-    ensures { countOutcome result ≡ counted (getBook layout) }
+    ensures { count_outcome result ≡ counted (get_book layout) }
 {
     let row = rows::row(layout.genchain);
     match layout::parts::ask_with_row(layout, row) {
@@ -33,7 +35,7 @@ pub fn book_len(layout: IsomorphicLayout) -> CountAnswer
 
 // The book of the names of an octave's keys, which `book` looks a key up in (1, 2, 3, 4, 18, 10).
 pub fn write_book(layout: IsomorphicLayout, out: &mut [u8]) -> CountAnswer
-    ensures { Filled (inRoom (length out.old) (getBook layout)) (countOutcome result) out.old out.new }
+    ensures { Filled (in_room (length out.old) (get_book layout)) (count_outcome result) out.old out.new }
 {
     let row = rows::row(layout.genchain);
     match layout::parts::ask_with_row(layout, row) {

@@ -3,20 +3,20 @@
 //
 // The names are written turn by turn, each degree's planned once for all cycles.
 ghost use Rattle.std.specs.Prelude.{◌≡◌, ◌+◌, ◌*◌, ◌/◌, ◌<◌, ◌≤◌, length};
-ghost use Rattle.answer.specs.Lent.{heldIn, Filled};
-ghost use Rattle.answer.specs.Refusals.{countOutcome};
+ghost use Rattle.answer.specs.Lent.{held_in, Filled};
+ghost use Rattle.answer.specs.Refusals.{count_outcome};
 ghost use Rattle.text.specs.Writing.{Room, Wrote, joined};
-ghost use Rattle.genchain.specs.Chains.{chainOf, row_of};
-ghost use Rattle.layout.specs.Parts.{layoutIn, Ready};
-ghost use Rattle.notes.specs.Parts.{starredText, ShortLetters};
-ghost use Rattle.pergen.specs.Spelling.{byCoordinates};
-ghost use Rattle.layout_book.specs.LayoutBooks.{bookIn};
+ghost use Rattle.genchain.specs.Chains.{chain_of, row_of};
+ghost use Rattle.layout.specs.Parts.{layout_in, Ready};
+ghost use Rattle.notes.specs.Parts.{starred_text, ShortLetters};
+ghost use Rattle.pergen.specs.Spelling.{by_coordinates};
+ghost use Rattle.layout_book.specs.LayoutBooks.{book_in};
 ghost use Rattle.layout_book.specs.Parts.{
-  flatBeside,
-  numbersText,
-  entriesIn,
+  flat_beside,
+  numbers_text,
+  entries_in,
   Reciprocal,
-  starredPair,
+  starred_pair,
   CyclesFit,
   Beside,
 };
@@ -32,16 +32,16 @@ use text::little_endian::put_u32;
 
 // How many bytes the book of an octave's keys has.
 pub(crate) fn book_length(prepared: Prepared, row: ChainRow) -> usize
-    requires { (row ≡ row_of (chainOf prepared.found.chain)) × Ready prepared }
-    ensures { result ≡ length (bookIn (layoutIn prepared)) }
+    requires { (row ≡ row_of (chain_of prepared.found.chain)) × Ready prepared }
+    ensures { result ≡ length (book_in (layout_in prepared)) }
 {
     4 + 8 * (prepared.found.octave as usize) + lengths::names_length(prepared, row)
 }
 
 // An offset and a length; the place after them.
 fn put_pair(out: &mut [u8], at: usize, offset: u32, bytes: u32) -> usize
-    requires { Room out.old at (numbersText offset bytes) }
-    ensures { Wrote out.old at (numbersText offset bytes) out.new result }
+    requires { Room out.old at (numbers_text offset bytes) }
+    ensures { Wrote out.old at (numbers_text offset bytes) out.new result }
 {
     let next = put_u32(out, at, offset);
     put_u32(out, next, bytes)
@@ -51,7 +51,7 @@ fn put_pair(out: &mut [u8], at: usize, offset: u32, bytes: u32) -> usize
 // The place after the last name.
 fn put_cycles(out: &mut [u8], plan: NamePlan, cycles: u16, pair: usize, text: usize) -> usize
     requires { ShortLetters plan × CyclesFit out.old plan cycles pair text }
-    ensures { Beside out.old pair (joined (starredPair plan text) cycles) text (joined (starredText plan) cycles) out.new (pair + 8 * cycles) result }
+    ensures { Beside out.old pair (joined (starred_pair plan text) cycles) text (joined (starred_text plan) cycles) out.new (pair + 8 * cycles) result }
 {
     let mut front = pair;
     let mut behind = text;
@@ -82,7 +82,7 @@ fn spelled_place(
     place: u16,
 ) -> Accidentals
     requires { Reciprocal letters reciprocal × (letters ≤ degrees) × (place < degrees) }
-    ensures { result ≡ byCoordinates cycle letters place (flatBeside degrees letters place) }
+    ensures { result ≡ by_coordinates cycle letters place (flat_beside degrees letters place) }
 {
     if place < letters {
         return Accidentals {
@@ -108,8 +108,8 @@ fn spelled_place(
 // The pairs and the names of an octave's keys, side by side. A degree's name is planned once for all cycles; its place along the
 // chain is carried from turn to turn. The place after the last name.
 fn put_entries(out: &mut [u8], prepared: Prepared, row: ChainRow) -> usize
-    requires { (row ≡ row_of (chainOf prepared.found.chain)) × Ready prepared × Room out.old 4 (entriesIn (layoutIn prepared)) }
-    ensures { Wrote out.old 4 (entriesIn (layoutIn prepared)) out.new result }
+    requires { (row ≡ row_of (chain_of prepared.found.chain)) × Ready prepared × Room out.old 4 (entries_in (layout_in prepared)) }
+    ensures { Wrote out.old 4 (entries_in (layout_in prepared)) out.new result }
 {
     let found = prepared.found;
     let solved = prepared.solved;
@@ -135,8 +135,8 @@ fn put_entries(out: &mut [u8], prepared: Prepared, row: ChainRow) -> usize
 
 // The count, the pairs and the names of an octave's keys; the place after them.
 fn put_book(out: &mut [u8], prepared: Prepared, row: ChainRow) -> usize
-    requires { (row ≡ row_of (chainOf prepared.found.chain)) × Ready prepared × Room out.old 0 (bookIn (layoutIn prepared)) }
-    ensures { Wrote out.old 0 (bookIn (layoutIn prepared)) out.new result }
+    requires { (row ≡ row_of (chain_of prepared.found.chain)) × Ready prepared × Room out.old 0 (book_in (layout_in prepared)) }
+    ensures { Wrote out.old 0 (book_in (layout_in prepared)) out.new result }
 {
     put_u32(out, 0, prepared.found.octave as u32);
     put_entries(out, prepared, row)
@@ -144,8 +144,8 @@ fn put_book(out: &mut [u8], prepared: Prepared, row: ChainRow) -> usize
 
 // The book of an octave's keys at the front of a slice that holds it (10).
 pub(crate) fn write_names(prepared: Prepared, row: ChainRow, out: &mut [u8]) -> CountAnswer
-    requires { (row ≡ row_of (chainOf prepared.found.chain)) × Ready prepared }
-    ensures { Filled (heldIn (length out.old) (bookIn (layoutIn prepared))) (countOutcome result) out.old out.new }
+    requires { (row ≡ row_of (chain_of prepared.found.chain)) × Ready prepared }
+    ensures { Filled (held_in (length out.old) (book_in (layout_in prepared))) (count_outcome result) out.old out.new }
 {
     let bytes = book_length(prepared, row);
     if out.len() < bytes {

@@ -2,51 +2,51 @@
 -- the second, then the explanation, or its text.
 use Rattle.std.specs.Prelude.{List, ℕ, ◌+◌, ◌≤◌, ◌<◌, ◌^◌, ◌≡◌, ltb, length}
 use Rattle.answer.specs.Outcome.{Outcome, given, refused, ask, and_then}
-use Rattle.answer.specs.Refusals.{number_of, countOutcome}
+use Rattle.answer.specs.Refusals.{number_of, count_outcome}
 use Rattle.answer.specs.Lent.{counted}
 use Rattle.answer.specs.declared.CountAnswer.{CountAnswer}
 use Rattle.answer.specs.declared.CountAnswer.TheVariants as Count
 use Rattle.pergen.specs.Pergen.{cycles}
 use Rattle.pergen.specs.declared.Spelling.{Spelling}
-use Rattle.layout.specs.Layouts.{Layout, layoutOutcome, cyclesIn}
-use Rattle.layout.specs.Answers.{ofLayout}
+use Rattle.layout.specs.Layouts.{Layout, layout_outcome, cycles_in}
+use Rattle.layout.specs.Answers.{of_layout}
 use Rattle.layout.specs.declared.IsomorphicLayout.{IsomorphicLayout}
-use Rattle.layout_reading.specs.Answers.{typedIn}
-use Rattle.layout_explaining.specs.Explanations.{explanationOf}
-use Rattle.layout_explaining.specs.Sentences.{explanationText}
+use Rattle.layout_reading.specs.Answers.{typed_in}
+use Rattle.layout_explaining.specs.Explanations.{explanation_of}
+use Rattle.layout_explaining.specs.Sentences.{explanation_text}
 use Rattle.layout_explaining.specs.declared.Explanation.{Explanation}
 use Rattle.layout_explaining.specs.declared.ExplanationAnswer.{ExplanationAnswer}
 use Rattle.layout_explaining.specs.declared.ExplanationAnswer.TheVariants as ExplanationAnswer
 
 -- 21. Are the stars below the cycles? Of the first spelling, then of the second.
-unfoldable pub comparedIn : Layout → Spelling → Spelling → Outcome Explanation
-unfolding cycles explanationOf
-comparedIn l x y =
-    ask 21 (ltb x.stars (cyclesIn l)) (ask 21 (ltb y.stars (cyclesIn l)) (given (explanationOf l x y)))
+unfoldable pub compared_in : Layout → Spelling → Spelling → Outcome Explanation
+unfolding cycles explanation_of
+compared_in l x y =
+    ask 21 (ltb x.stars (cycles_in l)) (ask 21 (ltb y.stars (cycles_in l)) (given (explanation_of l x y)))
 
 -- 23. Is the text a spelling's? Of the first text, then of the second.
-unfoldable pub explainedIn : Layout → (first second : List ℕ) → Outcome Explanation
-unfolding typedIn comparedIn
-explainedIn l first second =
-    and_then (typedIn l first) (λ (x : Spelling). and_then (typedIn l second) (λ (y : Spelling). comparedIn l x y))
+unfoldable pub explained_in : Layout → (first second : List ℕ) → Outcome Explanation
+unfolding typed_in compared_in
+explained_in l first second =
+    and_then (typed_in l first) (λ (x : Spelling). and_then (typed_in l second) (λ (y : Spelling). compared_in l x y))
 
-unfoldable pub getExplanation : IsomorphicLayout → (first second : List ℕ) → Outcome Explanation
-unfolding layoutOutcome explainedIn
-getExplanation r first second = ofLayout r (λ (l : Layout). explainedIn l first second)
+unfoldable pub get_explanation : IsomorphicLayout → (first second : List ℕ) → Outcome Explanation
+unfolding layout_outcome explained_in
+get_explanation r first second = of_layout r (λ (l : Layout). explained_in l first second)
 
 -- The same questions, then the explanation in words.
-unfoldable pub toldIn : Layout → (first second : List ℕ) → Outcome (List ℕ)
-unfolding explainedIn explanationText
-toldIn l first second = and_then (explainedIn l first second) (λ (e : Explanation). given (explanationText l first second e))
+unfoldable pub told_in : Layout → (first second : List ℕ) → Outcome (List ℕ)
+unfolding explained_in explanation_text
+told_in l first second = and_then (explained_in l first second) (λ (e : Explanation). given (explanation_text l first second e))
 
-unfoldable pub getExplanationText : IsomorphicLayout → (first second : List ℕ) → Outcome (List ℕ)
-unfolding layoutOutcome toldIn
-getExplanationText r first second = ofLayout r (λ (l : Layout). toldIn l first second)
+unfoldable pub get_explanation_text : IsomorphicLayout → (first second : List ℕ) → Outcome (List ℕ)
+unfolding layout_outcome told_in
+get_explanation_text r first second = of_layout r (λ (l : Layout). told_in l first second)
 
 -- What an answer means.
-abbrev pub explanationOutcome : ExplanationAnswer → Outcome Explanation
-explanationOutcome (ExplanationAnswer.Given e) = given e
-explanationOutcome (ExplanationAnswer.Refused q) = refused (number_of q)
+abbrev pub explanation_outcome : ExplanationAnswer → Outcome Explanation
+explanation_outcome (ExplanationAnswer.Given e) = given e
+explanation_outcome (ExplanationAnswer.Refused q) = refused (number_of q)
 
 -- How long the words can be: beside the two texts they have at most 600 bytes, and 64 signed bits hold the number of all.
 pub record ShortWords (first second : List ℕ) (n : ℕ) : Type 0 where
@@ -59,5 +59,5 @@ ShortAnswer first second (Count.Refused q) = Unit {0}
 
 -- What the call that tells the length promises.
 pub record LengthTold (r : IsomorphicLayout) (first second : List ℕ) (a : CountAnswer) : Type 0 where
-  pub answered : countOutcome a ≡ counted (getExplanationText r first second)
+  pub answered : count_outcome a ≡ counted (get_explanation_text r first second)
   pub short : ShortAnswer first second a

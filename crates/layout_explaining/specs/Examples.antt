@@ -3,7 +3,7 @@ use Rattle.std.specs.Prelude.{ℕ, List, [], ◌∷◌, map, ◌≡◌, ℤ, pos
 use Rattle.answer.specs.Outcome.{Outcome, given, refused}
 use Rattle.layout.specs.Examples.{layout, beginning}
 use Rattle.layout.specs.declared.IsomorphicLayout.{IsomorphicLayout}
-use Rattle.layout_explaining.specs.Answers.{getExplanation, getExplanationText}
+use Rattle.layout_explaining.specs.Answers.{get_explanation, get_explanation_text}
 use Rattle.layout_explaining.specs.declared.Standing.{Standing}
 use Rattle.layout_explaining.specs.declared.Verdict.{Verdict}
 use Rattle.layout_explaining.specs.declared.Verdict.TheVariants.{OneKey, OneChain, TwoChains}
@@ -22,8 +22,8 @@ pub record NumbersExample : Type 0 where
   pub second : List ℕ
   pub outcome : Outcome Explanation
 
-abbrev pub numbersExamples : List NumbersExample
-numbersExamples =
+abbrev pub numbers_examples : List NumbersExample
+numbers_examples =
     record { layout = layout 1 12 19; first = 70 ∷ 35 ∷ []; second = 71 ∷ 98 ∷ []; outcome = given (explanation (stands (pos 4) 0 4) (stands (negsuc 7) 0 4) 12 12 OneKey) }  -- F#, Gb
     ∷ record { layout = layout 1 31 49; first = 70 ∷ 35 ∷ []; second = 71 ∷ 98 ∷ []; outcome = given (explanation (stands (pos 4) 0 10) (stands (negsuc 7) 0 11) 12 31 OneChain) }  -- F#, Gb
     ∷ record { layout = layout 1 24 38; first = 70 ∷ 35 ∷ 42 ∷ []; second = 70 ∷ 35 ∷ []; outcome = given (explanation (stands (pos 4) 1 9) (stands (pos 4) 0 8) 0 12 TwoChains) }  -- F#*, F#
@@ -46,8 +46,8 @@ pub record TextExample : Type 0 where
   pub second : List ℕ
   pub text : List ℕ
 
-abbrev pub textExamples : List TextExample
-textExamples =
+abbrev pub text_examples : List TextExample
+text_examples =
     record {
       layout = layout 1 12 19;
       first = 70 ∷ 35 ∷ [];
@@ -278,7 +278,7 @@ textExamples =
 
 -- Theorem.
 pub record ExamplesHold : Type 0 where
-  pub numbers : map (λ (e : NumbersExample). getExplanation e.layout e.first e.second) numbersExamples
-      ≡ map (λ (e : NumbersExample). e.outcome) numbersExamples
-  pub texts : map (λ (e : TextExample). getExplanationText e.layout e.first e.second) textExamples
-      ≡ map (λ (e : TextExample). given e.text) textExamples
+  pub numbers : map (λ (e : NumbersExample). get_explanation e.layout e.first e.second) numbers_examples
+      ≡ map (λ (e : NumbersExample). e.outcome) numbers_examples
+  pub texts : map (λ (e : TextExample). get_explanation_text e.layout e.first e.second) text_examples
+      ≡ map (λ (e : TextExample). given e.text) text_examples

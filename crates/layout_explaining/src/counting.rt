@@ -1,10 +1,10 @@
 // The numbers of an explanation: parts, and no entry points. Callers have asked questions 1 to 4 and 18, and those of both spellings.
 ghost use Rattle.std.specs.Prelude.{◌≡◌, ◌<◌, pos, ◌-ℤ◌};
 ghost use Rattle.pergen.specs.Parts.{SidesOf, SmallSides};
-ghost use Rattle.layout.specs.Layouts.{cyclesIn};
+ghost use Rattle.layout.specs.Layouts.{cycles_in};
 ghost use Rattle.layout.specs.Parts.{layout_of, Laid};
-ghost use Rattle.layout_explaining.specs.Explanations.{standingOf, verdictBy, explanationOf};
-ghost use Rattle.layout_explaining.specs.Parts.{betweenSides};
+ghost use Rattle.layout_explaining.specs.Explanations.{standing_of, verdict_by, explanation_of};
+ghost use Rattle.layout_explaining.specs.Parts.{between_sides};
 
 use crate::{Explanation, Standing, Verdict};
 use layout::parts::Found;
@@ -22,7 +22,7 @@ fn place_of(sides: Sides) -> i64
 // How far apart two places are.
 fn between(one: Sides, other: Sides) -> u64
     requires { SmallSides one × SmallSides other }
-    ensures { result ≡ betweenSides one other }
+    ensures { result ≡ between_sides one other }
 {
     let up = one.above + other.below;
     let down = one.below + other.above;
@@ -46,7 +46,7 @@ fn sides_in(found: Found, spelling: Spelling) -> Sides
 // Where a spelling stands.
 fn standing(found: Found, spelling: Spelling, sides: Sides) -> Standing
     requires { Laid (layout_of found) × SidesOf found.num_letters found.start spelling sides }
-    ensures { result ≡ standingOf (layout_of found) spelling }
+    ensures { result ≡ standing_of (layout_of found) spelling }
 {
     let pergen = PerGen {
         period: found.octave,
@@ -62,7 +62,7 @@ fn standing(found: Found, spelling: Spelling, sides: Sides) -> Standing
 // What follows from stars, distance and reduced period.
 fn verdict(one: u16, other: u16, apart: u64, reduced_period: u16) -> Verdict
     requires { 0 < reduced_period }
-    ensures { result ≡ verdictBy one other apart reduced_period }
+    ensures { result ≡ verdict_by one other apart reduced_period }
 {
     if one != other {
         return Verdict::TwoChains;
@@ -75,8 +75,8 @@ fn verdict(one: u16, other: u16, apart: u64, reduced_period: u16) -> Verdict
 
 // The explanation of two spellings, in a layout with so many cycles.
 pub(crate) fn explanation(found: Found, cycles: u16, one: Spelling, other: Spelling) -> Explanation
-    requires { Laid (layout_of found) × (cycles ≡ cyclesIn (layout_of found)) }
-    ensures { result ≡ explanationOf (layout_of found) one other }
+    requires { Laid (layout_of found) × (cycles ≡ cycles_in (layout_of found)) }
+    ensures { result ≡ explanation_of (layout_of found) one other }
 {
     let reduced_period = found.octave / cycles;
     let first = sides_in(found, one);

@@ -4,19 +4,21 @@
 // and after how many places the chain comes round, as numbers and as three sentences for a class. The texts are read by `layout_reading`.
 // specs/: Explanations and Sentences define, Answers says what each call answers, Theorems and Examples state what holds.
 // Every entry point answers every input; `typed`, `counting` and `sentences` ask for more, as their heads say. Nothing is assumed.
+#![tactic(auto)]
+
 mod counting;
 mod sentences;
 mod typed;
 
 ghost use Rattle.std.specs.Prelude.{◌≡◌, length};
-ghost use Rattle.answer.specs.Lent.{inRoom, counted, Filled};
-ghost use Rattle.answer.specs.Refusals.{countOutcome};
+ghost use Rattle.answer.specs.Lent.{in_room, counted, Filled};
+ghost use Rattle.answer.specs.Refusals.{count_outcome};
 ghost use Rattle.layout.specs.Parts.{layout_of};
 ghost use Rattle.layout_explaining.specs.Answers.{
-  explanationOutcome,
-  getExplanation,
-  toldIn,
-  getExplanationText,
+  explanation_outcome,
+  get_explanation,
+  told_in,
+  get_explanation_text,
   ShortAnswer,
   LengthTold,
 };
@@ -65,7 +67,7 @@ pub enum ExplanationAnswer {
 
 // Why two spellings, typed as texts, are one key or two (1, 2, 3, 4, 18, of the first text and of the second 23, then 21).
 pub fn explain(layout: IsomorphicLayout, first: &[u8], second: &[u8]) -> ExplanationAnswer
-    ensures { explanationOutcome result ≡ getExplanation layout first.now second.now }
+    ensures { explanation_outcome result ≡ get_explanation layout first.now second.now }
 {
     let row = rows::row(layout.genchain);
     match layout::parts::ask_with_row(layout, row) {
@@ -77,7 +79,7 @@ pub fn explain(layout: IsomorphicLayout, first: &[u8], second: &[u8]) -> Explana
 // How many bytes the text has, in a layout that was found.
 fn told_len(row: ChainRow, found: Found, first: &[u8], second: &[u8]) -> CountAnswer
     requires { Asked row found }
-    ensures { (countOutcome result ≡ counted (toldIn (layout_of found) first.now second.now)) × ShortAnswer first.now second.now result }
+    ensures { (count_outcome result ≡ counted (told_in (layout_of found) first.now second.now)) × ShortAnswer first.now second.now result }
 {
     let letter = plans::letter_at(row, found.start);
     match typed::explained(row, found, first, second) {
@@ -96,7 +98,7 @@ fn told_len(row: ChainRow, found: Found, first: &[u8], second: &[u8]) -> CountAn
 // The text at the front of a slice that holds it, in a layout that was found.
 fn tell(row: ChainRow, found: Found, first: &[u8], second: &[u8], out: &mut [u8]) -> CountAnswer
     requires { Asked row found }
-    ensures { Filled (inRoom (length out.old) (toldIn (layout_of found) first.now second.now)) (countOutcome result) out.old out.new }
+    ensures { Filled (in_room (length out.old) (told_in (layout_of found) first.now second.now)) (count_outcome result) out.old out.new }
 {
     let letter = plans::letter_at(row, found.start);
     match typed::explained(row, found, first, second) {
@@ -120,7 +122,7 @@ pub fn explain_text(
     second: &[u8],
     out: &mut [u8],
 ) -> CountAnswer
-    ensures { Filled (inRoom (length out.old) (getExplanationText layout first.now second.now)) (countOutcome result) out.old out.new }
+    ensures { Filled (in_room (length out.old) (get_explanation_text layout first.now second.now)) (count_outcome result) out.old out.new }
 {
     let row = rows::row(layout.genchain);
     match layout::parts::ask_with_row(layout, row) {

@@ -1,32 +1,32 @@
 // The explanation in words: parts, and no entry points. What writes asks for so many bytes that its text has room, whatever the numbers
 // are: a number of 64 bits has at most 20 digits.
 ghost use Rattle.std.specs.Prelude.{◌+◌, ◌≤◌, ◌<◌, ◌≡◌, length};
-ghost use Rattle.answer.specs.Lent.{heldIn, Filled};
-ghost use Rattle.answer.specs.Refusals.{countOutcome};
-ghost use Rattle.notes.specs.Names.{letterText};
+ghost use Rattle.answer.specs.Lent.{held_in, Filled};
+ghost use Rattle.answer.specs.Refusals.{count_outcome};
+ghost use Rattle.notes.specs.Names.{letter_text};
 ghost use Rattle.text.specs.Decimal.{digits};
 ghost use Rattle.text.specs.Writing.{Room, Wrote};
 ghost use Rattle.layout_explaining.specs.declared.Verdict.TheVariants.{OneKey, OneChain};
 ghost use Rattle.layout_explaining.specs.Sentences.{
   numbered,
   plural,
-  wayText,
-  starsText,
-  raisedText,
-  whereText,
-  productText,
-  keyText,
-  movedText,
-  homeText,
-  placedText,
-  apartText,
-  timesText,
-  roundText,
-  verdictText,
+  way_text,
+  stars_text,
+  raised_text,
+  where_text,
+  product_text,
+  key_text,
+  moved_text,
+  home_text,
+  placed_text,
+  apart_text,
+  times_text,
+  round_text,
+  verdict_text,
   sentences,
 };
 ghost use Rattle.layout_explaining.specs.Answers.{ShortWords};
-ghost use Rattle.layout_explaining.specs.Parts.{restText, Telling};
+ghost use Rattle.layout_explaining.specs.Parts.{rest_text, Telling};
 
 use crate::{Explanation, Standing, Verdict};
 use answer::{CountAnswer, Refusal};
@@ -69,7 +69,7 @@ fn put_plural(out: &mut [u8], at: usize, n: u64) -> usize
 // Up or down.
 fn put_way(out: &mut [u8], at: usize, up: bool) -> usize
     requires { at + 5 ≤ length out.old }
-    ensures { Wrote out.old at (wayText up) out.new result × (result ≤ at + 5) }
+    ensures { Wrote out.old at (way_text up) out.new result × (result ≤ at + 5) }
 {
     if up {
         return put_text(out, at, b" up");
@@ -80,7 +80,7 @@ fn put_way(out: &mut [u8], at: usize, up: bool) -> usize
 // Stars, where there are any.
 fn put_stars(out: &mut [u8], at: usize, stars: u16) -> usize
     requires { at + 33 ≤ length out.old }
-    ensures { Wrote out.old at (starsText stars) out.new result × (result ≤ at + 33) }
+    ensures { Wrote out.old at (stars_text stars) out.new result × (result ≤ at + 33) }
 {
     if stars == 0 {
         return at;
@@ -93,7 +93,7 @@ fn put_stars(out: &mut [u8], at: usize, stars: u16) -> usize
 // The keys that they are, where there are any.
 fn put_raised(out: &mut [u8], at: usize, stars: u16) -> usize
     requires { at + 28 ≤ length out.old }
-    ensures { Wrote out.old at (raisedText stars) out.new result × (result ≤ at + 28) }
+    ensures { Wrote out.old at (raised_text stars) out.new result × (result ≤ at + 28) }
 {
     if stars == 0 {
         return at;
@@ -105,7 +105,7 @@ fn put_raised(out: &mut [u8], at: usize, stars: u16) -> usize
 // How many places up or down, from key 0's letter.
 fn put_where(out: &mut [u8], at: usize, letter: u16, up: bool, n: u64) -> usize
     requires { (letter < 2048) × (at + 58 ≤ length out.old) }
-    ensures { Wrote out.old at (whereText (letterText letter) up n) out.new result × (result ≤ at + 58) }
+    ensures { Wrote out.old at (where_text (letter_text letter) up n) out.new result × (result ≤ at + 58) }
 {
     let count = put_numbered(out, at, b" stands ", n);
     let place = put_text(out, count, b" place");
@@ -118,7 +118,7 @@ fn put_where(out: &mut [u8], at: usize, letter: u16, up: bool, n: u64) -> usize
 // So many generators.
 fn put_product(out: &mut [u8], at: usize, generator: u16, up: bool, n: u64, stars: u16) -> usize
     requires { at + 84 ≤ length out.old }
-    ensures { Wrote out.old at (productText generator up n stars) out.new result × (result ≤ at + 84) }
+    ensures { Wrote out.old at (product_text generator up n stars) out.new result × (result ≤ at + 84) }
 {
     let count = put_numbered(out, at, b": ", n);
     let times = put_numbered(out, count, b" \xc3\x97 ", generator as u64);
@@ -130,7 +130,7 @@ fn put_product(out: &mut [u8], at: usize, generator: u16, up: bool, n: u64, star
 // The key, of so many in the octave.
 fn put_key(out: &mut [u8], at: usize, key: u16, octave: u16) -> usize
     requires { at + 50 ≤ length out.old }
-    ensures { Wrote out.old at (keyText key octave) out.new result × (result ≤ at + 50) }
+    ensures { Wrote out.old at (key_text key octave) out.new result × (result ≤ at + 50) }
 {
     let number = put_numbered(out, at, b"key ", key as u64);
     let all = put_numbered(out, number, b" of ", octave as u64);
@@ -150,7 +150,7 @@ fn put_moved(
     key: u16,
 ) -> usize
     requires { (letter < 2048) × (at + 230 ≤ length out.old) }
-    ensures { Wrote out.old at (movedText (letterText letter) generator octave up n stars key) out.new result × (result ≤ at + 230) }
+    ensures { Wrote out.old at (moved_text (letter_text letter) generator octave up n stars key) out.new result × (result ≤ at + 230) }
 {
     let stands = put_where(out, at, letter, up, n);
     let starred = put_stars(out, stands, stars);
@@ -162,7 +162,7 @@ fn put_moved(
 // All of it, at the place 0.
 fn put_home(out: &mut [u8], at: usize, octave: u16, stars: u16, key: u16) -> usize
     requires { at + 115 ≤ length out.old }
-    ensures { Wrote out.old at (homeText octave stars key) out.new result × (result ≤ at + 115) }
+    ensures { Wrote out.old at (home_text octave stars key) out.new result × (result ≤ at + 115) }
 {
     let begins = put_text(out, at, b" stands where counting begins");
     let starred = put_stars(out, begins, stars);
@@ -182,7 +182,7 @@ fn put_placed(
     key: u16,
 ) -> usize
     requires { (letter < 2048) × (at + 230 ≤ length out.old) }
-    ensures { Wrote out.old at (placedText (letterText letter) generator octave place stars key) out.new result × (result ≤ at + 230) }
+    ensures { Wrote out.old at (placed_text (letter_text letter) generator octave place stars key) out.new result × (result ≤ at + 230) }
 {
     if place < 0 {
         // by -1 - place, since 64 signed bits hold no 2^63
@@ -199,7 +199,7 @@ fn put_placed(
 // How far apart.
 fn put_apart(out: &mut [u8], at: usize, apart: u64) -> usize
     requires { at + 44 ≤ length out.old }
-    ensures { Wrote out.old at (apartText apart) out.new result × (result ≤ at + 44) }
+    ensures { Wrote out.old at (apart_text apart) out.new result × (result ≤ at + 44) }
 {
     let count = put_numbered(out, at, b"They are ", apart);
     let place = put_text(out, count, b" place");
@@ -210,7 +210,7 @@ fn put_apart(out: &mut [u8], at: usize, apart: u64) -> usize
 // How often round, where it is more than once.
 fn put_times(out: &mut [u8], at: usize, apart: u64, reduced_period: u16) -> usize
     requires { (0 < reduced_period) × (at + 85 ≤ length out.old) }
-    ensures { Wrote out.old at (timesText apart reduced_period) out.new result × (result ≤ at + 85) }
+    ensures { Wrote out.old at (times_text apart reduced_period) out.new result × (result ≤ at + 85) }
 {
     let often = apart / (reduced_period as u64);
     let count = put_long(out, at, often);
@@ -221,7 +221,7 @@ fn put_times(out: &mut [u8], at: usize, apart: u64, reduced_period: u16) -> usiz
 // After how many places the chain comes round.
 fn put_round(out: &mut [u8], at: usize, apart: u64, reduced_period: u16) -> usize
     requires { (0 < reduced_period) × (at + 85 ≤ length out.old) }
-    ensures { Wrote out.old at (roundText apart reduced_period) out.new result × (result ≤ at + 85) }
+    ensures { Wrote out.old at (round_text apart reduced_period) out.new result × (result ≤ at + 85) }
 {
     if (reduced_period as u64) < apart {
         return put_times(out, at, apart, reduced_period);
@@ -237,7 +237,7 @@ fn put_round(out: &mut [u8], at: usize, apart: u64, reduced_period: u16) -> usiz
 // The third sentence, of one key.
 fn put_one_key(out: &mut [u8], at: usize, apart: u64, reduced_period: u16) -> usize
     requires { (0 < reduced_period) × (at + 140 ≤ length out.old) }
-    ensures { Wrote out.old at (verdictText OneKey apart reduced_period) out.new result × (result ≤ at + 140) }
+    ensures { Wrote out.old at (verdict_text OneKey apart reduced_period) out.new result × (result ≤ at + 140) }
 {
     if apart == 0 {
         return put_text(out, at, b"They stand at one place: one key.\n");
@@ -250,7 +250,7 @@ fn put_one_key(out: &mut [u8], at: usize, apart: u64, reduced_period: u16) -> us
 // The third sentence, of two keys on one chain.
 fn put_two_keys(out: &mut [u8], at: usize, apart: u64, reduced_period: u16) -> usize
     requires { at + 140 ≤ length out.old }
-    ensures { Wrote out.old at (verdictText OneChain apart reduced_period) out.new result × (result ≤ at + 140) }
+    ensures { Wrote out.old at (verdict_text OneChain apart reduced_period) out.new result × (result ≤ at + 140) }
 {
     let places = put_apart(out, at, apart);
     let round = put_numbered(
@@ -271,7 +271,7 @@ fn put_verdict(
     reduced_period: u16,
 ) -> usize
     requires { (0 < reduced_period) × (at + 140 ≤ length out.old) }
-    ensures { Wrote out.old at (verdictText verdict apart reduced_period) out.new result × (result ≤ at + 140) }
+    ensures { Wrote out.old at (verdict_text verdict apart reduced_period) out.new result × (result ≤ at + 140) }
 {
     match verdict {
         Verdict::OneKey => put_one_key(out, at, apart, reduced_period),
@@ -294,7 +294,7 @@ fn put_standing(
     standing: Standing,
 ) -> usize
     requires { (letter < 2048) × (at + 230 ≤ length out.old) }
-    ensures { Wrote out.old at (placedText (letterText letter) generator octave standing.place standing.stars standing.key) out.new result × (result ≤ at + 230) }
+    ensures { Wrote out.old at (placed_text (letter_text letter) generator octave standing.place standing.stars standing.key) out.new result × (result ≤ at + 230) }
 {
     put_placed(
         out,
@@ -317,7 +317,7 @@ fn put_rest(
     explanation: Explanation,
 ) -> usize
     requires { (letter < 2048) × (0 < explanation.reduced_period) × (370 ≤ length out.old) }
-    ensures { Wrote out.old 0 (restText (letterText letter) generator octave explanation) out.new result × (result ≤ 370) }
+    ensures { Wrote out.old 0 (rest_text (letter_text letter) generator octave explanation) out.new result × (result ≤ 370) }
 {
     let second = explanation.second;
     let verdict = explanation.verdict;
@@ -341,7 +341,7 @@ pub(crate) fn text_len(
     explanation: Explanation,
 ) -> usize
     requires { (letter < 2048) × Telling first.now second.now explanation }
-    ensures { (result ≡ length (sentences (letterText letter) generator octave first.now second.now explanation)) × ShortWords first.now second.now result }
+    ensures { (result ≡ length (sentences (letter_text letter) generator octave first.now second.now explanation)) × ShortWords first.now second.now result }
 {
     let mut one = [0u8; 230];
     let mut other = [0u8; 370];
@@ -363,7 +363,7 @@ pub(crate) fn write(
     out: &mut [u8],
 ) -> CountAnswer
     requires { (letter < 2048) × Telling first.now second.now explanation }
-    ensures { Filled (heldIn (length out.old) (sentences (letterText letter) generator octave first.now second.now explanation)) (countOutcome result) out.old out.new }
+    ensures { Filled (held_in (length out.old) (sentences (letter_text letter) generator octave first.now second.now explanation)) (count_outcome result) out.old out.new }
 {
     let mut one = [0u8; 230];
     let mut other = [0u8; 370];

@@ -1,9 +1,9 @@
 // From two texts to the explanation of the spellings that they are: parts, and no entry points. Callers have asked questions 1 to 4 and 18.
 ghost use Rattle.std.specs.Prelude.{◌≡◌};
-ghost use Rattle.layout.specs.Layouts.{cyclesIn};
+ghost use Rattle.layout.specs.Layouts.{cycles_in};
 ghost use Rattle.layout.specs.Parts.{layout_of, Laid};
-ghost use Rattle.layout_reading.specs.Parts.{spellingOf};
-ghost use Rattle.layout_explaining.specs.Answers.{explanationOutcome, comparedIn, explainedIn};
+ghost use Rattle.layout_reading.specs.Parts.{spelling_of};
+ghost use Rattle.layout_explaining.specs.Answers.{explanation_outcome, compared_in, explained_in};
 ghost use Rattle.layout_explaining.specs.Parts.{Asked};
 
 use crate::{ExplanationAnswer, counting};
@@ -16,8 +16,8 @@ use pergen::Spelling;
 
 // The explanation of two spellings with any number of stars (21 of the first, of the second).
 fn compared(found: Found, cycles: u16, one: Typed, other: Typed) -> ExplanationAnswer
-    requires { Laid (layout_of found) × (cycles ≡ cyclesIn (layout_of found)) }
-    ensures { explanationOutcome result ≡ comparedIn (layout_of found) (spellingOf one) (spellingOf other) }
+    requires { Laid (layout_of found) × (cycles ≡ cycles_in (layout_of found)) }
+    ensures { explanation_outcome result ≡ compared_in (layout_of found) (spelling_of one) (spelling_of other) }
 {
     let stars = one.stars;
     let others = other.stars;
@@ -50,7 +50,7 @@ pub(crate) fn explained(
     second: &[u8],
 ) -> ExplanationAnswer
     requires { Asked row found }
-    ensures { explanationOutcome result ≡ explainedIn (layout_of found) first.now second.now }
+    ensures { explanation_outcome result ≡ explained_in (layout_of found) first.now second.now }
 {
     let cycles = math::gcd_u16(found.octave, found.generator);
     match spellings::typed_spelling(row, found, cycles, first) {

@@ -1,9 +1,9 @@
 -- By computing both sides.
 use mathlib.Core.Path.{refl}
-use Rattle.layout.specs.Layouts.{layoutOutcome}
-use Rattle.layout_kbm.specs.Mappings.{naturalKeys, getKbm, getMappedKeys}
+use Rattle.layout.specs.Layouts.{layout_outcome}
+use Rattle.layout_kbm.specs.Mappings.{natural_keys, get_kbm, get_mapped_keys}
 use Rattle.layout_kbm.specs.Examples.{ExamplesHold}
 
-pub examples-hold : ExamplesHold
-unfolding layoutOutcome naturalKeys getKbm getMappedKeys
-examples-hold = record { written = refl; read = refl; natural = refl; not_written = refl }
+pub examples_hold : ExamplesHold
+unfolding layout_outcome natural_keys get_kbm get_mapped_keys
+examples_hold = record { written = refl; read = refl; natural = refl; not_written = refl }

@@ -4,28 +4,28 @@ use mathlib.Core.List.{List, Memᴰ}
 use Rattle.answer.specs.Outcome.{given}
 use Rattle.layout.specs.declared.IsomorphicLayout.{IsomorphicLayout}
 use Rattle.layout.specs.Layouts.{Layout, Accepted}
-use Rattle.layout_layers.specs.KeyLayers.{kind_of, number_in, countIn}
+use Rattle.layout_layers.specs.KeyLayers.{kind_of, number_in, count_in}
 use Rattle.layout_layers.specs.declared.Layer.TheVariants.{Natural}
 use Rattle.math.specs.Passing.{RisingFrom}
 use Rattle.kbm_text.specs.Lines.{lines}
 use Rattle.kbm_text.specs.Reading.{said}
 use Rattle.kbm_text.specs.declared.kinds.Kind.{Kind}
 use Rattle.kbm_text.specs.declared.kinds.Kind.TheVariants.{Number, Other}
-use Rattle.layout_kbm.specs.Mappings.{natural, mappingIn, naturalKeys, getKbm, getMappedKeys}
+use Rattle.layout_kbm.specs.Mappings.{natural, mapping_in, natural_keys, get_kbm, get_mapped_keys}
 
 -- Theorem: the test says what it is to say: the kind of the key's layer is natural.
 abbrev pub NaturalIsItsLayer : Type 0
-NaturalIsItsLayer = (l : Layout) (key : ℕ) → (natural l key ≡ true) ↔ (kind_of (countIn l) (number_in l key) ≡ Natural)
+NaturalIsItsLayer = (l : Layout) (key : ℕ) → (natural l key ≡ true) ↔ (kind_of (count_in l) (number_in l key) ≡ Natural)
 
 -- Theorem: "what we write reads back as the natural keys".
 abbrev pub NaturalKeysReadBack : Type 0
 NaturalKeysReadBack =
-    (r : IsomorphicLayout) (l : Layout) → Accepted r l → l.octave ≤ 65535 → getMappedKeys r (mappingIn l) ≡ given (naturalKeys l)
+    (r : IsomorphicLayout) (l : Layout) → Accepted r l → l.octave ≤ 65535 → get_mapped_keys r (mapping_in l) ≡ given (natural_keys l)
 
 -- Theorem: .. and these are the keys of the octave that are natural, each once, rising.
 pub record NaturalKeysAre (l : Layout) : Type 0 where
-  pub rising : RisingFrom 0 (naturalKeys l)
-  pub exactly : (key : ℕ) → Memᴰ key (naturalKeys l) ↔ ((key < l.octave) × (natural l key ≡ true))
+  pub rising : RisingFrom 0 (natural_keys l)
+  pub exactly : (key : ℕ) → Memᴰ key (natural_keys l) ↔ ((key < l.octave) × (natural l key ≡ true))
 
 abbrev pub NaturalKeysAreExact : Type 0
 NaturalKeysAreExact = (l : Layout) → NaturalKeysAre l
@@ -39,12 +39,12 @@ entry text k = get_or (said (lines text)) (7 + k) Other
 pub record KeysAre (octave : ℕ) (text keys : List ℕ) : Type 0 where
   pub rising : RisingFrom 0 keys
   pub exactly : (key : ℕ) → Memᴰ key keys ↔ ((key < octave) × (entry text key ≡ Number key))
-  pub own-number : (key n : ℕ) → key < octave → entry text key ≡ Number n → n ≡ key
+  pub own_number : (key n : ℕ) → key < octave → entry text key ≡ Number n → n ≡ key
 
 abbrev pub KeysAreTheNumbers : Type 0
 KeysAreTheNumbers =
-    (r : IsomorphicLayout) (text keys : List ℕ) → getMappedKeys r text ≡ given keys → KeysAre r.octave text keys
+    (r : IsomorphicLayout) (text keys : List ℕ) → get_mapped_keys r text ≡ given keys → KeysAre r.octave text keys
 
 -- Theorem: how much room holds every file (of octaves of 16 bits).
 abbrev pub FilesFit : Type 0
-FilesFit = (r : IsomorphicLayout) (text : List ℕ) → r.octave ≤ 65535 → getKbm r ≡ given text → length text ≤ 6 * r.octave + 35
+FilesFit = (r : IsomorphicLayout) (text : List ℕ) → r.octave ≤ 65535 → get_kbm r ≡ given text → length text ≤ 6 * r.octave + 35

@@ -4,12 +4,14 @@
 // of mapped keys. `kbm_text` knows what the text says and reads it.
 // specs/: Mappings defines what each call answers, Theorems and Examples state what holds.
 // Every entry point answers every input; the module of parts asks for more, as its head says. Nothing is assumed.
+#![tactic(auto)]
+
 pub mod parts;
 
 ghost use Rattle.std.specs.Prelude.{◌≡◌, length};
-ghost use Rattle.answer.specs.Lent.{inRoom, counted, Filled};
-ghost use Rattle.answer.specs.Refusals.{countOutcome};
-ghost use Rattle.layout_kbm.specs.Mappings.{getKbm, getMappedKeys};
+ghost use Rattle.answer.specs.Lent.{in_room, counted, Filled};
+ghost use Rattle.answer.specs.Refusals.{count_outcome};
+ghost use Rattle.layout_kbm.specs.Mappings.{get_kbm, get_mapped_keys};
 
 use answer::CountAnswer;
 use layout::parts::FoundAnswer;
@@ -17,7 +19,7 @@ use layout::{IsomorphicLayout, prepared};
 
 // How many bytes `write_kbm` writes (1, 2, 3, 4, 18).
 pub fn kbm_len(layout: IsomorphicLayout) -> CountAnswer
-    ensures { countOutcome result ≡ counted (getKbm layout) }
+    ensures { count_outcome result ≡ counted (get_kbm layout) }
 {
     match layout::parts::ask(layout) {
         FoundAnswer::Refused(q) => CountAnswer::Refused(q),
@@ -29,7 +31,7 @@ pub fn kbm_len(layout: IsomorphicLayout) -> CountAnswer
 
 // The keyboard mapping of a layout: a synthesizer then plays its natural keys and no others (1, 2, 3, 4, 18, 10).
 pub fn write_kbm(layout: IsomorphicLayout, out: &mut [u8]) -> CountAnswer
-    ensures { Filled (inRoom (length out.old) (getKbm layout)) (countOutcome result) out.old out.new }
+    ensures { Filled (in_room (length out.old) (get_kbm layout)) (count_outcome result) out.old out.new }
 {
     match layout::parts::ask(layout) {
         FoundAnswer::Refused(q) => CountAnswer::Refused(q),
@@ -39,7 +41,7 @@ pub fn write_kbm(layout: IsomorphicLayout, out: &mut [u8]) -> CountAnswer
 
 // The keys that a keyboard mapping for a layout maps, rising; any bytes may be handed in (1, 2, 3, 4, 18, 19, 20, 10).
 pub fn read_kbm(layout: IsomorphicLayout, text: &[u8], out: &mut [u16]) -> CountAnswer
-    ensures { Filled (inRoom (length out.old) (getMappedKeys layout text.now)) (countOutcome result) out.old out.new }
+    ensures { Filled (in_room (length out.old) (get_mapped_keys layout text.now)) (count_outcome result) out.old out.new }
 {
     match layout::parts::ask(layout) {
         FoundAnswer::Refused(q) => CountAnswer::Refused(q),

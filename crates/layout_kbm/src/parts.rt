@@ -1,13 +1,13 @@
 // How a mapping is written: parts, and no entry points. Callers have asked questions 1 to 4 and 18, and 10 before they write.
 ghost use Rattle.std.specs.Prelude.{◌≡◌, ◌+◌, ◌*◌, ◌<◌, length, leb};
-ghost use Rattle.answer.specs.Lent.{heldIn, Filled};
-ghost use Rattle.answer.specs.Refusals.{countOutcome};
+ghost use Rattle.answer.specs.Lent.{held_in, Filled};
+ghost use Rattle.answer.specs.Refusals.{count_outcome};
 ghost use Rattle.text.specs.Writing.{Room, Wrote, joined};
 ghost use Rattle.kbm_text.specs.Parts.{LengthUpTo};
-ghost use Rattle.layout.specs.Parts.{layoutIn, Ready};
+ghost use Rattle.layout.specs.Parts.{layout_in, Ready};
 ghost use Rattle.pergen.specs.Parts.{At};
-ghost use Rattle.layout_kbm.specs.Mappings.{natural, mappingIn};
-ghost use Rattle.layout_kbm.specs.Parts.{entryIn};
+ghost use Rattle.layout_kbm.specs.Mappings.{natural, mapping_in};
+ghost use Rattle.layout_kbm.specs.Parts.{entry_in};
 
 use answer::{CountAnswer, Refusal};
 use kbm_text::writer;
@@ -18,7 +18,7 @@ use pergen::stepping::Key;
 // Is a key of the octave natural?
 fn is_natural(prepared: Prepared, key: Key) -> bool
     requires { Ready prepared × At prepared.solved key × (key.number < prepared.found.octave) }
-    ensures { result ≡ natural (layoutIn prepared) key.number }
+    ensures { result ≡ natural (layout_in prepared) key.number }
 {
     layout_layers::keys::number_of(prepared, key) == 0
 }
@@ -26,7 +26,7 @@ fn is_natural(prepared: Prepared, key: Key) -> bool
 // How many bytes all entries have.
 fn entries_len(prepared: Prepared) -> usize
     requires { Ready prepared }
-    ensures { LengthUpTo (6 * prepared.found.octave) (joined (entryIn (layoutIn prepared)) prepared.found.octave) result }
+    ensures { LengthUpTo (6 * prepared.found.octave) (joined (entry_in (layout_in prepared)) prepared.found.octave) result }
 {
     let solved = prepared.solved;
     let octave = prepared.found.octave as u32;
@@ -42,8 +42,8 @@ fn entries_len(prepared: Prepared) -> usize
 
 // All entries from a place on, in a slice that is known to hold them; the place after the last.
 fn put_entries(out: &mut [u8], at: usize, prepared: Prepared) -> usize
-    requires { Ready prepared × Room out.old at (joined (entryIn (layoutIn prepared)) prepared.found.octave) }
-    ensures { Wrote out.old at (joined (entryIn (layoutIn prepared)) prepared.found.octave) out.new result }
+    requires { Ready prepared × Room out.old at (joined (entry_in (layout_in prepared)) prepared.found.octave) }
+    ensures { Wrote out.old at (joined (entry_in (layout_in prepared)) prepared.found.octave) out.new result }
 {
     let solved = prepared.solved;
     let octave = prepared.found.octave as u32;
@@ -60,15 +60,15 @@ fn put_entries(out: &mut [u8], at: usize, prepared: Prepared) -> usize
 // How many bytes the file has.
 pub(crate) fn file_len(prepared: Prepared) -> usize
     requires { Ready prepared }
-    ensures { result ≡ length (mappingIn (layoutIn prepared)) }
+    ensures { result ≡ length (mapping_in (layout_in prepared)) }
 {
     writer::head_len(prepared.found.octave) + entries_len(prepared)
 }
 
 // The file at the front of a slice that is known to hold it; the place after it.
 pub fn put_file(out: &mut [u8], prepared: Prepared) -> usize
-    requires { Ready prepared × Room out.old 0 (mappingIn (layoutIn prepared)) }
-    ensures { Wrote out.old 0 (mappingIn (layoutIn prepared)) out.new result }
+    requires { Ready prepared × Room out.old 0 (mapping_in (layout_in prepared)) }
+    ensures { Wrote out.old 0 (mapping_in (layout_in prepared)) out.new result }
 {
     let head = writer::put_head(out, 0, prepared.found.octave);
     put_entries(out, head, prepared)
@@ -77,7 +77,7 @@ pub fn put_file(out: &mut [u8], prepared: Prepared) -> usize
 // Do so many bytes hold the file? Where they hold any file of so many keys, it is not measured.
 fn has_room(prepared: Prepared, room: usize) -> bool
     requires { Ready prepared }
-    ensures { result ≡ leb (length (mappingIn (layoutIn prepared))) room }
+    ensures { result ≡ leb (length (mapping_in (layout_in prepared))) room }
 {
     if 6 * prepared.found.octave as usize + 35 <= room {
         return true;
@@ -88,7 +88,7 @@ fn has_room(prepared: Prepared, room: usize) -> bool
 // The file at the front of a slice that holds it (10).
 pub(crate) fn write_file(prepared: Prepared, out: &mut [u8]) -> CountAnswer
     requires { Ready prepared }
-    ensures { Filled (heldIn (length out.old) (mappingIn (layoutIn prepared))) (countOutcome result) out.old out.new }
+    ensures { Filled (held_in (length out.old) (mapping_in (layout_in prepared))) (count_outcome result) out.old out.new }
 {
     if !has_room(prepared, out.len()) {
         return CountAnswer::Refused(Refusal::Room);

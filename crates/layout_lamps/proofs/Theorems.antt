@@ -13,32 +13,32 @@ use lib.Seq.{take-append_seam}
 use borrow.Author.Tests.{eq-eqb, ne_eqb, eqb-true, eqb-false, ltb-true, ltb-false}
 use Rattle.answer.specs.Choice.{pick}
 use Rattle.text.specs.Writing.{joined}
-use Rattle.text.proofs.Joined.{joined-add, length-joined-each}
+use Rattle.text.proofs.Joined.{joined_add, length_joined_each}
 use Rattle.answer.specs.Outcome.{given}
-use Rattle.answer.proofs.Asked.{given-same}
+use Rattle.answer.proofs.Asked.{given_same}
 use Rattle.math.specs.Division.{quotient, remainder}
-use Rattle.math.proofs.Integers.{up, down, rep-self, rep_pos, rep_add, rep_mul, rep-agree}
-use Rattle.math.proofs.Division.{remainder-below, remainder-law, apart-iff, apart→remainder}
+use Rattle.math.proofs.Integers.{up, down, rep_self, rep_pos, rep_add, rep_mul, rep_agree}
+use Rattle.math.proofs.Division.{remainder_below, remainder_law, apart_iff, apart→remainder}
 use Rattle.layout.specs.declared.IsomorphicLayout.{IsomorphicLayout}
 use Rattle.layout.specs.Layouts.{Layout, Accepted}
 use Rattle.layout.proofs.Finding.{accepted}
-use Rattle.layout.proofs.Calls.{of-given}
+use Rattle.layout.proofs.Calls.{of_given}
 use Rattle.layout_layers.specs.declared.Layer.{Layer}
 use Rattle.layout_layers.specs.declared.Layer.TheVariants.{Natural, Sharp, Enharmonic, Flat}
-use Rattle.layout_layers.specs.KeyLayers.{equalized, kind_of, number_in, countIn}
-use Rattle.layout_layers.proofs.Theorems.{counts-fit, numbers-are-below}
-use Rattle.layout_layers.specs.LampCodes.{lampCode}
-use Rattle.layout_lamps.specs.Lamps.{kind_at, lampOf, codes_of, stripOf, lampIn, stripLengthIn, stripIn, octaveStripIn, kindIn}
-use Rattle.layout_lamps.specs.Answers.{getLamp}
+use Rattle.layout_layers.specs.KeyLayers.{equalized, kind_of, number_in, count_in}
+use Rattle.layout_layers.proofs.Theorems.{counts_fit, numbers_are_below}
+use Rattle.layout_layers.specs.LampCodes.{lamp_code}
+use Rattle.layout_lamps.specs.Lamps.{kind_at, lamp_of, codes_of, strip_of, lamp_in, strip_length_in, strip_in, octave_strip_in, kind_in}
+use Rattle.layout_lamps.specs.Answers.{get_lamp}
 use Rattle.layout_lamps.specs.Theorems.{CodesFit, CodesTellKindsApart, NoCodeIsShared, LampsByCount, OneHome, HomeKeys, StripsAreWhole, FirstOctaveStays, HomeChangesOneEntry}
-use Rattle.layout_lamps.proofs.StripLaws.{lamps-by-count-at, first-lamps-by-count, equal_or_not, between}
+use Rattle.layout_lamps.proofs.StripLaws.{lamps_by_count_at, first_lamps_by_count, equal_or_not, between}
 
-pub lamps-by-count : LampsByCount
-lamps-by-count r l ok = (first-lamps-by-count r l ok, lamps-by-count-at r l ok)
+pub lamps_by_count : LampsByCount
+lamps_by_count r l ok = (first_lamps_by_count r l ok, lamps_by_count_at r l ok)
 
-pub strips-are-whole : StripsAreWhole
-unfolding stripOf codes_of
-strips-are-whole l = length-joined-each (λ i. lampIn l i ∷ []) 1 (λ i. refl) (stripLengthIn l) ∙ one-mul (stripLengthIn l)
+pub strips_are_whole : StripsAreWhole
+unfolding strip_of codes_of
+strips_are_whole l = length_joined_each (λ i. lamp_in l i ∷ []) 1 (λ i. refl) (strip_length_in l) ∙ one-mul (strip_length_in l)
 
 -- ---- what the first octave was, it is
 
@@ -46,19 +46,19 @@ strips-are-whole l = length-joined-each (λ i. lampIn l i ∷ []) 1 (λ i. refl)
 front : (f : ℕ → List ℕ) → ((i : ℕ) → length (f i) ≡ 1) → (P more : ℕ) → take P (joined f (P + more)) ≡ joined f P
 front f one P more =
     let behind = joined (λ i. f (P + i)) more in
-    ap (take P) (joined-add f P more)
-    ∙ ap (λ (k : ℕ). take k (joined f P ++ behind)) (sym (length-joined-each f 1 one P ∙ one-mul P))
+    ap (take P) (joined_add f P more)
+    ∙ ap (λ (k : ℕ). take k (joined f P ++ behind)) (sym (length_joined_each f 1 one P ∙ one-mul P))
     ∙ take-append_seam (joined f P) behind
 
-pub first-octave : (l : Layout) → take l.octave (stripIn l) ≡ octaveStripIn l
-unfolding stripOf codes_of
-first-octave l = by (equalized l.pattern)
+pub first_octave : (l : Layout) → take l.octave (strip_in l) ≡ octave_strip_in l
+unfolding strip_of codes_of
+first_octave l = by (equalized l.pattern)
   where
     P : ℕ
     P = l.octave
 
     f : ℕ → List ℕ
-    f i = lampIn l i ∷ []
+    f i = lamp_in l i ∷ []
 
     whole : (n more : ℕ) → n ≡ P + more → take P (joined f n) ≡ joined f P
     whole n more e = ap (λ (k : ℕ). take P (joined f k)) e ∙ front f (λ i. refl) P more
@@ -67,20 +67,20 @@ first-octave l = by (equalized l.pattern)
     by true = whole (2 * P) P (omega arith)
     by false = whole P 0 (omega arith)
 
-pub first-octave-stays : FirstOctaveStays
-unfolding stripOf codes_of
-first-octave-stays =
+pub first_octave_stays : FirstOctaveStays
+unfolding strip_of codes_of
+first_octave_stays =
     record {
-      unchanged = λ l e. ap (λ (b : Bool). joined (λ i. lampIn l i ∷ []) (pick b (2 * l.octave) l.octave)) e;
-      first-half = λ l e. first-octave l;
+      unchanged = λ l e. ap (λ (b : Bool). joined (λ i. lamp_in l i ∷ []) (pick b (2 * l.octave) l.octave)) e;
+      first_half = λ l e. first_octave l;
     }
 
-code-above : (k : Layer) → 0 < lampCode k
-unfolding lampCode
-code-above Natural = omega arith
-code-above (Sharp i) = omega arith
-code-above (Enharmonic i) = omega arith
-code-above (Flat i) = omega arith
+code_above : (k : Layer) → 0 < lamp_code k
+unfolding lamp_code
+code_above Natural = omega arith
+code_above (Sharp i) = omega arith
+code_above (Enharmonic i) = omega arith
+code_above (Flat i) = omega arith
 
 -- ---- codes
 
@@ -91,9 +91,9 @@ Of T (Sharp k) = 2 + 2 * k ≤ T
 Of T (Enharmonic k) = 2 + 2 * k ≡ T
 Of T (Flat k) = 3 + 2 * k ≤ T
 
-kinds-of : (T j : ℕ) → j < T → Of T (kind_of T j)
+kinds_of : (T j : ℕ) → j < T → Of T (kind_of T j)
 unfolding kind_of
-kinds-of T j h = by (eqb j 0) (ltb (2 * j) T) (eqb (2 * j) T) refl refl refl
+kinds_of T j h = by (eqb j 0) (ltb (2 * j) T) (eqb (2 * j) T) refl refl refl
   where
     by : (a b c : Bool) → eqb j 0 ≡ a → ltb (2 * j) T ≡ b → eqb (2 * j) T ≡ c
         → Of T (pick a Natural (pick b (Sharp (j - 1)) (pick c (Enharmonic (j - 1)) (Flat (T - j - 1)))))
@@ -102,15 +102,15 @@ kinds-of T j h = by (eqb j 0) (ltb (2 * j) T) (eqb (2 * j) T) refl refl refl
     by false false true z e f = omega (arith, eqb-false j 0 z, eqb-true (2 * j) T f)
     by false false false z e f = omega (arith, ltb-false (2 * j) T e, eqb-false (2 * j) T f)
 
-code-most : (T : ℕ) → T ≤ 65535 → (k : Layer) → Of T k → lampCode k ≤ 65535
-unfolding lampCode
-code-most T h Natural o = omega arith
-code-most T h (Sharp k) o = omega (arith, o)
-code-most T h (Enharmonic k) o = omega arith
-code-most T h (Flat k) o = omega (arith, o)
+code_most : (T : ℕ) → T ≤ 65535 → (k : Layer) → Of T k → lamp_code k ≤ 65535
+unfolding lamp_code
+code_most T h Natural o = omega arith
+code_most T h (Sharp k) o = omega (arith, o)
+code_most T h (Enharmonic k) o = omega arith
+code_most T h (Flat k) o = omega (arith, o)
 
-same_code : (T : ℕ) → T ≤ 65532 → (x y : Layer) → Of T x → Of T y → lampCode x ≡ lampCode y → x ≡ y
-unfolding lampCode
+same_code : (T : ℕ) → T ≤ 65532 → (x y : Layer) → Of T x → Of T y → lamp_code x ≡ lamp_code y → x ≡ y
+unfolding lamp_code
 same_code T h Natural Natural o q e = refl
 same_code T h Natural (Sharp b) o q e = absurd (let z : ⊥ = omega (arith, e) in z)
 same_code T h Natural (Enharmonic b) o q e = absurd (let z : ⊥ = omega (arith, e) in z)
@@ -129,48 +129,48 @@ same_code T h (Flat a) (Enharmonic b) o q e = absurd (let z : ⊥ = omega (arith
 same_code T h (Flat a) (Flat b) o q e = ap Flat (omega (arith, e))
 
 module _ (r : IsomorphicLayout) (l : Layout) (ok : Accepted r l) (wide : l.octave ≤ 65535) where
-  few : countIn l ≤ 65532
-  few = omega (arith, counts-fit r l ok, wide)
+  few : count_in l ≤ 65532
+  few = omega (arith, counts_fit r l ok, wide)
 
-  kind-of : (i : ℕ) → Of (countIn l) (kindIn l i)
+  kind_of_lem : (i : ℕ) → Of (count_in l) (kind_in l i)
   unfolding kind_at
-  kind-of i = kinds-of (countIn l) (number_in l i) (numbers-are-below r l ok i)
+  kind_of_lem i = kinds_of (count_in l) (number_in l i) (numbers_are_below r l ok i)
 
-  code_fits : (i : ℕ) → lampIn l i ≤ 65535
-  unfolding lampOf
+  code_fits : (i : ℕ) → lamp_in l i ≤ 65535
+  unfolding lamp_of
   code_fits i = by (eqb (i % l.octave) 0)
     where
-      by : (b : Bool) → pick b 0 (lampCode (kindIn l i)) ≤ 65535
+      by : (b : Bool) → pick b 0 (lamp_code (kind_in l i)) ≤ 65535
       by true = omega arith
-      by false = code-most (countIn l) (omega (arith, few)) (kindIn l i) (kind-of i)
+      by false = code_most (count_in l) (omega (arith, few)) (kind_in l i) (kind_of_lem i)
 
-  told-apart : CodesTellKindsApart l
-  told-apart = record {
-    kinds = λ i j e. same_code (countIn l) few (kindIn l i) (kindIn l j) (kind-of i) (kind-of j) e;
-    home-alone = λ i. code-above (kindIn l i);
-    no-such-flat = λ i k e. let flat : Of (countIn l) (Flat k) = subst (Of (countIn l)) e (kind-of i) in omega (arith, flat, few);
+  told_apart : CodesTellKindsApart l
+  told_apart = record {
+    kinds = λ i j e. same_code (count_in l) few (kind_in l i) (kind_in l j) (kind_of_lem i) (kind_of_lem j) e;
+    home_alone = λ i. code_above (kind_in l i);
+    no_such_flat = λ i k e. let flat : Of (count_in l) (Flat k) = subst (Of (count_in l)) e (kind_of_lem i) in omega (arith, flat, few);
   }
 
-pub codes-fit : CodesFit
-codes-fit r l ok wide key = code_fits r l ok wide key
+pub codes_fit : CodesFit
+codes_fit r l ok wide key = code_fits r l ok wide key
 
-pub no-code-is-shared : NoCodeIsShared
-no-code-is-shared r l ok wide = told-apart r l ok wide
+pub no_code_is_shared : NoCodeIsShared
+no_code_is_shared r l ok wide = told_apart r l ok wide
 
 -- ---- home
 
-home-alone : (b : Bool) (rest c : ℕ) → eqb rest 0 ≡ b → 0 < c → (pick b 0 c ≡ 0) ↔ (rest ≡ 0)
-home-alone true rest c e h = (λ q. eqb-true rest 0 e, λ q. refl)
-home-alone false rest c e h = (λ q. absurd (let z : ⊥ = omega (arith, h, q) in z), λ q. absurd (eqb-false rest 0 e q))
+home_alone : (b : Bool) (rest c : ℕ) → eqb rest 0 ≡ b → 0 < c → (pick b 0 c ≡ 0) ↔ (rest ≡ 0)
+home_alone true rest c e h = (λ q. eqb-true rest 0 e, λ q. refl)
+home_alone false rest c e h = (λ q. absurd (let z : ⊥ = omega (arith, h, q) in z), λ q. absurd (eqb-false rest 0 e q))
 
-pub one-home : OneHome
-unfolding lampOf
-one-home l key = home-alone (eqb (key % l.octave) 0) (key % l.octave) _ refl (code-above (kindIn l key))
+pub one_home : OneHome
+unfolding lamp_of
+one_home l key = home_alone (eqb (key % l.octave) 0) (key % l.octave) _ refl (code_above (kind_in l key))
 
 -- a strip holds whole octaves, so a remainder by its length has the remainder by the octave
-pub strip-rounds : (P : ℕ) → 0 < P → (b : Bool) (key : ℤ) → remainder key (pick b (2 * P) P) % P ≡ remainder key P
-strip-rounds P h false key = mod-eq_of_lt (remainder-below key P h)
-strip-rounds P h true key = sym (apart→remainder P h key (pos r) (q +ℤ q, sum))
+pub strip_rounds : (P : ℕ) → 0 < P → (b : Bool) (key : ℤ) → remainder key (pick b (2 * P) P) % P ≡ remainder key P
+strip_rounds P h false key = mod-eq_of_lt (remainder_below key P h)
+strip_rounds P h true key = sym (apart→remainder P h key (pos r) (q +ℤ q, sum))
   where
     q : ℤ
     q = quotient key (2 * P)
@@ -180,10 +180,10 @@ strip-rounds P h true key = sym (apart→remainder P h key (pos r) (q +ℤ q, su
 
     sum : key ≡ pos r +ℤ pos P *ℤ (q +ℤ q)
     sum =
-        (remainder-law.divides key (2 * P) (omega arith)).sum
-        ∙ rep-agree
-        (rep_add (rep_mul (2 * P) (rep-self q)) (rep_pos r))
-        (rep_add (rep_pos r) (rep_mul P (rep_add (rep-self q) (rep-self q))))
+        (remainder_law.divides key (2 * P) (omega arith)).sum
+        ∙ rep_agree
+        (rep_add (rep_mul (2 * P) (rep_self q)) (rep_pos r))
+        (rep_add (rep_pos r) (rep_mul P (rep_add (rep_self q) (rep_self q))))
         (omega (
           arith,
           mul-add P (up q) (up q),
@@ -192,15 +192,15 @@ strip-rounds P h true key = sym (apart→remainder P h key (pos r) (q +ℤ q, su
           mul_assoc 2 P (down q),
         ))
 
-pub home-keys : HomeKeys
-unfolding getLamp
-home-keys r l ok key = (
-  λ e. (apart-iff P some key (pos 0)).0
-      (sym (strip-rounds P some (equalized l.pattern) key) ∙ (one-home l entry).0 (given-same (sym lamp ∙ e)) ∙ sym (zero-mod P)),
+pub home_keys : HomeKeys
+unfolding get_lamp
+home_keys r l ok key = (
+  λ e. (apart_iff P some key (pos 0)).0
+      (sym (strip_rounds P some (equalized l.pattern) key) ∙ (one_home l entry).0 (given_same (sym lamp ∙ e)) ∙ sym (zero-mod P)),
   λ a. lamp
       ∙ ap given
-      ((one-home l entry).1
-      (strip-rounds P some (equalized l.pattern) key ∙ (apart-iff P some key (pos 0)).1 a ∙ zero-mod P)),
+      ((one_home l entry).1
+      (strip_rounds P some (equalized l.pattern) key ∙ (apart_iff P some key (pos 0)).1 a ∙ zero-mod P)),
 )
   where
     P : ℕ
@@ -210,37 +210,37 @@ home-keys r l ok key = (
     some = (accepted r l ok).positive
 
     entry : ℕ
-    entry = remainder key (stripLengthIn l)
+    entry = remainder key (strip_length_in l)
 
-    lamp : getLamp r key ≡ given (lampIn l entry)
-    lamp = sym (of-given r _ l (sym ok))
+    lamp : get_lamp r key ≡ given (lamp_in l entry)
+    lamp = sym (of_given r _ l (sym ok))
 
 -- the two rules agree on a number that is 0 exactly where its remainder is
-same-rule : (i P c : ℕ) → ((i ≡ 0) ↔ (i % P ≡ 0)) → pick (eqb (i % P) 0) 0 c ≡ pick (eqb i 0) 0 c
-same-rule i P c iff = by (eqb i 0) refl
+same_rule : (i P c : ℕ) → ((i ≡ 0) ↔ (i % P ≡ 0)) → pick (eqb (i % P) 0) 0 c ≡ pick (eqb i 0) 0 c
+same_rule i P c iff = by (eqb i 0) refl
   where
     by : (b : Bool) → eqb i 0 ≡ b → pick (eqb (i % P) 0) 0 c ≡ pick b 0 c
     by true e = ap (λ (b : Bool). pick b 0 c) (eq-eqb (i % P) 0 (iff.0 (eqb-true i 0 e)))
     by false e = ap (λ (b : Bool). pick b 0 c) (ne_eqb (i % P) 0 (λ q. eqb-false i 0 e (iff.1 q)))
 
-pub home-changes-one-entry : HomeChangesOneEntry
-unfolding lampOf
-home-changes-one-entry r l ok =
+pub home_changes_one_entry : HomeChangesOneEntry
+unfolding lamp_of
+home_changes_one_entry r l ok =
     let some : 0 < P = (accepted r l ok).positive in
     record {
-      at-octave =
+      at_octave =
           λ t. (
             subst (λ (b : Bool). P < pick b (2 * P) P) (sym t) (let q : P < 2 * P = omega arith in q),
-            subst (λ (b : Bool). 0 < pick b 0 (lampCode (kindIn l P))) (sym (ne_eqb P 0 (λ e. omega (arith, some, e)))) (code-above (kindIn l P)),
-            (one-home l P).1 (mod_self P),
+            subst (λ (b : Bool). 0 < pick b 0 (lamp_code (kind_in l P))) (sym (ne_eqb P 0 (λ e. omega (arith, some, e)))) (code_above (kind_in l P)),
+            (one_home l P).1 (mod_self P),
           );
-      elsewhere = λ i h p. same-rule i P _ (λ z. ap (λ (k : ℕ). k % P) z ∙ zero-mod P, zero_of some i (short i h) p);
+      elsewhere = λ i h p. same_rule i P _ (λ z. ap (λ (k : ℕ). k % P) z ∙ zero-mod P, zero_of some i (short i h) p);
     }
   where
     P : ℕ
     P = l.octave
 
-    short : (i : ℕ) → i < stripLengthIn l → i < 2 * P
+    short : (i : ℕ) → i < strip_length_in l → i < 2 * P
     short i h = by (equalized l.pattern) h
       where
         by : (b : Bool) → i < pick b (2 * P) P → i < 2 * P

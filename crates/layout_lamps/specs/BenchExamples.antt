@@ -2,22 +2,22 @@
 -- that each holds.
 use Rattle.std.specs.Prelude.{pos, ℕ, ◌<◌, List, [], ◌∷◌, ◌≡◌}
 use Rattle.answer.specs.Outcome.{Outcome, given, refused, and_then}
-use Rattle.mos_layers.specs.Layers.{layerSizes}
+use Rattle.mos_layers.specs.Layers.{layer_sizes}
 use Rattle.mos.specs.declared.Mos.{Mos}
 use Rattle.mos.specs.Patterns.{mos}
 use Rattle.pergen.specs.declared.Accidentals.{Accidentals}
 use Rattle.pergen.specs.Answers as Pergen
 use Rattle.pergen.specs.Examples.{pergen, format}
-use Rattle.layout.specs.Answers.{getMos, getScaleName, getNoteName}
-use Rattle.layout.specs.Layouts.{layoutOutcome}
+use Rattle.layout.specs.Answers.{get_mos, get_scale_name, get_note_name}
+use Rattle.layout.specs.Layouts.{layout_outcome}
 use Rattle.layout.specs.Examples.{layout, beginning}
-use Rattle.layout_lamps.specs.Answers.{getStrip}
+use Rattle.layout_lamps.specs.Answers.{get_strip}
 
 pub data Example : Type 0 where
   -- the pattern of a layout, or its refusal: chain code, octave, tritave
   pattern : (code octave tritave : ℕ) → Outcome Mos → Example
   -- every layout with octave 0, whatever its chain, tritave and start: the number of its refusal
-  no-octave : ℕ → Example
+  no_octave : ℕ → Example
   -- the layer sizes of a layout
   sizes : (code octave tritave : ℕ) → List ℕ → Example
   -- its scale name
@@ -42,7 +42,7 @@ examples =
     -- "code 0, 12, 19: 4.", "code 3, 12, 19: 3.", "octave 0: 2."
     ∷ pattern 0 12 19 (refused 4)
     ∷ pattern 3 12 19 (refused 3)
-    ∷ no-octave 2
+    ∷ no_octave 2
     -- "code 1, 24, 38: keys 1, 2, 3 are D*, (D#/Eb), (D#/Eb)*."
     ∷ name 1 24 38 1 (68 ∷ 42 ∷ [])
     ∷ name 1 24 38 2 (40 ∷ 68 ∷ 35 ∷ 47 ∷ 69 ∷ 98 ∷ 41 ∷ [])
@@ -60,14 +60,14 @@ examples =
 
 -- What an example says.
 abbrev pub Holds : Example → Type 0
-Holds (pattern code octave tritave m) = getMos (layout code octave tritave) ≡ m
-Holds (no-octave n) = (code tritave start : ℕ) → code < 6 → layoutOutcome (beginning start code 0 tritave) ≡ refused n
-Holds (sizes code octave tritave s) = and_then (getMos (layout code octave tritave)) (λ (m : Mos). given (layerSizes m)) ≡ given s
-Holds (scale code octave tritave text) = getScaleName (layout code octave tritave) ≡ given text
-Holds (name code octave tritave key text) = getNoteName (layout code octave tritave) (pos key) ≡ given text
-Holds (strip code octave tritave codes) = getStrip (layout code octave tritave) ≡ given codes
+Holds (pattern code octave tritave m) = get_mos (layout code octave tritave) ≡ m
+Holds (no_octave n) = (code tritave start : ℕ) → code < 6 → layout_outcome (beginning start code 0 tritave) ≡ refused n
+Holds (sizes code octave tritave s) = and_then (get_mos (layout code octave tritave)) (λ (m : Mos). given (layer_sizes m)) ≡ given s
+Holds (scale code octave tritave text) = get_scale_name (layout code octave tritave) ≡ given text
+Holds (name code octave tritave key text) = get_note_name (layout code octave tritave) (pos key) ≡ given text
+Holds (strip code octave tritave codes) = get_strip (layout code octave tritave) ≡ given codes
 Holds (indices P G N origin key both) =
-    and_then (Pergen.getAccidentals (pergen P G) (format N origin) (pos key))
+    and_then (Pergen.get_accidentals (pergen P G) (format N origin) (pos key))
     (λ (a : Accidentals). given (a.sharp_index, a.flat_index)) ≡ given both
 
 abbrev pub All : List Example → Type 0

@@ -5,18 +5,18 @@ use Rattle.answer.specs.Lent.{counted}
 use Rattle.layout.specs.declared.IsomorphicLayout.{IsomorphicLayout}
 use Rattle.layout.specs.Examples.{layout}
 use Rattle.layout_layers.specs.declared.Layer.TheVariants.{Natural, Sharp, Enharmonic, Flat}
-use Rattle.layout_lamps.specs.Lamps.{earlierLampIn, byteCode, byteStripIn, hadLampsIn, firstStripIn, firstHadLampsIn}
-use Rattle.layout.specs.Answers.{ofLayout}
+use Rattle.layout_lamps.specs.Lamps.{earlier_lamp_in, byte_code, byte_strip_in, had_lamps_in, first_strip_in, first_had_lamps_in}
+use Rattle.layout.specs.Answers.{of_layout}
 use Rattle.layout.specs.Layouts.{Layout}
-use Rattle.layout_lamps.specs.Answers.{getStrip, getLamp}
+use Rattle.layout_lamps.specs.Answers.{get_strip, get_lamp}
 
 pub record StripExample : Type 0 where
   pub layout : IsomorphicLayout
   pub strip : Outcome (List ℕ)
 
 -- The lamps of 1 12 19 stand in document 01's key table; in 2 7 8 key 3, whose name has a flat spelling too, is in sharp layer 0.
-abbrev pub stripExamples : List StripExample
-stripExamples =
+abbrev pub strip_examples : List StripExample
+strip_examples =
     record {
       layout = layout 1 12 19;
       strip = given (0 ∷ 65535 ∷ 1 ∷ 1 ∷ 65535 ∷ 1 ∷ 65535 ∷ 1 ∷ 65535 ∷ 1 ∷ 1 ∷ 65535 ∷ []);
@@ -50,8 +50,8 @@ pub record LampExample : Type 0 where
 
 -- 101 cycles of an equalized scale have sharp layers up to 99, the last that had a code of one byte; with 102 there is one more. The board
 -- repeats the strip.
-abbrev pub lampExamples : List LampExample
-lampExamples =
+abbrev pub lamp_examples : List LampExample
+lamp_examples =
     record { layout = layout 2 7 8; key = pos 3; code = given 2 }
     ∷ record { layout = layout 1 7 11; key = pos 0; code = given 0 }
     -- the entry at the octave is home; the strip of two octaves repeats, above and below
@@ -85,21 +85,21 @@ lampExamples =
 -- Theorem: the definitions give what the examples say.
 pub record ExamplesHold : Type 0 where
   -- document 01's codes, before W-207; `layout_layers` has examples of today's
-  pub bytes : map byteCode (Natural ∷ Sharp 0 ∷ Sharp 99 ∷ Flat 0 ∷ Flat 99 ∷ Enharmonic 7 ∷ []) ≡ 1 ∷ 2 ∷ 101 ∷ 102 ∷ 201 ∷ 255 ∷ []
-  pub strips : map (λ (e : StripExample). getStrip e.layout) stripExamples ≡ map (λ (e : StripExample). e.strip) stripExamples
-  pub lamps : map (λ (e : LampExample). getLamp e.layout e.key) lampExamples ≡ map (λ (e : LampExample). e.code) lampExamples
-  pub long : counted (getStrip (layout 1 2400 3800)) ≡ given 2400
+  pub bytes : map byte_code (Natural ∷ Sharp 0 ∷ Sharp 99 ∷ Flat 0 ∷ Flat 99 ∷ Enharmonic 7 ∷ []) ≡ 1 ∷ 2 ∷ 101 ∷ 102 ∷ 201 ∷ 255 ∷ []
+  pub strips : map (λ (e : StripExample). get_strip e.layout) strip_examples ≡ map (λ (e : StripExample). e.strip) strip_examples
+  pub lamps : map (λ (e : LampExample). get_lamp e.layout e.key) lamp_examples ≡ map (λ (e : LampExample). e.code) lamp_examples
+  pub long : counted (get_strip (layout 1 2400 3800)) ≡ given 2400
   -- the last strip of one-byte codes of 2 7 8, and what question 9 said
-  pub old : ofLayout (layout 2 7 8) (λ (l : Layout). given (byteStripIn l)) ≡ given (0 ∷ 1 ∷ 1 ∷ 2 ∷ 102 ∷ 1 ∷ 1 ∷ [])
-  pub had : map (λ (r : IsomorphicLayout). ofLayout r (λ (l : Layout). given (hadLampsIn l))) (layout 1 707 1111 ∷ layout 1 714 1122 ∷ layout 1 2400 3800 ∷ [])
+  pub old : of_layout (layout 2 7 8) (λ (l : Layout). given (byte_strip_in l)) ≡ given (0 ∷ 1 ∷ 1 ∷ 2 ∷ 102 ∷ 1 ∷ 1 ∷ [])
+  pub had : map (λ (r : IsomorphicLayout). of_layout r (λ (l : Layout). given (had_lamps_in l))) (layout 1 707 1111 ∷ layout 1 714 1122 ∷ layout 1 2400 3800 ∷ [])
       ≡ given true ∷ given false ∷ given false ∷ []
   -- document 01: "code 1, 7, 11: .. strip 0 1 255 255 255 255 1", the lamps of its key table; "code 1, 2400, 3800: strip refused with 9"
-  pub first : map (λ (r : IsomorphicLayout). ofLayout r (λ (l : Layout). given (firstStripIn l))) (layout 1 7 11 ∷ layout 1 12 19 ∷ [])
+  pub first : map (λ (r : IsomorphicLayout). of_layout r (λ (l : Layout). given (first_strip_in l))) (layout 1 7 11 ∷ layout 1 12 19 ∷ [])
       ≡ given (0 ∷ 1 ∷ 255 ∷ 255 ∷ 255 ∷ 255 ∷ 1 ∷ [])
       ∷ given (0 ∷ 255 ∷ 1 ∷ 1 ∷ 255 ∷ 1 ∷ 255 ∷ 1 ∷ 255 ∷ 1 ∷ 1 ∷ 255 ∷ [])
       ∷ []
-  pub first-had : map (λ (r : IsomorphicLayout). ofLayout r (λ (l : Layout). given (firstHadLampsIn l)))
+  pub first_had : map (λ (r : IsomorphicLayout). of_layout r (λ (l : Layout). given (first_had_lamps_in l)))
       (layout 1 7 11 ∷ layout 1 2400 3800 ∷ [])
       ≡ given true ∷ given false ∷ []
   -- by the home rule before W-206 the entry at the octave of code 3, 8, 13 was enharmonic (in W-207's codes)
-  pub earlier : ofLayout (layout 3 8 13) (λ (l : Layout). given (earlierLampIn l 8)) ≡ given 65535
+  pub earlier : of_layout (layout 3 8 13) (λ (l : Layout). given (earlier_lamp_in l 8)) ≡ given 65535

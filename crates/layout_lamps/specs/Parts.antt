@@ -2,16 +2,16 @@
 use Rattle.std.specs.Prelude.{ℕ, ◌*◌, List, set}
 use Rattle.layout_layers.specs.declared.parts.Plan.{Plan}
 use Rattle.layout_layers.specs.LampCodes.{code_of}
-use Rattle.layout_layers.specs.Parts.{keys_of, planNumber, turnsOf, listed}
+use Rattle.layout_layers.specs.Parts.{keys_of, plan_number, turns_of, listed}
 
 -- The codes of all entries, key 0's as any other's.
-abbrev pub planCodes : Plan → (T : ℕ) → List ℕ
-planCodes p T = listed (λ i. code_of T (planNumber p i)) (turnsOf p * p.chain.num_cycles)
+abbrev pub plan_codes : Plan → (T : ℕ) → List ℕ
+plan_codes p T = listed (λ i. code_of T (plan_number p i)) (turns_of p * p.chain.num_cycles)
 
 -- Home at key 0, and at the octave where there is a second one: a store past the end changes nothing.
 abbrev pub homed : (keys : ℕ) → List ℕ → List ℕ
 homed keys codes = set (set codes 0 0) keys 0
 
 -- The strip.
-abbrev pub planStrip : Plan → (T : ℕ) → List ℕ
-planStrip p T = homed (keys_of p.chain) (planCodes p T)
+abbrev pub plan_strip : Plan → (T : ℕ) → List ℕ
+plan_strip p T = homed (keys_of p.chain) (plan_codes p T)

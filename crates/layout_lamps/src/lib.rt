@@ -5,12 +5,14 @@
 // codes from 3 on, and enharmonic ones 65,535. Lamps follow the layers and not the names.
 // specs/: Lamps defines, Answers says what each call answers, Theorems and Examples state what holds.
 // Every entry point answers every input; the module of parts asks for more, as its head says. Nothing is assumed.
+#![tactic(auto)]
+
 pub mod parts;
 
 ghost use Rattle.std.specs.Prelude.{◌≡◌, length};
-ghost use Rattle.answer.specs.Lent.{inRoom, counted, Filled};
-ghost use Rattle.answer.specs.Refusals.{numberOutcome, countOutcome};
-ghost use Rattle.layout_lamps.specs.Answers.{getStrip, getLamp};
+ghost use Rattle.answer.specs.Lent.{in_room, counted, Filled};
+ghost use Rattle.answer.specs.Refusals.{number_outcome, count_outcome};
+ghost use Rattle.layout_lamps.specs.Answers.{get_strip, get_lamp};
 
 use answer::{CountAnswer, NumberAnswer};
 use layout::parts::FoundAnswer;
@@ -19,7 +21,7 @@ use pergen::stepping;
 
 // The lamp code of each key of an octave, of two octaves where the scale is equalized (1, 2, 3, 4, 18, 10).
 pub fn lamp_strip(layout: IsomorphicLayout, out: &mut [u16]) -> CountAnswer
-    ensures { Filled (inRoom (length out.old) (getStrip layout)) (countOutcome result) out.old out.new }
+    ensures { Filled (in_room (length out.old) (get_strip layout)) (count_outcome result) out.old out.new }
 {
     match layout::parts::ask(layout) {
         FoundAnswer::Refused(q) => CountAnswer::Refused(q),
@@ -31,7 +33,7 @@ pub fn lamp_strip(layout: IsomorphicLayout, out: &mut [u16]) -> CountAnswer
 
 // How many codes `lamp_strip` writes (1, 2, 3, 4, 18).
 pub fn strip_len(layout: IsomorphicLayout) -> CountAnswer
-    ensures { countOutcome result ≡ counted (getStrip layout) }
+    ensures { count_outcome result ≡ counted (get_strip layout) }
 {
     match layout::parts::ask(layout) {
         FoundAnswer::Refused(q) => CountAnswer::Refused(q),
@@ -43,7 +45,7 @@ pub fn strip_len(layout: IsomorphicLayout) -> CountAnswer
 
 // The lamp code of one key, whatever its octave, below 0 too: what `lamp_strip` writes repeats (1, 2, 3, 4, 18).
 pub fn lamp(layout: IsomorphicLayout, key: i32) -> NumberAnswer
-    ensures { numberOutcome result ≡ getLamp layout key }
+    ensures { number_outcome result ≡ get_lamp layout key }
 {
     match layout::parts::ask(layout) {
         FoundAnswer::Refused(q) => NumberAnswer::Refused(q),

@@ -1,13 +1,13 @@
 // How codes are found and a strip is written: parts, and no entry points. Callers have asked questions 1 to 4 and 18, and 10 before they write.
 ghost use Rattle.std.specs.Prelude.{◌≡◌, ◌*◌, ◌%◌, ◌≤◌, ◌<◌, eqb, length};
-ghost use Rattle.answer.specs.Lent.{heldIn, Filled};
-ghost use Rattle.answer.specs.Refusals.{countOutcome};
+ghost use Rattle.answer.specs.Lent.{held_in, Filled};
+ghost use Rattle.answer.specs.Refusals.{count_outcome};
 ghost use Rattle.pergen.specs.Parts.{At};
-ghost use Rattle.layout.specs.Parts.{layoutIn, Ready};
-ghost use Rattle.layout_layers.specs.KeyLayers.{countIn};
-ghost use Rattle.layout_layers.specs.Parts.{totalOf, Sound, Fronted, planLayers};
-ghost use Rattle.layout_lamps.specs.Lamps.{lampIn};
-ghost use Rattle.layout_lamps.specs.Parts.{planStrip};
+ghost use Rattle.layout.specs.Parts.{layout_in, Ready};
+ghost use Rattle.layout_layers.specs.KeyLayers.{count_in};
+ghost use Rattle.layout_layers.specs.Parts.{total_of, Sound, Fronted, plan_layers};
+ghost use Rattle.layout_lamps.specs.Lamps.{lamp_in};
+ghost use Rattle.layout_lamps.specs.Parts.{plan_strip};
 
 use answer::{CountAnswer, Refusal};
 use layout::prepared::Prepared;
@@ -27,8 +27,8 @@ fn is_home(octave: u16, number: u32) -> bool
 
 // The lamp code of a key, of as many layers as `total` says: home, or the code of its layer.
 pub fn lamp_of(prepared: Prepared, total: u16, key: Key) -> u16
-    requires { Ready prepared × (total ≡ countIn (layoutIn prepared)) × At prepared.solved key × (key.number < 2 * prepared.found.octave) }
-    ensures { result ≡ lampIn (layoutIn prepared) key.number }
+    requires { Ready prepared × (total ≡ count_in (layout_in prepared)) × At prepared.solved key × (key.number < 2 * prepared.found.octave) }
+    ensures { result ≡ lamp_in (layout_in prepared) key.number }
 {
     if is_home(prepared.found.octave, key.number) {
         return 0;
@@ -38,8 +38,8 @@ pub fn lamp_of(prepared: Prepared, total: u16, key: Key) -> u16
 
 // The strip at the front of a slice that is known to hold it: key 0 is home, and so is the octave where a second one follows.
 fn put_strip(out: &mut [u16], plan: Plan, total: u16)
-    requires { Sound plan × (total ≡ totalOf plan) × (length (planLayers plan) ≤ length out.old) }
-    ensures { Fronted (planStrip plan total) out.old out.new }
+    requires { Sound plan × (total ≡ total_of plan) × (length (plan_layers plan) ≤ length out.old) }
+    ensures { Fronted (plan_strip plan total) out.old out.new }
 {
     layout_layers::parts::put_entries(out, plan, total);
     out[0] = 0;
@@ -54,7 +54,7 @@ fn put_strip(out: &mut [u16], plan: Plan, total: u16)
 // The strip at the front of a slice that holds it (10).
 pub(crate) fn write_strip(plan: Plan, out: &mut [u16]) -> CountAnswer
     requires { Sound plan }
-    ensures { Filled (heldIn (length out.old) (planStrip plan (totalOf plan))) (countOutcome result) out.old out.new }
+    ensures { Filled (held_in (length out.old) (plan_strip plan (total_of plan))) (count_outcome result) out.old out.new }
 {
     let count = layout_layers::parts::entries(plan);
     if out.len() < count {

@@ -10,33 +10,33 @@ use lib.Seq.{get_or-append-add}
 use lib.Dec.{ltb}
 use borrow.Author.Tests.{ltb-true, ltb-false}
 use Rattle.text.specs.Writing.{joined}
-use Rattle.text.proofs.Joined.{joined-more, joined-add, length-joined-le}
-use Rattle.mos_layers.specs.Layers.{dropEmpty, numbered}
+use Rattle.text.proofs.Joined.{joined_more, joined_add, length_joined_le}
+use Rattle.mos_layers.specs.Layers.{drop_empty, numbered}
 use Rattle.mos_layers.specs.Theorems.{sum}
-use Rattle.mos_layers.proofs.Sizes.{sum-append, sum-replicate, sum_drop, sum-joined-more, sum-joined-le, drop-append, drop_all, drop-joined, few, count-more, numbered-append, length-numbered}
+use Rattle.mos_layers.proofs.Sizes.{sum_append, sum_replicate, sum_drop, sum_joined_more, sum_joined_le, drop_append, drop_all, drop_joined, few, count_more, numbered_append, length_numbered}
 use Rattle.mos_layers.specs.declared.Runs.{Runs}
-use Rattle.mos_layers.specs.Parts.{run_at, runSizes}
-use Rattle.layout_layers.specs.Parts.{runLayer}
+use Rattle.mos_layers.specs.Parts.{run_at, run_sizes}
+use Rattle.layout_layers.specs.Parts.{run_layer}
 
 -- ---- in a list of numbered layers
 
 -- in the front part, and behind it
-pub numbered-front : (j : ℕ) (xs ys : List ℕ) (place : ℕ) → place < sum xs → get_or (numbered j (xs ++ ys)) place 0 ≡ get_or (numbered j xs) place 0
-numbered-front j xs ys place h =
-    ap (λ (l : List ℕ). get_or l place 0) (numbered-append j xs ys)
-    ∙ get_or-append (numbered j xs) (numbered (j + length xs) ys) 0 place (omega (arith, length-numbered j xs))
+pub numbered_front : (j : ℕ) (xs ys : List ℕ) (place : ℕ) → place < sum xs → get_or (numbered j (xs ++ ys)) place 0 ≡ get_or (numbered j xs) place 0
+numbered_front j xs ys place h =
+    ap (λ (l : List ℕ). get_or l place 0) (numbered_append j xs ys)
+    ∙ get_or-append (numbered j xs) (numbered (j + length xs) ys) 0 place (omega (arith, length_numbered j xs))
 
-pub numbered-behind : (j : ℕ) (xs ys : List ℕ) (left : ℕ)
+pub numbered_behind : (j : ℕ) (xs ys : List ℕ) (left : ℕ)
     → get_or (numbered j (xs ++ ys)) (sum xs + left) 0 ≡ get_or (numbered (j + length xs) ys) left 0
-numbered-behind j xs ys left =
-    ap (λ (l : List ℕ). get_or l (sum xs + left) 0) (numbered-append j xs ys)
-    ∙ ap (λ (n : ℕ). get_or (numbered j xs ++ numbered (j + length xs) ys) (n + left) 0) (sym (length-numbered j xs))
+numbered_behind j xs ys left =
+    ap (λ (l : List ℕ). get_or l (sum xs + left) 0) (numbered_append j xs ys)
+    ∙ ap (λ (n : ℕ). get_or (numbered j xs ++ numbered (j + length xs) ys) (n + left) 0) (sym (length_numbered j xs))
     ∙ get_or-append-add (numbered j xs) (numbered (j + length xs) ys) left 0
 
 -- of layers that all have one size
-pub numbered-run : (j times size left : ℕ) → 0 < size → left < times * size → get_or (numbered j (replicate times size)) left 0 ≡ j + left / size
-numbered-run j zero size left s h = absurd (let z : ⊥ = omega (arith, zero-mul size) in z)
-numbered-run j (suc times) size left s h = go (λ k. numbered-run (suc j) times size k s) (ltb left size) refl
+pub numbered_run : (j times size left : ℕ) → 0 < size → left < times * size → get_or (numbered j (replicate times size)) left 0 ≡ j + left / size
+numbered_run j zero size left s h = absurd (let z : ⊥ = omega (arith, zero-mul size) in z)
+numbered_run j (suc times) size left s h = go (λ k. numbered_run (suc j) times size k s) (ltb left size) refl
   where
     go : ((k : ℕ) → k < times * size → get_or (numbered (suc j) (replicate times size)) k 0 ≡ suc j + k / size) → (t : Bool) → ltb left size ≡ t → get_or (replicate size j ++ numbered (suc j) (replicate times size)) left 0 ≡ j + left / size
     go ih true t =
@@ -72,16 +72,16 @@ numbered_below j (size ∷ zs) place h = go (numbered_below (suc j) zs) (ltb pla
         )
 
 -- a layer that is not empty is met: its first place
-pub numbered-met : (j : ℕ) (zs : List ℕ) (a : ℕ) → a < length (dropEmpty zs)
-    → (place : ℕ) × (place < sum (dropEmpty zs)) × (get_or (numbered j (dropEmpty zs)) place 0 ≡ j + a)
-numbered-met j [] a h = absurd (let z : ⊥ = omega arith in z)
-numbered-met j (zero ∷ zs) a h = numbered-met j zs a h
-numbered-met j (suc size ∷ zs) zero h = (0, omega arith, sym (add-zero j))
-numbered-met j (suc size ∷ zs) (suc a) h =
-    let r = numbered-met (suc j) zs a (omega arith) in (
+pub numbered_met : (j : ℕ) (zs : List ℕ) (a : ℕ) → a < length (drop_empty zs)
+    → (place : ℕ) × (place < sum (drop_empty zs)) × (get_or (numbered j (drop_empty zs)) place 0 ≡ j + a)
+numbered_met j [] a h = absurd (let z : ⊥ = omega arith in z)
+numbered_met j (zero ∷ zs) a h = numbered_met j zs a h
+numbered_met j (suc size ∷ zs) zero h = (0, omega arith, sym (add-zero j))
+numbered_met j (suc size ∷ zs) (suc a) h =
+    let r = numbered_met (suc j) zs a (omega arith) in (
       length (replicate (suc size) j) + r.0,
       omega (arith, r.1, length-replicate (suc size) j),
-      get_or-append-add (replicate (suc size) j) (numbered (suc j) (dropEmpty zs)) r.0 0 ∙ r.2 ∙ omega arith,
+      get_or-append-add (replicate (suc size) j) (numbered (suc j) (drop_empty zs)) r.0 0 ∙ r.2 ∙ omega arith,
     )
 
 -- ---- after i runs
@@ -89,40 +89,40 @@ numbered-met j (suc size ∷ zs) (suc a) h =
 module _ (f : ℕ → List ℕ) (i place left : ℕ) (passed : place ≡ left + sum (joined f i)) where
   -- the place is in the next run
   pub run_holds : (count : ℕ) → i < count → left < sum (f i)
-      → get_or (numbered 0 (dropEmpty (joined f count))) place 0 ≡ get_or (numbered (length (dropEmpty (joined f i))) (dropEmpty (f i))) left 0
+      → get_or (numbered 0 (drop_empty (joined f count))) place 0 ≡ get_or (numbered (length (drop_empty (joined f i))) (drop_empty (f i))) left 0
   run_holds count h l =
-      let A = dropEmpty (joined f i) in
-      let B = dropEmpty (f i) in
-      let C = dropEmpty (joined (λ c. f (i + 1 + c)) (count - (i + 1))) in
-      let front : dropEmpty (joined f (i + 1)) ≡ A ++ B = ap dropEmpty (joined-more f i) ∙ drop-append (joined f i) (f i) in
-      let all : dropEmpty (joined f count) ≡ (A ++ B) ++ C
-      = ap (λ (k : ℕ). dropEmpty (joined f k)) (let q : count ≡ i + 1 + (count - (i + 1)) = omega arith in q)
-      ∙ ap dropEmpty (joined-add f (i + 1) (count - (i + 1)))
-      ∙ drop-append (joined f (i + 1)) (joined (λ c. f (i + 1 + c)) (count - (i + 1)))
+      let A = drop_empty (joined f i) in
+      let B = drop_empty (f i) in
+      let C = drop_empty (joined (λ c. f (i + 1 + c)) (count - (i + 1))) in
+      let front : drop_empty (joined f (i + 1)) ≡ A ++ B = ap drop_empty (joined_more f i) ∙ drop_append (joined f i) (f i) in
+      let all : drop_empty (joined f count) ≡ (A ++ B) ++ C
+      = ap (λ (k : ℕ). drop_empty (joined f k)) (let q : count ≡ i + 1 + (count - (i + 1)) = omega arith in q)
+      ∙ ap drop_empty (joined_add f (i + 1) (count - (i + 1)))
+      ∙ drop_append (joined f (i + 1)) (joined (λ c. f (i + 1 + c)) (count - (i + 1)))
       ∙ ap (λ (x : List ℕ). x ++ C) front in
       ap (λ (x : List ℕ). get_or (numbered 0 x) place 0) all
-      ∙ numbered-front 0 (A ++ B) C place (omega (arith, sum-append A B, sum_drop (joined f i), sum_drop (f i)))
+      ∙ numbered_front 0 (A ++ B) C place (omega (arith, sum_append A B, sum_drop (joined f i), sum_drop (f i)))
       ∙ ap (λ (k : ℕ). get_or (numbered 0 (A ++ B)) k 0) (let q : place ≡ sum A + left = omega (arith, sum_drop (joined f i)) in q)
-      ∙ numbered-behind 0 A B left
+      ∙ numbered_behind 0 A B left
       ∙ ap (λ (k : ℕ). get_or (numbered k B) left 0) (zero-add (length A))
 
 -- in a run of layers of one size
 module _ (f : ℕ → List ℕ) (i place left times size number : ℕ) (is : f i ≡ replicate times size) (passed : place ≡ left + sum (joined f i))
-    (counted : number ≡ length (dropEmpty (joined f i))) (inside : left < size * times) where
-  run-sized : 0 < size
-  run-sized = pos_of_ne-zero (λ e. let q : size * times ≡ 0 * times = ap (λ (n : ℕ). n * times) e in omega (arith, zero-mul times))
+    (counted : number ≡ length (drop_empty (joined f i))) (inside : left < size * times) where
+  run_sized : 0 < size
+  run_sized = pos_of_ne-zero (λ e. let q : size * times ≡ 0 * times = ap (λ (n : ℕ). n * times) e in omega (arith, zero-mul times))
 
-  pub run-size : 0 < size
-  run-size = run-sized
+  pub run_size : 0 < size
+  run_size = run_sized
 
-  pub run-found : (count : ℕ) → i < count → number + left / size ≡ get_or (numbered 0 (dropEmpty (joined f count))) place 0
-  run-found count h =
+  pub run_found : (count : ℕ) → i < count → number + left / size ≡ get_or (numbered 0 (drop_empty (joined f count))) place 0
+  run_found count h =
       let l : left < times * size = omega (arith, mul_comm size times) in
       sym
-      (run_holds f i place left passed count h (omega (arith, ap sum is, sum-replicate times size))
-      ∙ ap (λ (x : List ℕ). get_or (numbered (length (dropEmpty (joined f i))) x) left 0)
-      (ap dropEmpty is ∙ drop_all times size (λ e. omega (arith, run-sized)))
-      ∙ numbered-run (length (dropEmpty (joined f i))) times size left run-sized l
+      (run_holds f i place left passed count h (omega (arith, ap sum is, sum_replicate times size))
+      ∙ ap (λ (x : List ℕ). get_or (numbered (length (drop_empty (joined f i))) x) left 0)
+      (ap drop_empty is ∙ drop_all times size (λ e. omega (arith, run_sized)))
+      ∙ numbered_run (length (drop_empty (joined f i))) times size left run_sized l
       ∙ ap (λ (k : ℕ). k + left / size) (sym counted))
 
   -- no more layers than places
@@ -143,51 +143,51 @@ module _ (runs : Runs) where
     times = get_or runs.times i 0
 
     -- the run is within the whole
-    pub run-within : sum (joined run_of i) + times * size ≤ sum (runSizes runs)
-    run-within = omega (arith, sum-joined-more run_of i, sum-joined-le run_of (i + 1) 8 (omega arith), sum-replicate times size)
+    pub run_within : sum (joined run_of i) + times * size ≤ sum (run_sizes runs)
+    run_within = omega (arith, sum_joined_more run_of i, sum_joined_le run_of (i + 1) 8 (omega arith), sum_replicate times size)
 
-    pub run-span : sum (joined run_of (i + 1)) ≡ sum (joined run_of i) + times * size
-    run-span = omega (arith, sum-joined-more run_of i, sum-replicate times size)
+    pub run_span : sum (joined run_of (i + 1)) ≡ sum (joined run_of i) + times * size
+    run_span = omega (arith, sum_joined_more run_of i, sum_replicate times size)
 
-    pub span_fits : sum (runSizes runs) ≤ 65535 → size * times ≤ 65535
-    span_fits b = omega (arith, run-within, mul_comm times size)
+    pub span_fits : sum (run_sizes runs) ≤ 65535 → size * times ≤ 65535
+    span_fits b = omega (arith, run_within, mul_comm times size)
 
     -- its layers are among all
-    pub layers-within : length (dropEmpty (joined run_of i)) + length (dropEmpty (replicate times size)) ≤ length (dropEmpty (runSizes runs))
-    layers-within =
+    pub layers_within : length (drop_empty (joined run_of i)) + length (drop_empty (replicate times size)) ≤ length (drop_empty (run_sizes runs))
+    layers_within =
         omega (
           arith,
-          count-more run_of i {count = length (dropEmpty (joined run_of i))} {run = length (dropEmpty (replicate times size))} refl refl,
-          ap length (drop-joined run_of (i + 1)),
-          ap length (drop-joined run_of 8),
-          length-joined-le (λ k. dropEmpty (run_of k)) (i + 1) 8 (omega arith),
+          count_more run_of i {count = length (drop_empty (joined run_of i))} {run = length (drop_empty (replicate times size))} refl refl,
+          ap length (drop_joined run_of (i + 1)),
+          ap length (drop_joined run_of 8),
+          length_joined_le (λ k. drop_empty (run_of k)) (i + 1) 8 (omega arith),
         )
 
-    pub count-within : (first more : ℕ) → first ≡ length (dropEmpty (joined run_of i)) → more ≡ length (dropEmpty (replicate times size)) → first + more ≤ sum (runSizes runs)
-    count-within first more e q = omega (arith, layers-within, few (runSizes runs))
+    pub count_within : (first more : ℕ) → first ≡ length (drop_empty (joined run_of i)) → more ≡ length (drop_empty (replicate times size)) → first + more ≤ sum (run_sizes runs)
+    count_within first more e q = omega (arith, layers_within, few (run_sizes runs))
 
-    module _ (place left first : ℕ) (passed : place ≡ left + sum (joined run_of i)) (counted : first ≡ length (dropEmpty (joined run_of i))) where
+    module _ (place left first : ℕ) (passed : place ≡ left + sum (joined run_of i)) (counted : first ≡ length (drop_empty (joined run_of i))) where
       -- a place of this run
       module _ (inside : left < size * times) where
-        pub here-size : 0 < size
-        here-size = run-size run_of i place left times size first refl passed counted inside
+        pub here_size : 0 < size
+        here_size = run_size run_of i place left times size first refl passed counted inside
 
-        pub here-small : first + left / size ≤ place
-        here-small = run_small run_of i place left times size first refl passed counted inside
+        pub here_small : first + left / size ≤ place
+        here_small = run_small run_of i place left times size first refl passed counted inside
 
-        pub here_found : first + left / size ≡ runLayer runs place
-        unfolding runLayer
-        here_found = run-found run_of i place left times size first refl passed counted inside 8 h
+        pub here_found : first + left / size ≡ run_layer runs place
+        unfolding run_layer
+        here_found = run_found run_of i place left times size first refl passed counted inside 8 h
 
       -- a place behind it
-      pub past-run : size * times ≤ left → place ≡ left - size * times + sum (joined run_of (i + 1))
-      past-run b = omega (arith, run-span, mul_comm times size)
+      pub past_run : size * times ≤ left → place ≡ left - size * times + sum (joined run_of (i + 1))
+      past_run b = omega (arith, run_span, mul_comm times size)
 
-      pub past-count : (more : ℕ) → more ≡ length (dropEmpty (replicate times size)) → first + more ≡ length (dropEmpty (joined run_of (i + 1)))
-      past-count more e = count-more run_of i counted e
+      pub past_count : (more : ℕ) → more ≡ length (drop_empty (replicate times size)) → first + more ≡ length (drop_empty (joined run_of (i + 1)))
+      past_count more e = count_more run_of i counted e
 
   -- no place is behind all runs
-  pub none-behind : (place left i : ℕ) → place ≡ left + sum (joined run_of i) → place < sum (runSizes runs) → i ≤ 8 → 8 ≤ i → ⊥
-  none-behind place left i passed on a b =
+  pub none_behind : (place left i : ℕ) → place ≡ left + sum (joined run_of i) → place < sum (run_sizes runs) → i ≤ 8 → 8 ≤ i → ⊥
+  none_behind place left i passed on a b =
       let e : i ≡ 8 = omega arith in
       omega (arith, ap (λ (k : ℕ). sum (joined run_of k)) e)

@@ -8,49 +8,49 @@ use native.Mathlib.Nat.{mod-lt, mod-eq_of_lt, add-mod-mod, add-mod_right, add-ze
 use native.Mathlib.Omega.{arith}
 use lib.ListN.{length, get_or, replicate, length-replicate, get_or-replicate, get_or-append}
 use Rattle.answer.specs.Choice.{pick}
-use Rattle.text.proofs.Joined.{length-joined-each}
+use Rattle.text.proofs.Joined.{length_joined_each}
 use lib.Dec.{eqb}
 use borrow.Author.Tests.{eqb-true}
-use Rattle.math.specs.Gcd.{gcdOrOne}
-use Rattle.math.proofs.Gcd.{gcd-is, gcd-positive, gcd-or-one, gcd-or-one-positive, gcd-or-one-left, gcd-or-one-right}
+use Rattle.math.specs.Gcd.{gcd_or_one}
+use Rattle.math.proofs.Gcd.{gcd_is, gcd_positive, gcd_or_one_lem, gcd_or_one_positive, gcd_or_one_left, gcd_or_one_right}
 use Rattle.mos.specs.declared.Mos.{Mos}
-use Rattle.mos.specs.Patterns.{primaries, secondaries, primary, secondary, count_of, size_of, cyclesOf, reducedSizeOf}
+use Rattle.mos.specs.Patterns.{primaries, secondaries, primary, secondary, count_of, size_of, cycles_of, reduced_size_of}
 use Rattle.pergen.specs.Pergen.{cycles, reduced, degree, cycle, inverse}
-use Rattle.pergen.proofs.Inverse.{period-is, cycles-positive, reduced-positive}
-use Rattle.pergen.proofs.Keys.{cycle-below, formulas-agree}
-use Rattle.pergen.proofs.CarriedWalk.{keyWith, key-with-below, key-with-cycle, key-with-degree}
-use Rattle.mos_layers.specs.Layers.{holding, sharps, allSizes, dropEmpty, numbered, layerSizes, layersOf}
+use Rattle.pergen.proofs.Inverse.{period_is, cycles_positive, reduced_positive}
+use Rattle.pergen.proofs.Keys.{cycle_below, formulas_agree}
+use Rattle.pergen.proofs.CarriedWalk.{key_with, key_with_below, key_with_cycle, key_with_degree}
+use Rattle.mos_layers.specs.Layers.{holding, sharps, all_sizes, drop_empty, numbered, layer_sizes, layers_of}
 use Rattle.mos_layers.specs.Theorems.{sum}
 use Rattle.mos_layers.proofs.Sizes.{few, sum_drop}
-use Rattle.mos_layers.proofs.Plans.{holding-both}
-use Rattle.mos_layers.proofs.Theorems.{layer-sizes-sum}
+use Rattle.mos_layers.proofs.Plans.{holding_both}
+use Rattle.mos_layers.proofs.Theorems.{layer_sizes_sum}
 use Rattle.layout.specs.declared.IsomorphicLayout.{IsomorphicLayout}
 use Rattle.layout.specs.Layouts.{Layout, Accepted}
 use Rattle.layout.proofs.Finding.{Parts, accepted}
-use Rattle.layout.proofs.PatternShape.{PatternShape, pattern-shape}
-use Rattle.layout_layers.specs.KeyLayers.{equalized, entryCount, listedLayer, alternating, alternateLayer, layerOf, layerNumber, keyLayers, layerCount, number_in, countIn}
+use Rattle.layout.proofs.PatternShape.{PatternShape, pattern_shape}
+use Rattle.layout_layers.specs.KeyLayers.{equalized, entry_count, listed_layer, alternating, alternate_layer, layer_of, layer_number, key_layers, layer_count, number_in, count_in}
 use Rattle.layout_layers.specs.Theorems.{CountsFit, NumbersAreBelow, KeyZeroIsNatural, EachNumberIsMet, EntriesAreCounted, NumbersRepeat, LayersFromZeroOn}
-use Rattle.layout_layers.proofs.RunPlaces.{numbered_below, numbered-met}
-use Rattle.layout_layers.proofs.PlanLaws.{alternating-below, alternating-same, pick-below, block-fits}
+use Rattle.layout_layers.proofs.RunPlaces.{numbered_below, numbered_met}
+use Rattle.layout_layers.proofs.PlanLaws.{alternating_below, alternating_same, pick_below, block_fits}
 
-pub entries-are-counted : EntriesAreCounted
-unfolding keyLayers
-entries-are-counted l =
-    length-joined-each (λ i. number_in l i ∷ []) 1 (λ i. refl) (entryCount l.octave l.pattern) ∙ one-mul _
+pub entries_are_counted : EntriesAreCounted
+unfolding key_layers
+entries_are_counted l =
+    length_joined_each (λ i. number_in l i ∷ []) 1 (λ i. refl) (entry_count l.octave l.pattern) ∙ one-mul _
 
 -- behind the first layer, each takes a key at least
-few-behind : (size : ℕ) (rest : List ℕ) → 0 < size → length (dropEmpty (size ∷ rest)) + size ≤ sum (dropEmpty (size ∷ rest)) + 1
-few-behind zero rest h = absurd (let z : ⊥ = omega arith in z)
-few-behind (suc size) rest h = omega (arith, few rest, sum_drop rest)
+few_behind : (size : ℕ) (rest : List ℕ) → 0 < size → length (drop_empty (size ∷ rest)) + size ≤ sum (drop_empty (size ∷ rest)) + 1
+few_behind zero rest h = absurd (let z : ⊥ = omega arith in z)
+few_behind (suc size) rest h = omega (arith, few rest, sum_drop rest)
 
-pick-fewer : (b : Bool) (u v m : ℕ) → u + 3 ≤ m → v + 3 ≤ m → pick b u v + 3 ≤ m
-pick-fewer true u v m h k = h
-pick-fewer false u v m h k = k
+pick_fewer : (b : Bool) (u v m : ℕ) → u + 3 ≤ m → v + 3 ≤ m → pick b u v + 3 ≤ m
+pick_fewer true u v m h k = h
+pick_fewer false u v m h k = k
 
 -- two octaves on, the parity is the same
-alternating-again : (N s h q : ℕ) → 0 < N → alternating N s h (q + 2 * N) ≡ alternating N s h q
+alternating_again : (N s h q : ℕ) → 0 < N → alternating N s h (q + 2 * N) ≡ alternating N s h q
 unfolding alternating
-alternating-again N s h q some =
+alternating_again N s h q some =
     let on : (q + 2 * N + h) * s ≡ (q + h) * s + 2 * s * N
     = ap (λ (k : ℕ). k * s) (let e : q + 2 * N + h ≡ q + h + 2 * N = omega arith in e)
     ∙ add-mul (q + h) (2 * N) s
@@ -73,27 +73,27 @@ module _ (r : IsomorphicLayout) (l : Layout) (ok : Accepted r l) where
   parts = accepted r l ok
 
   shape : PatternShape l
-  shape = pattern-shape l parts
+  shape = pattern_shape l parts
 
   -- a place of the list
-  place_in : (i : ℕ) → (l.start + degree P G i) % reduced P G < sum (layerSizes m)
+  place_in : (i : ℕ) → (l.start + degree P G i) % reduced P G < sum (layer_sizes m)
   place_in i =
-      subst (λ (k : ℕ). (l.start + degree P G i) % reduced P G < k) (sym (layer-sizes-sum m ∙ shape.reduced-is)) (mod-lt _ (reduced-positive P G parts.positive))
+      subst (λ (k : ℕ). (l.start + degree P G i) % reduced P G < k) (sym (layer_sizes_sum m ∙ shape.reduced_is)) (mod-lt _ (reduced_positive P G parts.positive))
 
-  layer-in : (i : ℕ) → layerOf P G l.letters l.start m i < pick (equalized m) 2 (length (layerSizes m))
-  unfolding layerOf alternateLayer listedLayer layersOf
-  layer-in i =
-      pick-below (equalized m) _ _ 2 (length (layerSizes m)) (alternating-below l.letters (secondaries m) (G * l.start / cycles P G) (i / cycles P G))
-      (subst (λ (k : ℕ). get_or (numbered 0 (layerSizes m)) ((l.start + degree P G i) % reduced P G) 0 < k) (zero-add (length (layerSizes m)))
-      (numbered_below 0 (layerSizes m) ((l.start + degree P G i) % reduced P G) (place_in i)))
+  layer_in_lem : (i : ℕ) → layer_of P G l.letters l.start m i < pick (equalized m) 2 (length (layer_sizes m))
+  unfolding layer_of alternate_layer listed_layer layers_of
+  layer_in_lem i =
+      pick_below (equalized m) _ _ 2 (length (layer_sizes m)) (alternating_below l.letters (secondaries m) (G * l.start / cycles P G) (i / cycles P G))
+      (subst (λ (k : ℕ). get_or (numbered 0 (layer_sizes m)) ((l.start + degree P G i) % reduced P G) 0 < k) (zero-add (length (layer_sizes m)))
+      (numbered_below 0 (layer_sizes m) ((l.start + degree P G i) % reduced P G) (place_in i)))
 
-  below : (i : ℕ) → number_in l i < countIn l
-  unfolding layerNumber layerCount
+  below : (i : ℕ) → number_in l i < count_in l
+  unfolding layer_number layer_count
   below i =
       omega (
         arith,
-        block-fits (layerOf P G l.letters l.start m i) (pick (equalized m) 2 (length (layerSizes m))) (cycles P G) (layer-in i),
-        cycle-below P G parts.positive i,
+        block_fits (layer_of P G l.letters l.start m i) (pick (equalized m) 2 (length (layer_sizes m))) (cycles P G) (layer_in_lem i),
+        cycle_below P G parts.positive i,
       )
 
   -- ---- key 0
@@ -101,154 +101,154 @@ module _ (r : IsomorphicLayout) (l : Layout) (ok : Accepted r l) where
   divided : (x : ℕ) → 0 < x → (g : ℕ) → 0 < g → g ≤ x → 0 < x / g
   divided x h g k b = (le-div_iff_mul-le k).1 (subst (λ (y : ℕ). y ≤ x) (sym (one-mul g)) b)
 
-  natural-size : holding (primaries m) (secondaries m) (primary m / cyclesOf m) (secondary m / cyclesOf m) ≡ l.letters
-  unfolding cyclesOf
-  natural-size =
-      let g = cyclesOf m in
-      let pos = gcd-or-one-positive (primary m) (secondary m) in
-      let p = divided (primary m) shape.primary-above g pos (le_of_dvd shape.primary-above (gcd-or-one-left (primary m) (secondary m))) in
-      let s = divided (secondary m) shape.secondary-above g pos (le_of_dvd shape.secondary-above (gcd-or-one-right (primary m) (secondary m))) in
-      sym (holding-both (primaries m) (secondaries m) (primary m / g) (secondary m / g) (λ e. omega arith) (λ e. omega arith)) ∙ shape.letters
+  natural_size : holding (primaries m) (secondaries m) (primary m / cycles_of m) (secondary m / cycles_of m) ≡ l.letters
+  unfolding cycles_of
+  natural_size =
+      let g = cycles_of m in
+      let pos = gcd_or_one_positive (primary m) (secondary m) in
+      let p = divided (primary m) shape.primary_above g pos (le_of_dvd shape.primary_above (gcd_or_one_left (primary m) (secondary m))) in
+      let s = divided (secondary m) shape.secondary_above g pos (le_of_dvd shape.secondary_above (gcd_or_one_right (primary m) (secondary m))) in
+      sym (holding_both (primaries m) (secondaries m) (primary m / g) (secondary m / g) (λ e. omega arith) (λ e. omega arith)) ∙ shape.letters
 
-  layers-few : length (layerSizes m) + l.letters ≤ reduced P G + 1
-  unfolding layerSizes allSizes
-  layers-few =
+  layers_few : length (layer_sizes m) + l.letters ≤ reduced P G + 1
+  unfolding layer_sizes all_sizes
+  layers_few =
       let a = primaries m in
       let b = secondaries m in
-      let x = primary m / cyclesOf m in
-      let y = secondary m / cyclesOf m in
+      let x = primary m / cycles_of m in
+      let y = secondary m / cycles_of m in
       omega (
         arith,
-        few-behind (holding a b x y)
+        few_behind (holding a b x y)
             (sharps a b ((x - 1) / 2) ((y - 1) / 2) ++ (holding a b ((x - 1) % 2) ((y - 1) % 2) ∷ reverse (sharps a b ((x - 1) / 2) ((y - 1) / 2))))
-            (omega (arith, natural-size, shape.at-least-five)),
-        natural-size,
-        layer-sizes-sum m,
-        shape.reduced-is,
+            (omega (arith, natural_size, shape.at_least_five)),
+        natural_size,
+        layer_sizes_sum m,
+        shape.reduced_is,
       )
 
-  fits : countIn l + 3 ≤ P
-  unfolding layerCount
+  fits : count_in l + 3 ≤ P
+  unfolding layer_count
   fits =
       let n = cycles P G in
-      let layers = pick (equalized m) 2 (length (layerSizes m)) in
+      let layers = pick (equalized m) 2 (length (layer_sizes m)) in
       let most : layers + 3 ≤ reduced P G
-      = pick-fewer (equalized m) 2 (length (layerSizes m)) (reduced P G) (omega (arith, shape.at-least-five, shape.enough-keys)) (omega (arith, layers-few, shape.at-least-five)) in
-      omega (arith, mul-le-mul_right n most, add-mul layers 3 n, period-is P G parts.positive, cycles-positive P G parts.positive)
+      = pick_fewer (equalized m) 2 (length (layer_sizes m)) (reduced P G) (omega (arith, shape.at_least_five, shape.enough_keys)) (omega (arith, layers_few, shape.at_least_five)) in
+      omega (arith, mul-le-mul_right n most, add-mul layers 3 n, period_is P G parts.positive, cycles_positive P G parts.positive)
 
-  front : (size : ℕ) (rest : List ℕ) (place : ℕ) → place < size → get_or (numbered 0 (dropEmpty (size ∷ rest))) place 0 ≡ 0
+  front : (size : ℕ) (rest : List ℕ) (place : ℕ) → place < size → get_or (numbered 0 (drop_empty (size ∷ rest))) place 0 ≡ 0
   front zero rest place h = absurd (let z : ⊥ = omega arith in z)
   front (suc size) rest place h =
-      get_or-append (replicate (suc size) 0) (numbered 1 (dropEmpty rest)) 0 place (omega (arith, length-replicate {A = ℕ} (suc size) 0))
+      get_or-append (replicate (suc size) 0) (numbered 1 (drop_empty rest)) 0 place (omega (arith, length-replicate {A = ℕ} (suc size) 0))
       ∙ get_or-replicate (suc size) place 0 0 h
 
   -- the letters' places on the chain are in the natural layer
-  pub letters-natural : (place : ℕ) → place < l.letters → get_or (layersOf m) place 0 ≡ 0
-  unfolding layersOf layerSizes allSizes
-  letters-natural place h =
+  pub letters_natural : (place : ℕ) → place < l.letters → get_or (layers_of m) place 0 ≡ 0
+  unfolding layers_of layer_sizes all_sizes
+  letters_natural place h =
       let a = primaries m in
       let b = secondaries m in
-      let x = primary m / cyclesOf m in
-      let y = secondary m / cyclesOf m in
+      let x = primary m / cycles_of m in
+      let y = secondary m / cycles_of m in
       front (holding a b x y)
       (sharps a b ((x - 1) / 2) ((y - 1) / 2) ++ (holding a b ((x - 1) % 2) ((y - 1) % 2) ∷ reverse (sharps a b ((x - 1) / 2) ((y - 1) / 2))))
-      place (subst (λ (k : ℕ). place < k) (sym natural-size) h)
+      place (subst (λ (k : ℕ). place < k) (sym natural_size) h)
 
-  degree-zero : degree P G 0 ≡ 0
+  degree_zero : degree P G 0 ≡ 0
   unfolding degree
-  degree-zero =
+  degree_zero =
       ap (λ (k : ℕ). inverse P G * k % reduced P G) (zero-div (cycles P G))
       ∙ ap (λ (k : ℕ). k % reduced P G) (mul-zero (inverse P G))
       ∙ zero-mod (reduced P G)
 
-  start-place : (l.start + degree P G 0) % reduced P G ≡ l.start
-  start-place =
-      ap (λ (k : ℕ). (l.start + k) % reduced P G) degree-zero
+  start_place : (l.start + degree P G 0) % reduced P G ≡ l.start
+  start_place =
+      ap (λ (k : ℕ). (l.start + k) % reduced P G) degree_zero
       ∙ ap (λ (k : ℕ). k % reduced P G) (add-zero l.start)
-      ∙ mod-eq_of_lt (omega (arith, shape.start-below, shape.enough-keys))
+      ∙ mod-eq_of_lt (omega (arith, shape.start_below, shape.enough_keys))
 
-  listed-zero : listedLayer P G l.start m 0 ≡ 0
-  unfolding listedLayer
-  listed-zero = ap (λ (k : ℕ). get_or (layersOf m) k 0) start-place ∙ letters-natural l.start shape.start-below
+  listed_zero : listed_layer P G l.start m 0 ≡ 0
+  unfolding listed_layer
+  listed_zero = ap (λ (k : ℕ). get_or (layers_of m) k 0) start_place ∙ letters_natural l.start shape.start_below
 
-  alternate-zero : (i : ℕ) → i / cycles P G ≡ 0 → alternateLayer P G l.letters l.start (secondaries m) i ≡ 0
-  unfolding alternateLayer
-  alternate-zero i e =
+  alternate_zero : (i : ℕ) → i / cycles P G ≡ 0 → alternate_layer P G l.letters l.start (secondaries m) i ≡ 0
+  unfolding alternate_layer
+  alternate_zero i e =
       let h = G * l.start / cycles P G in
       sym
-      (alternating-same l.letters (secondaries m) h (i / cycles P G)
+      (alternating_same l.letters (secondaries m) h (i / cycles P G)
       (ap (λ (k : ℕ). k * secondaries m / l.letters % 2) (let q : h ≡ i / cycles P G + h = omega arith in q)))
 
-  pick-zero : (b : Bool) (u v : ℕ) → u ≡ 0 → v ≡ 0 → pick b u v ≡ 0
-  pick-zero true u v e f = e
-  pick-zero false u v e f = f
+  pick_zero : (b : Bool) (u v : ℕ) → u ≡ 0 → v ≡ 0 → pick b u v ≡ 0
+  pick_zero true u v e f = e
+  pick_zero false u v e f = f
 
-  zero-natural : number_in l 0 ≡ 0
-  unfolding layerNumber layerOf cycle
-  zero-natural =
-      let a = pick-zero (equalized m) _ _ (alternate-zero 0 (zero-div (cycles P G))) listed-zero in
+  zero_natural : number_in l 0 ≡ 0
+  unfolding layer_number layer_of cycle
+  zero_natural =
+      let a = pick_zero (equalized m) _ _ (alternate_zero 0 (zero-div (cycles P G))) listed_zero in
       omega (arith, ap (λ (k : ℕ). k * cycles P G) a, zero-mul (cycles P G), zero-mod (cycles P G))
 
   -- in an equalized scale the keys below n are in the first layer
-  pub first-keys : equalized m ≡ true → (i : ℕ) → i / cycles P G ≡ 0 → number_in l i ≡ cycle P G i
-  unfolding layerNumber layerOf
-  first-keys t i e =
-      let a : layerOf P G l.letters l.start m i ≡ 0
-      = ap (λ (b : Bool). pick b (alternateLayer P G l.letters l.start (secondaries m) i) (listedLayer P G l.start m i)) t ∙ alternate-zero i e in
+  pub first_keys : equalized m ≡ true → (i : ℕ) → i / cycles P G ≡ 0 → number_in l i ≡ cycle P G i
+  unfolding layer_number layer_of
+  first_keys t i e =
+      let a : layer_of P G l.letters l.start m i ≡ 0
+      = ap (λ (b : Bool). pick b (alternate_layer P G l.letters l.start (secondaries m) i) (listed_layer P G l.start m i)) t ∙ alternate_zero i e in
       ap (λ (k : ℕ). k * cycles P G + cycle P G i) a ∙ ap (λ (k : ℕ). k + cycle P G i) (zero-mul (cycles P G)) ∙ zero-add (cycle P G i)
 
   -- ---- the entries repeat
 
   -- equal steps are as large as the number of cycles, so there are as many keys in a cycle as letters
-  pub equal-steps : equalized m ≡ true → reduced P G ≡ l.letters
-  unfolding reducedSizeOf cyclesOf size_of
-  equal-steps t =
+  pub equal_steps : equalized m ≡ true → reduced P G ≡ l.letters
+  unfolding reduced_size_of cycles_of size_of
+  equal_steps t =
       let p = primary m in
       let same : p ≡ secondary m = eqb-true p (secondary m) t in
-      let g = gcd-is p (secondary m) in
-      let whole : gcdOrOne p (secondary m) ≡ p
-      = gcd-or-one p (secondary m) (gcd-positive p (secondary m) shape.primary-above)
+      let g = gcd_is p (secondary m) in
+      let whole : gcd_or_one p (secondary m) ≡ p
+      = gcd_or_one_lem p (secondary m) (gcd_positive p (secondary m) shape.primary_above)
       ∙ dvd_antisymm g.left (g.greatest p (dvd_refl p) (subst (λ (k : ℕ). p ∣ k) same (dvd_refl p))) in
-      sym shape.reduced-is
+      sym shape.reduced_is
       ∙ ap₂ (λ (x y : ℕ). x / y) (ap (λ (k : ℕ). primaries m * p + secondaries m * k) (sym same) ∙ sym (add-mul (primaries m) (secondaries m) p)) whole
-      ∙ mul-div_cancel (count_of m) shape.primary-above
+      ∙ mul-div_cancel (count_of m) shape.primary_above
       ∙ shape.letters
 
   same_key : (i k : ℕ) → (i + k * P) % P ≡ i % P
   same_key i k = add-mul-mod_self_right i k P
 
-  turns-on : (i : ℕ) → (i + 2 * P) / cycles P G ≡ i / cycles P G + 2 * reduced P G
-  turns-on i =
-      ap (λ (k : ℕ). (i + k) / cycles P G) (ap (λ (k : ℕ). 2 * k) (period-is P G parts.positive) ∙ sym (mul_assoc 2 (reduced P G) (cycles P G)))
-      ∙ add-mul-div_right i (2 * reduced P G) (cycles-positive P G parts.positive)
+  turns_on : (i : ℕ) → (i + 2 * P) / cycles P G ≡ i / cycles P G + 2 * reduced P G
+  turns_on i =
+      ap (λ (k : ℕ). (i + k) / cycles P G) (ap (λ (k : ℕ). 2 * k) (period_is P G parts.positive) ∙ sym (mul_assoc 2 (reduced P G) (cycles P G)))
+      ∙ add-mul-div_right i (2 * reduced P G) (cycles_positive P G parts.positive)
 
-  alternate-again : equalized m ≡ true → (i : ℕ)
-      → alternateLayer P G l.letters l.start (secondaries m) (i + 2 * P) ≡ alternateLayer P G l.letters l.start (secondaries m) i
-  unfolding alternateLayer
-  alternate-again t i =
-      ap (alternating l.letters (secondaries m) (G * l.start / cycles P G)) (turns-on i ∙ ap (λ (k : ℕ). i / cycles P G + 2 * k) (equal-steps t))
-      ∙ alternating-again l.letters (secondaries m) (G * l.start / cycles P G) (i / cycles P G) (omega (arith, shape.at-least-five))
+  alternate_again : equalized m ≡ true → (i : ℕ)
+      → alternate_layer P G l.letters l.start (secondaries m) (i + 2 * P) ≡ alternate_layer P G l.letters l.start (secondaries m) i
+  unfolding alternate_layer
+  alternate_again t i =
+      ap (alternating l.letters (secondaries m) (G * l.start / cycles P G)) (turns_on i ∙ ap (λ (k : ℕ). i / cycles P G + 2 * k) (equal_steps t))
+      ∙ alternating_again l.letters (secondaries m) (G * l.start / cycles P G) (i / cycles P G) (omega (arith, shape.at_least_five))
 
   again_by : (b : Bool) → equalized m ≡ b → (i : ℕ) → number_in l (i + pick b (2 * P) P) ≡ number_in l i
-  unfolding layerNumber layerOf listedLayer
+  unfolding layer_number layer_of listed_layer
   again_by true t i =
-      let keys = formulas-agree P G parts.positive (i + 2 * P) i (same_key i 2) in
+      let keys = formulas_agree P G parts.positive (i + 2 * P) i (same_key i 2) in
       ap₂ (λ (x y : ℕ). x * cycles P G + y)
-      (ap (λ (b : Bool). pick b (alternateLayer P G l.letters l.start (secondaries m) (i + 2 * P)) (listedLayer P G l.start m (i + 2 * P))) t
-      ∙ alternate-again t i
-      ∙ ap (λ (b : Bool). pick b (alternateLayer P G l.letters l.start (secondaries m) i) (listedLayer P G l.start m i)) (sym t))
+      (ap (λ (b : Bool). pick b (alternate_layer P G l.letters l.start (secondaries m) (i + 2 * P)) (listed_layer P G l.start m (i + 2 * P))) t
+      ∙ alternate_again t i
+      ∙ ap (λ (b : Bool). pick b (alternate_layer P G l.letters l.start (secondaries m) i) (listed_layer P G l.start m i)) (sym t))
       keys.1
   again_by false t i =
-      let keys = formulas-agree P G parts.positive (i + P) i (add-mod_right i P) in
+      let keys = formulas_agree P G parts.positive (i + P) i (add-mod_right i P) in
       ap₂ (λ (x y : ℕ). x * cycles P G + y)
-      (ap (λ (b : Bool). pick b (alternateLayer P G l.letters l.start (secondaries m) (i + P)) (listedLayer P G l.start m (i + P))) t
-      ∙ ap (λ (d : ℕ). get_or (layersOf m) ((l.start + d) % reduced P G) 0) keys.0
-      ∙ ap (λ (b : Bool). pick b (alternateLayer P G l.letters l.start (secondaries m) i) (listedLayer P G l.start m i)) (sym t))
+      (ap (λ (b : Bool). pick b (alternate_layer P G l.letters l.start (secondaries m) (i + P)) (listed_layer P G l.start m (i + P))) t
+      ∙ ap (λ (d : ℕ). get_or (layers_of m) ((l.start + d) % reduced P G) 0) keys.0
+      ∙ ap (λ (b : Bool). pick b (alternate_layer P G l.letters l.start (secondaries m) i) (listed_layer P G l.start m i)) (sym t))
       keys.1
 
   -- ---- each number
 
-  module _ (other : equalized m ≡ false) (j : ℕ) (h : j < countIn l) where
+  module _ (other : equalized m ≡ false) (j : ℕ) (h : j < count_in l) where
     abbrev n : ℕ
     n = cycles P G
 
@@ -258,81 +258,81 @@ module _ (r : IsomorphicLayout) (l : Layout) (ok : Accepted r l) where
     abbrev start : ℕ
     start = l.start
 
-    within : j / n < length (layerSizes m)
-    unfolding layerCount
+    within : j / n < length (layer_sizes m)
+    unfolding layer_count
     within =
-        (div-lt_iff_lt-mul (cycles-positive P G parts.positive)).1
-        (subst (λ (b : Bool). j < pick b 2 (length (layerSizes m)) * n) other h)
+        (div-lt_iff_lt-mul (cycles_positive P G parts.positive)).1
+        (subst (λ (b : Bool). j < pick b 2 (length (layer_sizes m)) * n) other h)
 
-    first-place : (place : ℕ) × (place < sum (layerSizes m)) × (get_or (layersOf m) place 0 ≡ j / n)
-    unfolding layersOf layerSizes
-    first-place =
-        let r = numbered-met 0 (allSizes (primaries m) (secondaries m) (primary m / cyclesOf m) (secondary m / cyclesOf m)) (j / n) within in
+    first_place : (place : ℕ) × (place < sum (layer_sizes m)) × (get_or (layers_of m) place 0 ≡ j / n)
+    unfolding layers_of layer_sizes
+    first_place =
+        let r = numbered_met 0 (all_sizes (primaries m) (secondaries m) (primary m / cycles_of m) (secondary m / cycles_of m)) (j / n) within in
         (r.0, r.1, r.2 ∙ zero-add (j / n))
 
     abbrev place : ℕ
-    place = first-place.0
+    place = first_place.0
 
     abbrev d : ℕ
     d = (place + (R - start)) % R
 
-    d-below : d < R
-    d-below = mod-lt _ (reduced-positive P G parts.positive)
+    d_below : d < R
+    d_below = mod-lt _ (reduced_positive P G parts.positive)
 
-    c-below : j % n < n
-    c-below = mod-lt j (cycles-positive P G parts.positive)
+    c_below : j % n < n
+    c_below = mod-lt j (cycles_positive P G parts.positive)
 
     leads : (start + d) % R ≡ place
     leads =
-        let b : place < R = omega (arith, first-place.1, layer-sizes-sum m, shape.reduced-is) in
+        let b : place < R = omega (arith, first_place.1, layer_sizes_sum m, shape.reduced_is) in
         add-mod-mod start (place + (R - start)) R
-        ∙ ap (λ (k : ℕ). k % R) (let q : start + (place + (R - start)) ≡ place + R = omega (arith, shape.start-below, shape.enough-keys) in q)
+        ∙ ap (λ (k : ℕ). k % R) (let q : start + (place + (R - start)) ≡ place + R = omega (arith, shape.start_below, shape.enough_keys) in q)
         ∙ add-mod_right place R
         ∙ mod-eq_of_lt b
 
-    key-number : number_in l (keyWith P G parts.positive d (j % n) d-below c-below) ≡ j
-    unfolding layerNumber layerOf listedLayer
-    key-number =
-        let i = keyWith P G parts.positive d (j % n) d-below c-below in
-        let a : layerOf P G l.letters start m i ≡ j / n
-        = ap (λ (b : Bool). pick b (alternateLayer P G l.letters start (secondaries m) i) (listedLayer P G start m i)) other
-        ∙ ap (λ (k : ℕ). get_or (layersOf m) ((start + k) % R) 0) (key-with-degree P G parts.positive d (j % n) d-below c-below)
-        ∙ ap (λ (k : ℕ). get_or (layersOf m) k 0) leads
-        ∙ first-place.2 in
-        ap₂ (λ (x y : ℕ). x * n + y) a (key-with-cycle P G parts.positive d (j % n) d-below c-below) ∙ div-add-mod' j n
+    key_number : number_in l (key_with P G parts.positive d (j % n) d_below c_below) ≡ j
+    unfolding layer_number layer_of listed_layer
+    key_number =
+        let i = key_with P G parts.positive d (j % n) d_below c_below in
+        let a : layer_of P G l.letters start m i ≡ j / n
+        = ap (λ (b : Bool). pick b (alternate_layer P G l.letters start (secondaries m) i) (listed_layer P G start m i)) other
+        ∙ ap (λ (k : ℕ). get_or (layers_of m) ((start + k) % R) 0) (key_with_degree P G parts.positive d (j % n) d_below c_below)
+        ∙ ap (λ (k : ℕ). get_or (layers_of m) k 0) leads
+        ∙ first_place.2 in
+        ap₂ (λ (x y : ℕ). x * n + y) a (key_with_cycle P G parts.positive d (j % n) d_below c_below) ∙ div-add-mod' j n
 
     met : (key : ℕ) × (key < P) × (number_in l key ≡ j)
     met = (
-      keyWith P G parts.positive d (j % n) d-below c-below,
-      key-with-below P G parts.positive d (j % n) d-below c-below,
-      key-number,
+      key_with P G parts.positive d (j % n) d_below c_below,
+      key_with_below P G parts.positive d (j % n) d_below c_below,
+      key_number,
     )
 
-pub counts-fit : CountsFit
-counts-fit r l ok = fits r l ok
+pub counts_fit : CountsFit
+counts_fit r l ok = fits r l ok
 
-pub numbers-are-below : NumbersAreBelow
-numbers-are-below r l ok key = below r l ok key
+pub numbers_are_below : NumbersAreBelow
+numbers_are_below r l ok key = below r l ok key
 
-pub key-zero-is-natural : KeyZeroIsNatural
-key-zero-is-natural r l ok = zero-natural r l ok
+pub key_zero_is_natural : KeyZeroIsNatural
+key_zero_is_natural r l ok = zero_natural r l ok
 
-pub each-number-is-met : EachNumberIsMet
-each-number-is-met r l ok other j h = met r l ok other j h
+pub each_number_is_met : EachNumberIsMet
+each_number_is_met r l ok other j h = met r l ok other j h
 
-pub numbers-repeat : NumbersRepeat
-numbers-repeat r l ok key = again_by r l ok (equalized l.pattern) refl key
+pub numbers_repeat : NumbersRepeat
+numbers_repeat r l ok key = again_by r l ok (equalized l.pattern) refl key
 
-pub layers-from-zero-on : LayersFromZeroOn
-layers-from-zero-on r l ok key =
+pub layers_from_zero_on : LayersFromZeroOn
+layers_from_zero_on r l ok key =
     sym (rounds (key / count) (key % count)) ∙ ap (number_in l) (add_comm (key % count) (key / count * count) ∙ div-add-mod' key count)
   where
     count : ℕ
-    count = entryCount l.octave l.pattern
+    count = entry_count l.octave l.pattern
 
     rounds : (turns i : ℕ) → number_in l (i + turns * count) ≡ number_in l i
     rounds zero i = ap (λ (k : ℕ). number_in l (i + k)) (zero-mul count) ∙ ap (number_in l) (add-zero i)
     rounds (suc turns) i =
         ap (number_in l) (let e : i + suc turns * count ≡ i + turns * count + count = omega (arith, suc-mul turns count) in e)
-        ∙ numbers-repeat r l ok (i + turns * count)
+        ∙ numbers_repeat r l ok (i + turns * count)
         ∙ rounds turns i

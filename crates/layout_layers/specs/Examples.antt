@@ -6,8 +6,8 @@ use Rattle.layout.specs.Examples.{layout}
 use Rattle.layout_layers.specs.declared.Layer.{Layer}
 use Rattle.layout_layers.specs.declared.Layer.TheVariants.{Natural, Sharp, Enharmonic, Flat}
 use Rattle.layout_layers.specs.KeyLayers.{kind_of}
-use Rattle.layout_layers.specs.LampCodes.{lampCode}
-use Rattle.layout_layers.specs.Answers.{getLayers, getLayerCount, getLayer}
+use Rattle.layout_layers.specs.LampCodes.{lamp_code}
+use Rattle.layout_layers.specs.Answers.{get_layers, get_layer_count, get_layer}
 
 -- ---- numbers: how many, and those of the keys
 
@@ -16,8 +16,8 @@ pub record NumbersExample : Type 0 where
   pub total : Outcome ℕ
   pub numbers : Outcome (List ℕ)
 
-abbrev pub numbersExamples : List NumbersExample
-numbersExamples =
+abbrev pub numbers_examples : List NumbersExample
+numbers_examples =
     record {
       layout = layout 1 12 19;
       total = given 2;
@@ -60,11 +60,11 @@ pub record KindsExample : Type 0 where
   pub layout : IsomorphicLayout
   pub kinds : Outcome (List Layer)
 
-abbrev pub kindsIn : IsomorphicLayout → Outcome (List Layer)
-kindsIn r = and_then (getLayers r) (λ (js : List ℕ). and_then (getLayerCount r) (λ (T : ℕ). given (map (kind_of T) js)))
+abbrev pub kinds_in : IsomorphicLayout → Outcome (List Layer)
+kinds_in r = and_then (get_layers r) (λ (js : List ℕ). and_then (get_layer_count r) (λ (T : ℕ). given (map (kind_of T) js)))
 
-abbrev pub kindsExamples : List KindsExample
-kindsExamples =
+abbrev pub kinds_examples : List KindsExample
+kinds_examples =
     record {
       layout = layout 1 17 27;
       kinds = given (Natural ∷ Flat 0 ∷ Sharp 0 ∷ Natural ∷ Natural ∷ Flat 0 ∷ Sharp 0 ∷ Natural ∷ Flat 0 ∷ Sharp 0 ∷ Natural ∷ Flat 0 ∷ Sharp 0 ∷ Natural ∷ Natural ∷ Flat 0 ∷ Sharp 0 ∷ []);
@@ -86,8 +86,8 @@ pub record KeyExample : Type 0 where
   pub key : ℤ
   pub number : Outcome ℕ
 
-abbrev pub keyExamples : List KeyExample
-keyExamples =
+abbrev pub key_examples : List KeyExample
+key_examples =
     record { layout = layout 1 12 19; key = pos 65535; number = given 0 }
     ∷ record { layout = layout 1 7 11; key = pos 65535; number = given 0 }
     ∷ record { layout = layout 1 31 49; key = pos 33; number = given 1 }
@@ -106,13 +106,13 @@ keyExamples =
 
 -- Theorem: the definitions give what the examples say.
 pub record ExamplesHold : Type 0 where
-  pub totals : map (λ (e : NumbersExample). getLayerCount e.layout) numbersExamples ≡ map (λ (e : NumbersExample). e.total) numbersExamples
-  pub numbers : map (λ (e : NumbersExample). getLayers e.layout) numbersExamples ≡ map (λ (e : NumbersExample). e.numbers) numbersExamples
-  pub kinds : map (λ (e : KindsExample). kindsIn e.layout) kindsExamples ≡ map (λ (e : KindsExample). e.kinds) kindsExamples
-  pub keys : map (λ (e : KeyExample). getLayer e.layout e.key) keyExamples ≡ map (λ (e : KeyExample). e.number) keyExamples
-  pub codes : map lampCode (Natural ∷ Sharp 0 ∷ Sharp 99 ∷ Flat 0 ∷ Flat 99 ∷ Enharmonic 7 ∷ []) ≡ 1 ∷ 2 ∷ 200 ∷ 3 ∷ 201 ∷ 65535 ∷ []
+  pub totals : map (λ (e : NumbersExample). get_layer_count e.layout) numbers_examples ≡ map (λ (e : NumbersExample). e.total) numbers_examples
+  pub numbers : map (λ (e : NumbersExample). get_layers e.layout) numbers_examples ≡ map (λ (e : NumbersExample). e.numbers) numbers_examples
+  pub kinds : map (λ (e : KindsExample). kinds_in e.layout) kinds_examples ≡ map (λ (e : KindsExample). e.kinds) kinds_examples
+  pub keys : map (λ (e : KeyExample). get_layer e.layout e.key) key_examples ≡ map (λ (e : KeyExample). e.number) key_examples
+  pub codes : map lamp_code (Natural ∷ Sharp 0 ∷ Sharp 99 ∷ Flat 0 ∷ Flat 99 ∷ Enharmonic 7 ∷ []) ≡ 1 ∷ 2 ∷ 200 ∷ 3 ∷ 201 ∷ 65535 ∷ []
   -- the last of each kind that 16 bits hold
-  pub last-codes : map lampCode (Sharp 32766 ∷ Flat 32765 ∷ []) ≡ 65534 ∷ 65533 ∷ []
+  pub last_codes : map lamp_code (Sharp 32766 ∷ Flat 32765 ∷ []) ≡ 65534 ∷ 65533 ∷ []
   -- a number from T on counts as flat 0, but 0 is natural, where T is 0 too
   pub no_number : map (kind_of 5) (2 ∷ 3 ∷ 5 ∷ 9 ∷ []) ≡ Sharp 1 ∷ Flat 1 ∷ Flat 0 ∷ Flat 0 ∷ []
-  pub no-numbers : map (kind_of 0) (0 ∷ 1 ∷ 2 ∷ []) ≡ Natural ∷ Flat 0 ∷ Flat 0 ∷ []
+  pub no_numbers : map (kind_of 0) (0 ∷ 1 ∷ 2 ∷ []) ≡ Natural ∷ Flat 0 ∷ Flat 0 ∷ []

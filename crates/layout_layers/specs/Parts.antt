@@ -2,13 +2,13 @@
 use Rattle.std.specs.Prelude.{ℕ, ◌+◌, ◌*◌, ◌-◌, ◌/◌, ◌%◌, ◌≤◌, ◌<◌, ◌≡◌, List, [], ◌∷◌, ◌++◌, length, get_or, drop, replicate, eqb}
 use Rattle.answer.specs.Choice.{pick}
 use Rattle.text.specs.Writing.{joined}
-use Rattle.mos.specs.Patterns.{primaries, secondaries, primary, secondary, cyclesOf}
+use Rattle.mos.specs.Patterns.{primaries, secondaries, primary, secondary, cycles_of}
 use Rattle.pergen.specs.Pergen.{inverse}
 use Rattle.mos_layers.specs.declared.Runs.{Runs}
-use Rattle.mos_layers.specs.Layers.{allSizes, dropEmpty, numbered, layerSizes}
-use Rattle.mos_layers.specs.Parts.{runSizes}
+use Rattle.mos_layers.specs.Layers.{all_sizes, drop_empty, numbered, layer_sizes}
+use Rattle.mos_layers.specs.Parts.{run_sizes}
 use Rattle.mos_layers.specs.Theorems.{sum}
-use Rattle.layout.specs.Layouts.{Layout, cyclesIn, reducedIn}
+use Rattle.layout.specs.Layouts.{Layout, cycles_in, reduced_in}
 use Rattle.layout_layers.specs.declared.keys.Sizes.{Sizes}
 use Rattle.layout_layers.specs.declared.chain.Chain.{Chain}
 use Rattle.layout_layers.specs.declared.chain.Spot.{Spot}
@@ -19,50 +19,50 @@ use Rattle.layout_layers.specs.LampCodes.{code_of}
 -- ---- the sizes of layers, by five numbers
 
 -- How many places are natural or sharp.
-abbrev pub sharpPlaces : Sizes → ℕ
-sharpPlaces s = s.letters * s.full + s.rest * s.partial
+abbrev pub sharp_places : Sizes → ℕ
+sharp_places s = s.letters * s.full + s.rest * s.partial
 
 -- The enharmonic layer has the places that are left: flat are as many as sharp, so all of those but the natural ones.
-abbrev pub enharmonicIn : Sizes → ℕ
-enharmonicIn s = s.places - sharpPlaces s - (sharpPlaces s - s.letters)
+abbrev pub enharmonic_in : Sizes → ℕ
+enharmonic_in s = s.places - sharp_places s - (sharp_places s - s.letters)
 
 -- The sizes of all layers in their order. The enharmonic one is 0 where there is none.
-abbrev pub sizesIn : Sizes → List ℕ
-sizesIn s =
+abbrev pub sizes_in : Sizes → List ℕ
+sizes_in s =
     (replicate s.full s.letters ++ replicate s.partial s.rest)
-    ++ (enharmonicIn s ∷ (replicate s.partial s.rest ++ replicate (s.full - 1) s.letters))
+    ++ (enharmonic_in s ∷ (replicate s.partial s.rest ++ replicate (s.full - 1) s.letters))
 
 -- Sizes that places are counted by: only the enharmonic layer may be empty, the others leave it what there is, and places fit 16 bits.
 pub record Countable (s : Sizes) : Type 0 where
-  pub some-full : 0 < s.full
-  pub some-letters : 0 < s.letters
-  pub some-rest : 0 < s.rest
-  pub within : sharpPlaces s + (sharpPlaces s - s.letters) ≤ s.places
-  pub places-fit : s.places ≤ 65535
+  pub some_full : 0 < s.full
+  pub some_letters : 0 < s.letters
+  pub some_rest : 0 < s.rest
+  pub within : sharp_places s + (sharp_places s - s.letters) ≤ s.places
+  pub places_fit : s.places ≤ 65535
 
 -- The sizes of a layout's layers.
 pub record SizesOf (l : Layout) (s : Sizes) : Type 0 where
   pub countable : Countable s
-  pub sizes-are : dropEmpty (sizesIn s) ≡ layerSizes l.pattern
-  pub places-are : s.places ≡ reducedIn l
+  pub sizes_are : drop_empty (sizes_in s) ≡ layer_sizes l.pattern
+  pub places_are : s.places ≡ reduced_in l
 
 -- The layer at a place of the chain.
-unfoldable pub layerAt : Sizes → ℕ → ℕ
-layerAt s place = get_or (numbered 0 (dropEmpty (sizesIn s))) place 0
+unfoldable pub layer_at : Sizes → ℕ → ℕ
+layer_at s place = get_or (numbered 0 (drop_empty (sizes_in s))) place 0
 
 -- The layer of a group of keys, one of each cycle, in an equalized scale.
-abbrev pub alternateIn : Layout → ℕ → ℕ
-alternateIn l group = alternating l.letters (secondaries l.pattern) (l.generator * l.start / cyclesIn l) group
+abbrev pub alternate_in : Layout → ℕ → ℕ
+alternate_in l group = alternating l.letters (secondaries l.pattern) (l.generator * l.start / cycles_in l) group
 
 -- ---- the chain
 
 -- "The inverse" of document 01, from what the chain holds: how many places on the next scale degree is.
-unfoldable pub inverseOf : Chain → ℕ
-inverseOf c = inverse c.reduced_period c.advance
+unfoldable pub inverse_of : Chain → ℕ
+inverse_of c = inverse c.reduced_period c.advance
 
 -- The place of scale degree `turn`: "(start + degree) mod R".
 unfoldable pub place_of : Chain → ℕ → ℕ
-place_of c turn = (c.start + inverseOf c * turn % c.reduced_period) % c.reduced_period
+place_of c turn = (c.start + inverse_of c * turn % c.reduced_period) % c.reduced_period
 
 -- How many keys the octave has.
 abbrev pub keys_of : Chain → ℕ
@@ -70,10 +70,10 @@ keys_of c = c.reduced_period * c.num_cycles
 
 -- A chain that can be walked: one place on is one advance on.
 pub record Unbroken (c : Chain) : Type 0 where
-  pub some-cycles : 0 < c.num_cycles
-  pub start-below : c.start < c.reduced_period
-  pub advance-below : c.advance < c.reduced_period
-  pub one : inverseOf c * c.advance % c.reduced_period ≡ 1 % c.reduced_period
+  pub some_cycles : 0 < c.num_cycles
+  pub start_below : c.start < c.reduced_period
+  pub advance_below : c.advance < c.reduced_period
+  pub one : inverse_of c * c.advance % c.reduced_period ≡ 1 % c.reduced_period
 
 -- A spot of the walk holds the scale degree of its place; behind the last place comes the first again.
 pub record SpotAt (c : Chain) (s : Spot) : Type 0 where
@@ -117,63 +117,63 @@ pub record Ahead (c : Chain) (s : Spot) (count : ℕ) (out : List ℕ) : Type 0 
 -- ---- layers on the chain
 
 -- The element at a place of the list of layers that eight runs make.
-unfoldable pub runLayer : Runs → ℕ → ℕ
-runLayer runs place = get_or (numbered 0 (dropEmpty (runSizes runs))) place 0
+unfoldable pub run_layer : Runs → ℕ → ℕ
+run_layer runs place = get_or (numbered 0 (drop_empty (run_sizes runs))) place 0
 
 -- Key i's number in a run of layers of one size that begins at a place with layer `first`.
-abbrev pub runNumber : (c : Chain) (place size first : ℕ) → ℕ → ℕ
-runNumber c place size first i =
+abbrev pub run_number : (c : Chain) (place size first : ℕ) → ℕ → ℕ
+run_number c place size first i =
     (first + (place_of c (i / c.num_cycles) - place) / size) * c.num_cycles + i % c.num_cycles
 
 -- Key i's number, by the layer at its place.
-abbrev pub listedNumber : Runs → Chain → ℕ → ℕ
-listedNumber runs c i = runLayer runs (place_of c (i / c.num_cycles)) * c.num_cycles + i % c.num_cycles
+abbrev pub listed_number : Runs → Chain → ℕ → ℕ
+listed_number runs c i = run_layer runs (place_of c (i / c.num_cycles)) * c.num_cycles + i % c.num_cycles
 
 -- How many layers of one cycle a plan has.
-abbrev pub layersOfPlan : Plan → ℕ
-layersOfPlan p = pick p.equalized 2 (length (dropEmpty (runSizes p.runs)))
+abbrev pub layers_of_plan : Plan → ℕ
+layers_of_plan p = pick p.equalized 2 (length (drop_empty (run_sizes p.runs)))
 
 -- How many numbers there are: document 01's T.
-abbrev pub totalOf : Plan → ℕ
-totalOf p = layersOfPlan p * p.chain.num_cycles
+abbrev pub total_of : Plan → ℕ
+total_of p = layers_of_plan p * p.chain.num_cycles
 
 -- A plan that can be followed: divisors are above 0, places are on the list, and the numbers fit 16 bits.
 pub record Sound (p : Plan) : Type 0 where
   pub unbroken : Unbroken p.chain
-  pub runs-fill : sum (runSizes p.runs) ≡ p.chain.reduced_period
-  pub some-letters : 0 < p.letters
-  pub few-secondaries : p.secondaries ≤ 9
-  pub near-offset : p.offset ≤ 524280
-  pub layers-fit : totalOf p ≤ 65535
-  pub keys-fit : keys_of p.chain ≤ 65535
+  pub runs_fill : sum (run_sizes p.runs) ≡ p.chain.reduced_period
+  pub some_letters : 0 < p.letters
+  pub few_secondaries : p.secondaries ≤ 9
+  pub near_offset : p.offset ≤ 524280
+  pub layers_fit : total_of p ≤ 65535
+  pub keys_fit : keys_of p.chain ≤ 65535
 
 -- The plan of a layout's layers.
 pub record PlanOf (l : Layout) (p : Plan) : Type 0 where
   pub sound : Sound p
-  pub cycles-are : p.chain.num_cycles ≡ cyclesIn l
-  pub period-is : p.chain.reduced_period ≡ reducedIn l
-  pub inverse-is : inverseOf p.chain ≡ inverse l.octave l.generator
+  pub cycles_are : p.chain.num_cycles ≡ cycles_in l
+  pub period_is : p.chain.reduced_period ≡ reduced_in l
+  pub inverse_is : inverse_of p.chain ≡ inverse l.octave l.generator
   pub start_is : p.chain.start ≡ l.start
-  pub letters-are : p.letters ≡ l.letters
-  pub secondaries-are : p.secondaries ≡ secondaries l.pattern
-  pub offset-is : p.offset ≡ l.generator * l.start / cyclesIn l
-  pub equalized-is : p.equalized ≡ equalized l.pattern
-  pub runs-are : runSizes p.runs
-      ≡ allSizes (primaries l.pattern) (secondaries l.pattern) (primary l.pattern / cyclesOf l.pattern) (secondary l.pattern / cyclesOf l.pattern)
+  pub letters_are : p.letters ≡ l.letters
+  pub secondaries_are : p.secondaries ≡ secondaries l.pattern
+  pub offset_is : p.offset ≡ l.generator * l.start / cycles_in l
+  pub equalized_is : p.equalized ≡ equalized l.pattern
+  pub runs_are : run_sizes p.runs
+      ≡ all_sizes (primaries l.pattern) (secondaries l.pattern) (primary l.pattern / cycles_of l.pattern) (secondary l.pattern / cycles_of l.pattern)
 
 -- The layer of scale degree `turn`.
-unfoldable pub turnLayer : Plan → ℕ → ℕ
-unfolding alternating runLayer place_of
-turnLayer p turn =
-    pick p.equalized (alternating p.letters p.secondaries p.offset turn) (runLayer p.runs (place_of p.chain turn))
+unfoldable pub turn_layer : Plan → ℕ → ℕ
+unfolding alternating run_layer place_of
+turn_layer p turn =
+    pick p.equalized (alternating p.letters p.secondaries p.offset turn) (run_layer p.runs (place_of p.chain turn))
 
 -- Key i's number.
-abbrev pub planNumber : Plan → ℕ → ℕ
-planNumber p i = turnLayer p (i / p.chain.num_cycles) * p.chain.num_cycles + i % p.chain.num_cycles
+abbrev pub plan_number : Plan → ℕ → ℕ
+plan_number p i = turn_layer p (i / p.chain.num_cycles) * p.chain.num_cycles + i % p.chain.num_cycles
 
 -- How many scale degrees the entries have.
-abbrev pub turnsOf : Plan → ℕ
-turnsOf p = pick p.equalized (2 * p.chain.reduced_period) p.chain.reduced_period
+abbrev pub turns_of : Plan → ℕ
+turns_of p = pick p.equalized (2 * p.chain.reduced_period) p.chain.reduced_period
 
 -- The elements of the keys below `count`.
 abbrev pub listed : (ℕ → ℕ) → ℕ → List ℕ
@@ -184,18 +184,18 @@ abbrev pub Fronted : List ℕ → List ℕ → List ℕ → Type 0
 Fronted text before after = after ≡ text ++ drop (length text) before
 
 -- All entries.
-abbrev pub planLayers : Plan → List ℕ
-planLayers p = listed (planNumber p) (turnsOf p * p.chain.num_cycles)
+abbrev pub plan_layers : Plan → List ℕ
+plan_layers p = listed (plan_number p) (turns_of p * p.chain.num_cycles)
 
 -- What a writer of entries writes for a number: the number itself where T is 0, and else its code, of T.
-unfoldable pub shownAs : (T j : ℕ) → ℕ
+unfoldable pub shown_as : (T j : ℕ) → ℕ
 unfolding code_of
-shownAs T j = pick (eqb T 0) j (code_of T j)
+shown_as T j = pick (eqb T 0) j (code_of T j)
 
 -- The numbers that it writes something for are below this.
 abbrev pub limit : ℕ → ℕ
 limit T = pick (eqb T 0) 65535 T
 
 -- All entries as they are written.
-abbrev pub planEntries : Plan → (T : ℕ) → List ℕ
-planEntries p T = listed (λ i. shownAs T (planNumber p i)) (turnsOf p * p.chain.num_cycles)
+abbrev pub plan_entries : Plan → (T : ℕ) → List ℕ
+plan_entries p T = listed (λ i. shown_as T (plan_number p i)) (turns_of p * p.chain.num_cycles)

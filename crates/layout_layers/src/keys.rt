@@ -3,11 +3,11 @@
 // Five numbers tell the sizes of all layers, and the layer at a place of the chain follows from them by a few comparisons and one division:
 // nothing is walked, and nothing kept from key to key.
 ghost use Rattle.std.specs.Prelude.{◌≡◌, ◌+◌, ◌*◌, ◌/◌, ◌%◌, ◌<◌, ◌≤◌, length};
-ghost use Rattle.mos_layers.specs.Layers.{allSizes, dropEmpty};
+ghost use Rattle.mos_layers.specs.Layers.{all_sizes, drop_empty};
 ghost use Rattle.pergen.specs.Parts.{At};
-ghost use Rattle.layout.specs.Parts.{layoutIn, Ready};
-ghost use Rattle.layout_layers.specs.KeyLayers.{equalized, alternating, entryCount, layerIn, number_in, countIn};
-ghost use Rattle.layout_layers.specs.Parts.{sharpPlaces, sizesIn, Countable, SizesOf, layerAt, alternateIn};
+ghost use Rattle.layout.specs.Parts.{layout_in, Ready};
+ghost use Rattle.layout_layers.specs.KeyLayers.{equalized, alternating, entry_count, layer_in, number_in, count_in};
+ghost use Rattle.layout_layers.specs.Parts.{sharp_places, sizes_in, Countable, SizesOf, layer_at, alternate_in};
 
 use layout::prepared::Prepared;
 use mos_layers::parts::divided;
@@ -28,7 +28,7 @@ pub(crate) struct Sizes {
 // The sizes for a steps of x and b steps of y: every second note of a step is natural or sharp, and the count of the longer one is left over.
 fn sizes_by(a: u16, b: u16, x: u16, y: u16, places: u16) -> Sizes
     requires { (0 < a) × (0 < b) × (0 < x) × (0 < y) × (a * x + b * y ≡ places) }
-    ensures { Countable result × (sizesIn result ≡ allSizes a b x y) × (result.places ≡ places) }
+    ensures { Countable result × (sizes_in result ≡ all_sizes a b x y) × (result.places ≡ places) }
 {
     let letters = a + b;
     let first = (x + 1) / 2;
@@ -54,7 +54,7 @@ fn sizes_by(a: u16, b: u16, x: u16, y: u16, places: u16) -> Sizes
 // The sizes of a layout's layers.
 pub(crate) fn sizes_of(prepared: Prepared) -> Sizes
     requires { Ready prepared }
-    ensures { SizesOf (layoutIn prepared) result }
+    ensures { SizesOf (layout_in prepared) result }
 {
     let pattern = prepared.found.pattern;
     let solved = prepared.solved;
@@ -72,7 +72,7 @@ pub(crate) fn sizes_of(prepared: Prepared) -> Sizes
 // How many places are natural or sharp.
 fn sharp_places(sizes: Sizes) -> u16
     requires { Countable sizes }
-    ensures { result ≡ sharpPlaces sizes }
+    ensures { result ≡ sharp_places sizes }
 {
     sizes.letters * sizes.full + sizes.rest * sizes.partial
 }
@@ -80,7 +80,7 @@ fn sharp_places(sizes: Sizes) -> u16
 // How many layers there are: as many flat ones as sharp ones, the natural one, and the enharmonic one where places are left for it.
 fn count_of(sizes: Sizes) -> u16
     requires { Countable sizes }
-    ensures { result ≡ length (dropEmpty (sizesIn sizes)) }
+    ensures { result ≡ length (drop_empty (sizes_in sizes)) }
 {
     let layers = sizes.full + sizes.partial;
     let sharp = sharp_places(sizes);
@@ -92,8 +92,8 @@ fn count_of(sizes: Sizes) -> u16
 
 // The layer at a natural or a sharp place.
 fn sharp_layer(sizes: Sizes, place: u16) -> u16
-    requires { Countable sizes × (place < sharpPlaces sizes) }
-    ensures { result ≡ layerAt sizes place }
+    requires { Countable sizes × (place < sharp_places sizes) }
+    ensures { result ≡ layer_at sizes place }
 {
     let whole = sizes.letters * sizes.full;
     if place < whole {
@@ -106,7 +106,7 @@ fn sharp_layer(sizes: Sizes, place: u16) -> u16
 // natural layer, and as many layers.
 fn layer_at(sizes: Sizes, place: u16) -> u16
     requires { Countable sizes × (place < sizes.places) }
-    ensures { result ≡ layerAt sizes place }
+    ensures { result ≡ layer_at sizes place }
 {
     let sharp = sharp_places(sizes);
     let behind = sizes.places - 1 - place;
@@ -169,7 +169,7 @@ pub(crate) fn alternate(letters: u16, secondaries: u16, offset: u32, group: u32)
 // The layer of a group of keys, one of each cycle, in an equalized scale.
 pub(crate) fn alternate_layer(prepared: Prepared, group: u32) -> u16
     requires { Ready prepared × (group ≤ 131070) }
-    ensures { result ≡ alternateIn (layoutIn prepared) group }
+    ensures { result ≡ alternate_in (layout_in prepared) group }
 {
     let found = prepared.found;
     let offset = offset_of(found.generator, found.start, prepared.solved.num_cycles);
@@ -184,7 +184,7 @@ pub(crate) fn alternate_layer(prepared: Prepared, group: u32) -> u16
 // The layer of a key among those of its own cycle.
 fn layer_of(prepared: Prepared, key: Key) -> u16
     requires { Ready prepared × At prepared.solved key × (key.number ≤ 131070) }
-    ensures { result ≡ layerIn (layoutIn prepared) key.number }
+    ensures { result ≡ layer_in (layout_in prepared) key.number }
 {
     let solved = prepared.solved;
     if is_equalized(prepared) {
@@ -197,7 +197,7 @@ fn layer_of(prepared: Prepared, key: Key) -> u16
 // The layer number of a key.
 pub fn number_of(prepared: Prepared, key: Key) -> u16
     requires { Ready prepared × At prepared.solved key × (key.number ≤ 131070) }
-    ensures { result ≡ number_in (layoutIn prepared) key.number }
+    ensures { result ≡ number_in (layout_in prepared) key.number }
 {
     layer_of(prepared, key) * prepared.solved.num_cycles + key.cycle
 }
@@ -205,7 +205,7 @@ pub fn number_of(prepared: Prepared, key: Key) -> u16
 // How many layer numbers there are.
 pub fn total_of(prepared: Prepared) -> u16
     requires { Ready prepared }
-    ensures { result ≡ countIn (layoutIn prepared) }
+    ensures { result ≡ count_in (layout_in prepared) }
 {
     let num_cycles = prepared.solved.num_cycles;
     if is_equalized(prepared) {
@@ -216,7 +216,7 @@ pub fn total_of(prepared: Prepared) -> u16
 
 // How many entries a layout's layers have: an octave's keys, or two where the scale is equalized.
 pub fn entry_count(prepared: Prepared) -> u32
-    ensures { (result ≡ entryCount prepared.found.octave prepared.found.pattern) × (result ≤ 131070) }
+    ensures { (result ≡ entry_count prepared.found.octave prepared.found.pattern) × (result ≤ 131070) }
 {
     let found = prepared.found;
     let keys = found.octave as u32;

@@ -5,15 +5,17 @@
 // specs/: KeyLayers defines, LampCodes too, Answers says what each call answers, Theorems and Examples state what holds.
 // `parts` holds the plan that whole-octave work goes by, `chain` the walk that it goes along.
 // Every entry point answers every input. Nothing is assumed.
+#![tactic(auto)]
+
 pub mod chain;
 pub mod keys;
 pub mod parts;
 
 ghost use Rattle.std.specs.Prelude.{◌≡◌, length};
-ghost use Rattle.answer.specs.Lent.{inRoom, counted, Filled};
-ghost use Rattle.answer.specs.Refusals.{numberOutcome, countOutcome};
+ghost use Rattle.answer.specs.Lent.{in_room, counted, Filled};
+ghost use Rattle.answer.specs.Refusals.{number_outcome, count_outcome};
 ghost use Rattle.layout_layers.specs.KeyLayers.{kind_of};
-ghost use Rattle.layout_layers.specs.Answers.{getLayers, getLayerCount, getLayer};
+ghost use Rattle.layout_layers.specs.Answers.{get_layers, get_layer_count, get_layer};
 
 use answer::{CountAnswer, NumberAnswer};
 use layout::parts::FoundAnswer;
@@ -31,7 +33,7 @@ pub enum Layer {
 
 // The layer number of each key of an octave, of two octaves where the scale is equalized (1, 2, 3, 4, 18, 10).
 pub fn get_layers(layout: IsomorphicLayout, out: &mut [u16]) -> CountAnswer
-    ensures { Filled (inRoom (length out.old) (getLayers layout)) (countOutcome result) out.old out.new }
+    ensures { Filled (in_room (length out.old) (get_layers layout)) (count_outcome result) out.old out.new }
 {
     match layout::parts::ask(layout) {
         FoundAnswer::Refused(q) => CountAnswer::Refused(q),
@@ -41,7 +43,7 @@ pub fn get_layers(layout: IsomorphicLayout, out: &mut [u16]) -> CountAnswer
 
 // How many numbers `get_layers` writes (1, 2, 3, 4, 18).
 pub fn layers_len(layout: IsomorphicLayout) -> CountAnswer
-    ensures { countOutcome result ≡ counted (getLayers layout) }
+    ensures { count_outcome result ≡ counted (get_layers layout) }
 {
     match layout::parts::ask(layout) {
         FoundAnswer::Refused(q) => CountAnswer::Refused(q),
@@ -51,7 +53,7 @@ pub fn layers_len(layout: IsomorphicLayout) -> CountAnswer
 
 // How many layer numbers there are, from 0 on (1, 2, 3, 4, 18).
 pub fn layer_count(layout: IsomorphicLayout) -> NumberAnswer
-    ensures { numberOutcome result ≡ getLayerCount layout }
+    ensures { number_outcome result ≡ get_layer_count layout }
 {
     match layout::parts::ask(layout) {
         FoundAnswer::Refused(q) => NumberAnswer::Refused(q),
@@ -61,7 +63,7 @@ pub fn layer_count(layout: IsomorphicLayout) -> NumberAnswer
 
 // The layer number of one key, whatever its octave, below 0 too: what `get_layers` writes repeats (1, 2, 3, 4, 18).
 pub fn get_layer(layout: IsomorphicLayout, key: i32) -> NumberAnswer
-    ensures { numberOutcome result ≡ getLayer layout key }
+    ensures { number_outcome result ≡ get_layer layout key }
 {
     match layout::parts::ask(layout) {
         FoundAnswer::Refused(q) => NumberAnswer::Refused(q),

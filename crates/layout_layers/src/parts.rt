@@ -4,35 +4,35 @@
 // an equalized scale, whose layers alternate, is written degree by degree.
 ghost use Rattle.std.specs.Prelude.{◌≡◌, true, false, ◌+◌, ◌*◌, ◌/◌, ◌%◌, ◌<◌, ◌≤◌, ltb, length, replicate};
 ghost use Rattle.answer.specs.Choice.{pick};
-ghost use Rattle.answer.specs.Lent.{heldIn, Filled};
-ghost use Rattle.answer.specs.Refusals.{countOutcome};
-ghost use Rattle.mos_layers.specs.Parts.{runSizes};
+ghost use Rattle.answer.specs.Lent.{held_in, Filled};
+ghost use Rattle.answer.specs.Refusals.{count_outcome};
+ghost use Rattle.mos_layers.specs.Parts.{run_sizes};
 ghost use Rattle.mos_layers.specs.Theorems.{sum};
-ghost use Rattle.mos_layers.specs.Layers.{dropEmpty};
-ghost use Rattle.layout.specs.Layouts.{cyclesIn};
+ghost use Rattle.mos_layers.specs.Layers.{drop_empty};
+ghost use Rattle.layout.specs.Layouts.{cycles_in};
 ghost use Rattle.layout.specs.Parts.{layout_of, Laid};
 ghost use Rattle.layout_layers.specs.LampCodes.{code_of};
 ghost use Rattle.layout_layers.specs.Parts.{
-  inverseOf,
+  inverse_of,
   keys_of,
   Spread,
   InTurn,
   InTurns,
   Walk,
   Ahead,
-  runLayer,
-  runNumber,
-  listedNumber,
-  totalOf,
+  run_layer,
+  run_number,
+  listed_number,
+  total_of,
   Sound,
   PlanOf,
-  turnLayer,
-  planNumber,
-  turnsOf,
+  turn_layer,
+  plan_number,
+  turns_of,
   Fronted,
-  planLayers,
-  planEntries,
-  shownAs,
+  plan_layers,
+  plan_entries,
+  shown_as,
   limit,
 };
 
@@ -57,7 +57,7 @@ pub struct Plan {
 
 // The plan of an accepted layout with so many cycles.
 pub fn plan_with(found: Found, num_cycles: u16) -> Plan
-    requires { Laid (layout_of found) × (num_cycles ≡ cyclesIn (layout_of found)) }
+    requires { Laid (layout_of found) × (num_cycles ≡ cycles_in (layout_of found)) }
     ensures { PlanOf (layout_of found) result }
 {
     let pattern = found.pattern;
@@ -92,7 +92,7 @@ pub fn plan_of(found: Found) -> Plan
 
 // How many layers a run has; none where they are empty.
 pub fn layers_in(size: u16, times: u16) -> u16
-    ensures { result ≡ length (dropEmpty (replicate times size)) }
+    ensures { result ≡ length (drop_empty (replicate times size)) }
 {
     if 0 < size {
         return times;
@@ -103,7 +103,7 @@ pub fn layers_in(size: u16, times: u16) -> u16
 // How many numbers there are.
 pub fn total_of(plan: Plan) -> u16
     requires { Sound plan }
-    ensures { result ≡ totalOf plan }
+    ensures { result ≡ total_of plan }
 {
     let chain = plan.chain;
     if plan.equalized {
@@ -115,7 +115,7 @@ pub fn total_of(plan: Plan) -> u16
 
 // How many scale degrees the entries have.
 pub fn turns_of(plan: Plan) -> u32
-    ensures { (result ≡ turnsOf plan) × (result ≤ 131070) }
+    ensures { (result ≡ turns_of plan) × (result ≤ 131070) }
 {
     let chain = plan.chain;
     if plan.equalized {
@@ -126,7 +126,7 @@ pub fn turns_of(plan: Plan) -> u32
 
 // How many entries there are.
 pub fn entries(plan: Plan) -> usize
-    ensures { result ≡ length (planLayers plan) }
+    ensures { result ≡ length (plan_layers plan) }
 {
     let chain = plan.chain;
     (turns_of(plan) as usize) * (chain.num_cycles as usize)
@@ -162,7 +162,7 @@ pub fn code(total: u16, number: u16) -> u16
 // What is written for a number: the number itself where `total` is 0, and else its code, of as many as `total` says.
 fn shown(total: u16, number: u16) -> u16
     requires { number < limit total }
-    ensures { result ≡ shownAs total number }
+    ensures { result ≡ shown_as total number }
 {
     if total == 0 {
         return number;
@@ -174,7 +174,7 @@ fn shown(total: u16, number: u16) -> u16
 // carried, so that many codes are computed side by side.
 fn put_turn(out: &mut [u16], cycles: u16, turn: u32, layer: u16, total: u16)
     requires { (0 < cycles) × (turn * cycles + cycles ≤ length out.old) × (layer * cycles + cycles ≤ limit total) }
-    ensures { Spread (InTurn cycles turn) (λ i. shownAs total (layer * cycles + i % cycles)) out.old out.new }
+    ensures { Spread (InTurn cycles turn) (λ i. shown_as total (layer * cycles + i % cycles)) out.old out.new }
 {
     let at = (turn as usize) * (cycles as usize);
     let mut number = layer * cycles;
@@ -204,7 +204,7 @@ fn put_single(out: &mut [u16], chain: Chain, from: Spot, size: u16, entry: u16) 
 // One layer: its entries, at as many places of the chain as its size says.
 fn put_layer(out: &mut [u16], chain: Chain, from: Spot, size: u16, layer: u16, total: u16) -> Spot
     requires { Ahead chain from size out.old × (layer * chain.num_cycles + chain.num_cycles ≤ limit total) }
-    ensures { Walk chain from result size (λ i. shownAs total (layer * chain.num_cycles + i % chain.num_cycles)) out.old out.new }
+    ensures { Walk chain from result size (λ i. shown_as total (layer * chain.num_cycles + i % chain.num_cycles)) out.old out.new }
 {
     if chain.num_cycles == 1 {
         let entry = shown(total, layer);
@@ -230,8 +230,8 @@ fn put_run(
     first: u16,
     total: u16,
 ) -> Spot
-    requires { Ahead chain from (times * size) out.old × ((first + length (dropEmpty (replicate times size))) * chain.num_cycles ≤ limit total) }
-    ensures { Walk chain from result (times * size) (λ i. shownAs total (runNumber chain from.place size first i)) out.old out.new }
+    requires { Ahead chain from (times * size) out.old × ((first + length (drop_empty (replicate times size))) * chain.num_cycles ≤ limit total) }
+    ensures { Walk chain from result (times * size) (λ i. shown_as total (run_number chain from.place size first i)) out.old out.new }
 {
     if size == 0 {
         return from;
@@ -248,8 +248,8 @@ fn put_run(
 // All entries, along the chain. The plan's numbers are read one by one: they were stored so, and a copy of them all at once would wait for
 // each of those stores.
 fn put_chain(out: &mut [u16], plan: Plan, total: u16)
-    requires { Sound plan × (totalOf plan ≤ limit total) × (plan.equalized ≡ false) × (keys_of plan.chain ≤ length out.old) }
-    ensures { Spread (InTurns plan.chain.num_cycles plan.chain.reduced_period) (λ i. shownAs total (listedNumber plan.runs plan.chain i)) out.old out.new }
+    requires { Sound plan × (total_of plan ≤ limit total) × (plan.equalized ≡ false) × (keys_of plan.chain ≤ length out.old) }
+    ensures { Spread (InTurns plan.chain.num_cycles plan.chain.reduced_period) (λ i. shown_as total (listed_number plan.runs plan.chain i)) out.old out.new }
 {
     let runs = plan.runs;
     let sizes = runs.sizes;
@@ -274,8 +274,8 @@ fn put_chain(out: &mut [u16], plan: Plan, total: u16)
 
 // The entries of the first scale degrees of an equalized scale.
 fn put_alternating(out: &mut [u16], plan: Plan, turns: u32, total: u16)
-    requires { Sound plan × (totalOf plan ≤ limit total) × (plan.equalized ≡ true) × (turns ≤ 131070) × (turns * plan.chain.num_cycles ≤ length out.old) }
-    ensures { Spread (InTurns plan.chain.num_cycles turns) (λ i. shownAs total (planNumber plan i)) out.old out.new }
+    requires { Sound plan × (total_of plan ≤ limit total) × (plan.equalized ≡ true) × (turns ≤ 131070) × (turns * plan.chain.num_cycles ≤ length out.old) }
+    ensures { Spread (InTurns plan.chain.num_cycles turns) (λ i. shown_as total (plan_number plan i)) out.old out.new }
 {
     let chain = plan.chain;
     let mut turn: u32 = 0;
@@ -288,8 +288,8 @@ fn put_alternating(out: &mut [u16], plan: Plan, turns: u32, total: u16)
 
 // All entries at the front of a slice that is known to hold them.
 pub fn put_entries(out: &mut [u16], plan: Plan, total: u16)
-    requires { Sound plan × (totalOf plan ≤ limit total) × (length (planLayers plan) ≤ length out.old) }
-    ensures { Fronted (planEntries plan total) out.old out.new }
+    requires { Sound plan × (total_of plan ≤ limit total) × (length (plan_layers plan) ≤ length out.old) }
+    ensures { Fronted (plan_entries plan total) out.old out.new }
 {
     if plan.equalized {
         put_alternating(out, plan, turns_of(plan), total);
@@ -301,7 +301,7 @@ pub fn put_entries(out: &mut [u16], plan: Plan, total: u16)
 // The numbers of all entries at the front of a slice that holds them (10).
 pub(crate) fn write_layers(plan: Plan, out: &mut [u16]) -> CountAnswer
     requires { Sound plan }
-    ensures { Filled (heldIn (length out.old) (planLayers plan)) (countOutcome result) out.old out.new }
+    ensures { Filled (held_in (length out.old) (plan_layers plan)) (count_outcome result) out.old out.new }
 {
     let count = entries(plan);
     if out.len() < count {

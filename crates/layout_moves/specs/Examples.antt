@@ -5,14 +5,14 @@ use Rattle.answer.specs.Outcome.{Outcome, given, refused}
 use Rattle.mos_moves.specs.Moves.{Table, row}
 use Rattle.layout.specs.declared.IsomorphicLayout.{IsomorphicLayout}
 use Rattle.layout.specs.Examples.{layout, beginning}
-use Rattle.layout_moves.specs.Answers.{getMoves, getMoveNumbers}
+use Rattle.layout_moves.specs.Answers.{get_moves, get_move_numbers}
 
 pub record MovesExample : Type 0 where
   pub layout : IsomorphicLayout
   pub moves : Outcome (Option (Table ℤ))
 
-abbrev pub movesExamples : List MovesExample
-movesExamples =
+abbrev pub moves_examples : List MovesExample
+moves_examples =
     -- "In 12 steps, code 1, the moves are −1, 2 and 3, −5"; another start has the same
     record { layout = layout 1 12 19; moves = given (some (row (negsuc 0) (pos 2) ∷ row (pos 3) (negsuc 4) ∷ [])) }
     ∷ record { layout = beginning 0 1 12 19; moves = given (some (row (negsuc 0) (pos 2) ∷ row (pos 3) (negsuc 4) ∷ [])) }
@@ -32,7 +32,7 @@ movesExamples =
 
 -- Theorem.
 pub record ExamplesHold : Type 0 where
-  pub tables : map (λ (e : MovesExample). getMoves e.layout) movesExamples ≡ map (λ (e : MovesExample). e.moves) movesExamples
+  pub tables : map (λ (e : MovesExample). get_moves e.layout) moves_examples ≡ map (λ (e : MovesExample). e.moves) moves_examples
   -- the same in a row
-  pub numbers : getMoveNumbers (layout 1 12 19) ≡ given (negsuc 0 ∷ pos 2 ∷ pos 3 ∷ negsuc 4 ∷ [])
-  pub no-numbers : getMoveNumbers (layout 0 12 19) ≡ refused 4
+  pub numbers : get_move_numbers (layout 1 12 19) ≡ given (negsuc 0 ∷ pos 2 ∷ pos 3 ∷ negsuc 4 ∷ [])
+  pub no_numbers : get_move_numbers (layout 0 12 19) ≡ refused 4

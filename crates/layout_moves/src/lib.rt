@@ -4,13 +4,15 @@
 // that holds of them.
 // specs/: Answers says what each call answers, Theorems and Examples state what holds. Every entry point answers every input. Nothing is
 // assumed.
+#![tactic(auto)]
+
 ghost use Rattle.std.specs.Prelude.{length};
-ghost use Rattle.answer.specs.Lent.{inRoom, Filled};
-ghost use Rattle.answer.specs.Refusals.{countOutcome};
-ghost use Rattle.mos.specs.Answers.{mosOutcome};
+ghost use Rattle.answer.specs.Lent.{in_room, Filled};
+ghost use Rattle.answer.specs.Refusals.{count_outcome};
+ghost use Rattle.mos.specs.Answers.{mos_outcome};
 ghost use Rattle.mos_moves.specs.Answers.{Tabled};
-ghost use Rattle.layout.specs.Answers.{getMos};
-ghost use Rattle.layout_moves.specs.Answers.{getMoves, getMoveNumbers};
+ghost use Rattle.layout.specs.Answers.{get_mos};
+ghost use Rattle.layout_moves.specs.Answers.{get_moves, get_move_numbers};
 
 use answer::{CountAnswer, Refusal};
 use layout::IsomorphicLayout;
@@ -20,7 +22,7 @@ use mos_moves::Moves;
 
 // The pattern of the layout's letters, with its moves in the lent table: the primary row first, octaves before generators (1, 2, 3, 4, 18).
 pub fn get_moves(layout: IsomorphicLayout, moves: &mut Moves) -> MosAnswer
-    ensures { Tabled (mosOutcome result) (getMos layout) (getMoves layout) moves.old moves.new }
+    ensures { Tabled (mos_outcome result) (get_mos layout) (get_moves layout) moves.old moves.new }
 {
     match layout::parts::ask(layout) {
         FoundAnswer::Refused(q) => MosAnswer::Refused(q),
@@ -34,7 +36,7 @@ pub fn get_moves(layout: IsomorphicLayout, moves: &mut Moves) -> MosAnswer
 
 // The same four numbers at the front of a slice: the primary row's octaves and generators, then the secondary row's (1, 2, 3, 4, 18, 10).
 pub fn write_moves(layout: IsomorphicLayout, out: &mut [i32]) -> CountAnswer
-    ensures { Filled (inRoom (length out.old) (getMoveNumbers layout)) (countOutcome result) out.old out.new }
+    ensures { Filled (in_room (length out.old) (get_move_numbers layout)) (count_outcome result) out.old out.new }
 {
     match layout::parts::ask(layout) {
         FoundAnswer::Refused(q) => CountAnswer::Refused(q),

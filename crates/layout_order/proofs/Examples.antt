@@ -1,22 +1,22 @@
 -- The worked examples, by computation.
 use mathlib.Core.Path.{refl}
-use Rattle.layout_order.specs.Answers.{getChainOrder, getKeyOrder}
+use Rattle.layout_order.specs.Answers.{get_chain_order, get_key_order}
 use Rattle.layout_order.specs.Examples.{ExamplesHold}
 
-pub examples-hold : ExamplesHold
-unfolding getChainOrder getKeyOrder
-examples-hold = record {
+pub examples_hold : ExamplesHold
+unfolding get_chain_order get_key_order
+examples_hold = record {
   twelve = refl;
   cycles = refl;
   places = refl;
-  from-c = refl;
+  from_c = refl;
   longer = refl;
-  back-again = refl;
+  back_again = refl;
   short = refl;
   short_back = refl;
   no_start = refl;
-  no-pattern = refl;
-  no-generator = refl;
-  no-octave = refl;
-  no-chain = refl;
+  no_pattern = refl;
+  no_generator = refl;
+  no_octave = refl;
+  no_chain_lem = refl;
 }

@@ -6,73 +6,73 @@ use lib.Arith.{digits_div, digits_mod, digits_lt}
 use lib.IntN.{pos}
 use Rattle.math.proofs.Division.{apart→remainder}
 use Rattle.pergen.specs.Pergen.{cycles, reduced, degree, cycle}
-use Rattle.pergen.proofs.Inverse.{period-is, reduced-positive}
-use Rattle.pergen.proofs.Keys.{degree-below, cycle-below, keys-from-zero-on, degree-and-cycle-tell-keys-apart}
-use Rattle.pergen.proofs.DegreePlaces.{stars-of-key}
-use Rattle.pergen.proofs.CarriedWalk.{keyWith, key-with-below, key-with-cycle, key-with-degree}
-use Rattle.layout_order.specs.Order.{chainPlace}
+use Rattle.pergen.proofs.Inverse.{period_is, reduced_positive}
+use Rattle.pergen.proofs.Keys.{degree_below, cycle_below, keys_from_zero_on, degree_and_cycle_tell_keys_apart}
+use Rattle.pergen.proofs.DegreePlaces.{stars_of_key}
+use Rattle.pergen.proofs.CarriedWalk.{key_with, key_with_below, key_with_cycle, key_with_degree}
+use Rattle.layout_order.specs.Order.{chain_place}
 use Rattle.layout_order.specs.Theorems.{ChainOrderIsAPermutation}
 
 module _ (P G : ℕ) (h : 0 < P) where
   -- by the formulas of degree and cycle
-  pub place_is : (i : ℕ) → chainPlace P G i ≡ cycle P G i * reduced P G + degree P G i
-  unfolding chainPlace
+  pub place_is : (i : ℕ) → chain_place P G i ≡ cycle P G i * reduced P G + degree P G i
+  unfolding chain_place
   place_is i =
-      let old = keys-from-zero-on P G h i in
-      ap₂ (λ (c d : ℕ). c * reduced P G + d) (stars-of-key P G (pos i) h ∙ old.cycle-stays) old.degree-stays
+      let old = keys_from_zero_on P G h i in
+      ap₂ (λ (c d : ℕ). c * reduced P G + d) (stars_of_key P G (pos i) h ∙ old.cycle_stays) old.degree_stays
 
-  pub place-below : (i : ℕ) → chainPlace P G i < P
-  place-below i =
+  pub place_below : (i : ℕ) → chain_place P G i < P
+  place_below i =
       subst (λ (j : ℕ). j < P) (sym (place_is i))
-      (subst (λ (Q : ℕ). cycle P G i * reduced P G + degree P G i < Q) (mul_comm (cycles P G) (reduced P G) ∙ sym (period-is P G h))
-      (digits_lt (cycle-below P G h i) (degree-below P G h i)))
+      (subst (λ (Q : ℕ). cycle P G i * reduced P G + degree P G i < Q) (mul_comm (cycles P G) (reduced P G) ∙ sym (period_is P G h))
+      (digits_lt (cycle_below P G h i) (degree_below P G h i)))
 
-  place-cycle : (i : ℕ) → chainPlace P G i / reduced P G ≡ cycle P G i
-  place-cycle i = ap (λ (j : ℕ). j / reduced P G) (place_is i) ∙ digits_div (cycle P G i) (degree-below P G h i)
+  place_cycle : (i : ℕ) → chain_place P G i / reduced P G ≡ cycle P G i
+  place_cycle i = ap (λ (j : ℕ). j / reduced P G) (place_is i) ∙ digits_div (cycle P G i) (degree_below P G h i)
 
-  place-degree : (i : ℕ) → chainPlace P G i % reduced P G ≡ degree P G i
-  place-degree i = ap (λ (j : ℕ). j % reduced P G) (place_is i) ∙ digits_mod (cycle P G i) (degree-below P G h i)
+  place_degree : (i : ℕ) → chain_place P G i % reduced P G ≡ degree P G i
+  place_degree i = ap (λ (j : ℕ). j % reduced P G) (place_is i) ∙ digits_mod (cycle P G i) (degree_below P G h i)
 
-  pub places-apart : (i j : ℕ) → i < P → j < P → chainPlace P G i ≡ chainPlace P G j → i ≡ j
-  places-apart i j hi hj e =
-      let d : degree P G i ≡ degree P G j = sym (place-degree i) ∙ ap (λ (k : ℕ). k % reduced P G) e ∙ place-degree j in
-      let c : cycle P G i ≡ cycle P G j = sym (place-cycle i) ∙ ap (λ (k : ℕ). k / reduced P G) e ∙ place-cycle j in
-      let old-i = keys-from-zero-on P G h i in
-      let old-j = keys-from-zero-on P G h j in
-      let away = (degree-and-cycle-tell-keys-apart P G h (pos i) (pos j)).1
-      (old-i.degree-stays ∙ d ∙ sym old-j.degree-stays, old-i.cycle-stays ∙ c ∙ sym old-j.cycle-stays) in
+  pub places_apart : (i j : ℕ) → i < P → j < P → chain_place P G i ≡ chain_place P G j → i ≡ j
+  places_apart i j hi hj e =
+      let d : degree P G i ≡ degree P G j = sym (place_degree i) ∙ ap (λ (k : ℕ). k % reduced P G) e ∙ place_degree j in
+      let c : cycle P G i ≡ cycle P G j = sym (place_cycle i) ∙ ap (λ (k : ℕ). k / reduced P G) e ∙ place_cycle j in
+      let old-i = keys_from_zero_on P G h i in
+      let old-j = keys_from_zero_on P G h j in
+      let away = (degree_and_cycle_tell_keys_apart P G h (pos i) (pos j)).1
+      (old-i.degree_stays ∙ d ∙ sym old-j.degree_stays, old-i.cycle_stays ∙ c ∙ sym old-j.cycle_stays) in
       sym (mod-eq_of_lt hi) ∙ apart→remainder P h (pos i) (pos j) away ∙ mod-eq_of_lt hj
 
   -- the key at a place
   module _ (j : ℕ) (hj : j < P) where
     low : j % reduced P G < reduced P G
-    low = mod-lt j (reduced-positive P G h)
+    low = mod-lt j (reduced_positive P G h)
 
     high : j / reduced P G < cycles P G
     high =
-        (div-lt_iff_lt-mul (reduced-positive P G h)).1
-        (subst (λ (Q : ℕ). j < Q) (period-is P G h ∙ mul_comm (reduced P G) (cycles P G)) hj)
+        (div-lt_iff_lt-mul (reduced_positive P G h)).1
+        (subst (λ (Q : ℕ). j < Q) (period_is P G h ∙ mul_comm (reduced P G) (cycles P G)) hj)
 
-    pub keyThere : ℕ
-    keyThere = keyWith P G h (j % reduced P G) (j / reduced P G) low high
+    pub key_there : ℕ
+    key_there = key_with P G h (j % reduced P G) (j / reduced P G) low high
 
-    pub key-there-below : keyThere < P
-    unfolding keyThere
-    key-there-below = key-with-below P G h (j % reduced P G) (j / reduced P G) low high
+    pub key_there_below : key_there < P
+    unfolding key_there
+    key_there_below = key_with_below P G h (j % reduced P G) (j / reduced P G) low high
 
-    pub key-there : chainPlace P G keyThere ≡ j
-    unfolding keyThere
-    key-there =
-        place_is keyThere
+    pub key_there_lem : chain_place P G key_there ≡ j
+    unfolding key_there
+    key_there_lem =
+        place_is key_there
         ∙ ap₂ (λ (c d : ℕ). c * reduced P G + d)
-        (key-with-cycle P G h (j % reduced P G) (j / reduced P G) low high)
-        (key-with-degree P G h (j % reduced P G) (j / reduced P G) low high)
+        (key_with_cycle P G h (j % reduced P G) (j / reduced P G) low high)
+        (key_with_degree P G h (j % reduced P G) (j / reduced P G) low high)
         ∙ div-add-mod' j (reduced P G)
 
-pub chain-order-is-a-permutation : ChainOrderIsAPermutation
-chain-order-is-a-permutation P G h =
+pub chain_order_is_a_permutation : ChainOrderIsAPermutation
+chain_order_is_a_permutation P G h =
     record {
-      within = λ i hi. place-below P G h i;
-      apart = places-apart P G h;
-      each = λ j hj. (keyThere P G h j hj, key-there-below P G h j hj, key-there P G h j hj);
+      within = λ i hi. place_below P G h i;
+      apart = places_apart P G h;
+      each = λ j hj. (key_there P G h j hj, key_there_below P G h j hj, key_there_lem P G h j hj);
     }

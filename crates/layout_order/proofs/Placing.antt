@@ -10,10 +10,10 @@ use lib.Dec.{eqb}
 use lib.ListN.{length, get_or, set, take, drop, replicate, length-set, length-append, length-drop, length-replicate, get_or-append}
 use lib.Seq.{get_or-set_same, get_or-set_other, get_or-append-add, get_or-drop, get_or-take, length-take-le, ext_get_or}
 use borrow.Author.Tests.{eqb-true, eqb-false}
-use Rattle.layout_order.specs.Order.{placed, inChainOrder, inKeyOrder}
-use Rattle.layout_order.specs.Parts.{positionIn, rearranged, order_of}
+use Rattle.layout_order.specs.Order.{placed, in_chain_order, in_key_order}
+use Rattle.layout_order.specs.Parts.{position_in, rearranged, order_of}
 use Rattle.layout_order.specs.Theorems.{EntriesGoToTheirPlaces, EachUndoesTheOther}
-use Rattle.layout_order.proofs.Places.{place-below, places-apart, keyThere, key-there-below, key-there}
+use Rattle.layout_order.proofs.Places.{place_below, places_apart, key_there, key_there_below, key_there_lem}
 
 -- the numbers below `count` go to different numbers below it, and each of these is one's
 pub record Permutes (to : ℕ → ℕ) (count : ℕ) : Type 0 where
@@ -24,21 +24,21 @@ pub record Permutes (to : ℕ → ℕ) (count : ℕ) : Type 0 where
   pub back_is : (j : ℕ) (h : j < count) → to (back j h) ≡ j
 
 module _ (from to : ℕ → ℕ) (entries : List ℕ) where
-  pub placed-length : (count : ℕ) (xs : List ℕ) → length (placed from to entries count xs) ≡ length xs
+  pub placed_length : (count : ℕ) (xs : List ℕ) → length (placed from to entries count xs) ≡ length xs
   unfolding placed
-  placed-length zero xs = refl
-  placed-length (suc count) xs =
-      length-set (placed from to entries count xs) (to count) (get_or entries (from count) 0) ∙ placed-length count xs
+  placed_length zero xs = refl
+  placed_length (suc count) xs =
+      length-set (placed from to entries count xs) (to count) (get_or entries (from count) 0) ∙ placed_length count xs
 
-  pub placed-none : (xs : List ℕ) → xs ≡ placed from to entries 0 xs
+  pub placed_none : (xs : List ℕ) → xs ≡ placed from to entries 0 xs
   unfolding placed
-  placed-none xs = refl
+  placed_none xs = refl
 
   -- one entry more, as the code stores it
-  pub placed-more : (k : ℕ) (xs : List ℕ) {ys : List ℕ} {p e : ℕ} → ys ≡ placed from to entries k xs → p ≡ to k
+  pub placed_more : (k : ℕ) (xs : List ℕ) {ys : List ℕ} {p e : ℕ} → ys ≡ placed from to entries k xs → p ≡ to k
       → e ≡ get_or entries (from k) 0 → set ys p e ≡ placed from to entries (k + 1) xs
   unfolding placed
-  placed-more k xs {ys} {p} {e} is at entry =
+  placed_more k xs {ys} {p} {e} is at entry =
       ap (λ (l : List ℕ). set l p e) is
       ∙ ap₂ (λ (q v : ℕ). set (placed from to entries k xs) q v) at entry
       ∙ sym (ap (λ (n : ℕ). placed from to entries n xs) (add-one k))
@@ -68,7 +68,7 @@ module _ (from to : ℕ → ℕ) (entries : List ℕ) where
           let same : i ≡ count = eqb-true i count t in
           ap (λ (k : ℕ). get_or (set (placed from to entries count xs) (to count) (get_or entries (from count) 0)) (to k) 0) same
           ∙ get_or-set_same (placed from to entries count xs) (to count) (get_or entries (from count) 0) 0
-          (omega (arith, placed-length count xs, ap to same, room))
+          (omega (arith, placed_length count xs, ap to same, room))
           ∙ ap (λ (k : ℕ). get_or entries (from k) 0) (sym same)
       by false t ih =
           let other : i ≡ count → ⊥ = eqb-false i count t in
@@ -80,9 +80,9 @@ module _ (from to : ℕ → ℕ) (entries : List ℕ) where
 
   module _ (P : ℕ) (p : Permutes to P) where
     -- of a list with room for P entries, the one at j is the one that went there
-    pub placed-back : (xs : List ℕ) → P ≤ length xs → (j : ℕ) (h : j < P)
+    pub placed_back : (xs : List ℕ) → P ≤ length xs → (j : ℕ) (h : j < P)
         → get_or (placed from to entries P xs) j 0 ≡ get_or entries (from (p.back j h)) 0
-    placed-back xs room j h =
+    placed_back xs room j h =
         let i = p.back j h in
         let there = p.back_is j h in
         ap (λ (k : ℕ). get_or (placed from to entries P xs) k 0) (sym there)
@@ -92,21 +92,21 @@ module _ (from to : ℕ → ℕ) (entries : List ℕ) where
     whole_of = placed from to entries P (replicate P 0)
 
     pub whole_length : length whole_of ≡ P
-    whole_length = placed-length P (replicate P 0) ∙ length-replicate P 0
+    whole_length = placed_length P (replicate P 0) ∙ length-replicate P 0
 
     -- they stand at the front, and the rest is kept
-    pub placed-front : (xs : List ℕ) → P ≤ length xs → placed from to entries P xs ≡ whole_of ++ drop (length whole_of) xs
-    placed-front xs room =
+    pub placed_front : (xs : List ℕ) → P ≤ length xs → placed from to entries P xs ≡ whole_of ++ drop (length whole_of) xs
+    placed_front xs room =
         ext_get_or 0 (placed from to entries P xs) (whole_of ++ drop (length whole_of) xs)
-        (omega (arith, placed-length P xs, length-append whole_of (drop (length whole_of) xs), length-drop (length whole_of) xs, whole_length))
+        (omega (arith, placed_length P xs, length-append whole_of (drop (length whole_of) xs), length-drop (length whole_of) xs, whole_length))
         (λ j l. by j (dec_lt j P))
       where
         by : (j : ℕ) → Dec (j < P) → get_or (placed from to entries P xs) j 0 ≡ get_or (whole_of ++ drop (length whole_of) xs) j 0
         by j (yes q) =
-            placed-back xs room j q
+            placed_back xs room j q
             ∙ sym
             (get_or-append whole_of (drop (length whole_of) xs) 0 j (omega (arith, q, whole_length))
-            ∙ placed-back (replicate P 0) (omega (arith, length-replicate {A = ℕ} P 0)) j q)
+            ∙ placed_back (replicate P 0) (omega (arith, length-replicate {A = ℕ} P 0)) j q)
         by j (no q) =
             let e : j ≡ length whole_of + (j - length whole_of) = omega (arith, q, whole_length) in
             placed_past P xs j (λ i l. omega (arith, p.within i l, q))
@@ -118,69 +118,69 @@ module _ (from to : ℕ → ℕ) (entries : List ℕ) where
 
 -- ---- the two orders
 
-pub order-permutes : (chain : Bool) (P G : ℕ) → 0 < P → Permutes (positionIn chain P G) P
-unfolding positionIn
-order-permutes true P G h =
+pub order_permutes : (chain : Bool) (P G : ℕ) → 0 < P → Permutes (position_in chain P G) P
+unfolding position_in
+order_permutes true P G h =
     record {
-      within = λ i l. place-below P G h i;
-      apart = places-apart P G h;
-      back = keyThere P G h;
-      back_below = key-there-below P G h;
-      back_is = key-there P G h;
+      within = λ i l. place_below P G h i;
+      apart = places_apart P G h;
+      back = key_there P G h;
+      back_below = key_there_below P G h;
+      back_is = key_there_lem P G h;
     }
-order-permutes false P G h =
+order_permutes false P G h =
     record { within = λ i l. l; apart = λ i j li lj e. e; back = λ j l. j; back_below = λ j l. l; back_is = λ j l. refl }
 
 pub order_is : (chain : Bool) (P G : ℕ) (entries : List ℕ)
     → order_of chain P G entries ≡ rearranged chain P G entries P (replicate P 0)
-unfolding order_of positionIn inChainOrder inKeyOrder
+unfolding order_of position_in in_chain_order in_key_order
 order_is true P G entries = refl
 order_is false P G entries = refl
 
 module _ (chain : Bool) (P G : ℕ) (h : 0 < P) (entries : List ℕ) where
-  pub order-length : length (order_of chain P G entries) ≡ P
-  order-length =
+  pub order_length : length (order_of chain P G entries) ≡ P
+  order_length =
       ap length (order_is chain P G entries)
-      ∙ whole_length (positionIn (not chain) P G) (positionIn chain P G) entries P (order-permutes chain P G h)
+      ∙ whole_length (position_in (not chain) P G) (position_in chain P G) entries P (order_permutes chain P G h)
 
   -- what the walk leaves is the list at the front
-  pub order-front : (xs : List ℕ) → P ≤ length xs
+  pub order_front : (xs : List ℕ) → P ≤ length xs
       → rearranged chain P G entries P xs ≡ order_of chain P G entries ++ drop (length (order_of chain P G entries)) xs
-  order-front xs room =
-      placed-front (positionIn (not chain) P G) (positionIn chain P G) entries P (order-permutes chain P G h) xs room
+  order_front xs room =
+      placed_front (position_in (not chain) P G) (position_in chain P G) entries P (order_permutes chain P G h) xs room
       ∙ ap (λ (l : List ℕ). l ++ drop (length l) xs) (sym (order_is chain P G entries))
 
   -- the entry of key i goes from where the other order has it to where this one has
-  pub entry-goes : (i : ℕ) → i < P
-      → get_or (order_of chain P G entries) (positionIn chain P G i) 0 ≡ get_or entries (positionIn (not chain) P G i) 0
-  entry-goes i l =
-      ap (λ (x : List ℕ). get_or x (positionIn chain P G i) 0) (order_is chain P G entries)
-      ∙ placed_at (positionIn (not chain) P G) (positionIn chain P G) entries P (replicate P 0) (order-permutes chain P G h).apart i l
-      (omega (arith, length-replicate {A = ℕ} P 0, (order-permutes chain P G h).within i l))
+  pub entry_goes : (i : ℕ) → i < P
+      → get_or (order_of chain P G entries) (position_in chain P G i) 0 ≡ get_or entries (position_in (not chain) P G i) 0
+  entry_goes i l =
+      ap (λ (x : List ℕ). get_or x (position_in chain P G i) 0) (order_is chain P G entries)
+      ∙ placed_at (position_in (not chain) P G) (position_in chain P G) entries P (replicate P 0) (order_permutes chain P G h).apart i l
+      (omega (arith, length-replicate {A = ℕ} P 0, (order_permutes chain P G h).within i l))
 
-pub entries-go-to-their-places : EntriesGoToTheirPlaces
-unfolding order_of positionIn
-entries-go-to-their-places P G h entries =
+pub entries_go_to_their_places : EntriesGoToTheirPlaces
+unfolding order_of position_in
+entries_go_to_their_places P G h entries =
     record {
-      there = entry-goes true P G h entries;
-      back = entry-goes false P G h entries;
-      there-many = order-length true P G h entries;
-      back-many = order-length false P G h entries;
+      there = entry_goes true P G h entries;
+      back = entry_goes false P G h entries;
+      there_many = order_length true P G h entries;
+      back_many = order_length false P G h entries;
     }
 
 -- ---- each undoes the other
 
-position-not-not : (chain : Bool) (P G i : ℕ) → positionIn (not (not chain)) P G i ≡ positionIn chain P G i
-unfolding positionIn
-position-not-not true P G i = refl
-position-not-not false P G i = refl
+position_not_not : (chain : Bool) (P G i : ℕ) → position_in (not (not chain)) P G i ≡ position_in chain P G i
+unfolding position_in
+position_not_not true P G i = refl
+position_not_not false P G i = refl
 
-pub order-undone : (chain : Bool) (P G : ℕ) → 0 < P → (entries : List ℕ) → P ≤ length entries
+pub order_undone : (chain : Bool) (P G : ℕ) → 0 < P → (entries : List ℕ) → P ≤ length entries
     → order_of (not chain) P G (order_of chain P G entries) ≡ take P entries
-order-undone chain P G h entries room =
+order_undone chain P G h entries room =
     let other = order_of chain P G entries in
-    let back = order-permutes (not chain) P G h in
-    let many = order-length (not chain) P G h other in
+    let back = order_permutes (not chain) P G h in
+    let many = order_length (not chain) P G h other in
     ext_get_or 0 (order_of (not chain) P G other) (take P entries) (many ∙ sym (length-take-le P entries room))
     (λ j l.
     let below : j < P = omega (arith, l, many) in
@@ -188,13 +188,13 @@ order-undone chain P G h entries room =
     let there = back.back_is j below in
     let within = back.back_below j below in
     ap (λ (k : ℕ). get_or (order_of (not chain) P G other) k 0) (sym there)
-    ∙ entry-goes (not chain) P G h other i within
-    ∙ ap (λ (k : ℕ). get_or other k 0) (position-not-not chain P G i)
-    ∙ entry-goes chain P G h entries i within
+    ∙ entry_goes (not chain) P G h other i within
+    ∙ ap (λ (k : ℕ). get_or other k 0) (position_not_not chain P G i)
+    ∙ entry_goes chain P G h entries i within
     ∙ ap (λ (k : ℕ). get_or entries k 0) there
     ∙ sym (get_or-take P entries j 0 below))
 
-pub each-undoes-the-other : EachUndoesTheOther
+pub each_undoes_the_other : EachUndoesTheOther
 unfolding order_of
-each-undoes-the-other P G h entries room =
-    record { there_and_back = order-undone true P G h entries room; back-and-there = order-undone false P G h entries room }
+each_undoes_the_other P G h entries room =
+    record { there_and_back = order_undone true P G h entries room; back_and_there = order_undone false P G h entries room }

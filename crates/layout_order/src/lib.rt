@@ -4,12 +4,14 @@
 // second list, whose later entries stay as they are.
 // specs/: Order defines, Answers says what each call answers, Theorems and Examples state what holds.
 // Every entry point answers every input; `parts` asks for more, as its head says. Nothing is assumed.
+#![tactic(auto)]
+
 mod parts;
 
 ghost use Rattle.std.specs.Prelude.{length};
-ghost use Rattle.answer.specs.Lent.{inRoom, Filled};
-ghost use Rattle.answer.specs.Refusals.{countOutcome};
-ghost use Rattle.layout_order.specs.Answers.{getChainOrder, getKeyOrder};
+ghost use Rattle.answer.specs.Lent.{in_room, Filled};
+ghost use Rattle.answer.specs.Refusals.{count_outcome};
+ghost use Rattle.layout_order.specs.Answers.{get_chain_order, get_key_order};
 
 use answer::CountAnswer;
 use layout::IsomorphicLayout;
@@ -17,14 +19,14 @@ use layout::IsomorphicLayout;
 // The entry of each key at its place in the chain: one cycle after the other, and in each the keys as the chain meets them
 // (1, 2, 3, 4, 18, 10). A list that is shorter than the octave is refused with 10, whichever it is.
 pub fn to_chain_order(layout: IsomorphicLayout, entries: &[u16], out: &mut [u16]) -> CountAnswer
-    ensures { Filled (inRoom (length out.old) (getChainOrder layout entries.now)) (countOutcome result) out.old out.new }
+    ensures { Filled (in_room (length out.old) (get_chain_order layout entries.now)) (count_outcome result) out.old out.new }
 {
     parts::order(layout, true, entries, out)
 }
 
 // The same entries back in the order of the keys (1, 2, 3, 4, 18, 10).
 pub fn to_key_order(layout: IsomorphicLayout, entries: &[u16], out: &mut [u16]) -> CountAnswer
-    ensures { Filled (inRoom (length out.old) (getKeyOrder layout entries.now)) (countOutcome result) out.old out.new }
+    ensures { Filled (in_room (length out.old) (get_key_order layout entries.now)) (count_outcome result) out.old out.new }
 {
     parts::order(layout, false, entries, out)
 }

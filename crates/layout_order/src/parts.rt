@@ -3,11 +3,11 @@
 //
 // Parts, and no entry points: callers have asked what a `requires` names.
 ghost use Rattle.std.specs.Prelude.{◌≡◌, ◌&&◌, ◌≤◌, leb, length};
-ghost use Rattle.answer.specs.Lent.{inRoom, Filled};
-ghost use Rattle.answer.specs.Refusals.{countOutcome};
+ghost use Rattle.answer.specs.Lent.{in_room, Filled};
+ghost use Rattle.answer.specs.Refusals.{count_outcome};
 ghost use Rattle.pergen.specs.Parts.{At};
-ghost use Rattle.layout.specs.Parts.{layoutIn, Ready};
-ghost use Rattle.layout_order.specs.Parts.{positionIn, rearranged, orderedIn, getOrder};
+ghost use Rattle.layout.specs.Parts.{layout_in, Ready};
+ghost use Rattle.layout_order.specs.Parts.{position_in, rearranged, ordered_in, get_order};
 
 use answer::{CountAnswer, Refusal};
 use layout::parts::FoundAnswer;
@@ -19,7 +19,7 @@ use pergen::stepping::Key;
 // Where a list has the entry of a key: in chain order or at the key's number.
 fn position_of(prepared: Prepared, key: Key, in_chain: bool) -> usize
     requires { Ready prepared × At prepared.solved key }
-    ensures { result ≡ positionIn in_chain prepared.found.octave prepared.found.generator key.number }
+    ensures { result ≡ position_in in_chain prepared.found.octave prepared.found.generator key.number }
 {
     if in_chain {
         return key.cycle as usize * prepared.solved.reduced_period as usize + key.degree as usize;
@@ -56,7 +56,7 @@ fn put_order(prepared: Prepared, to_chain: bool, entries: &[u16], out: &mut [u16
 // The list in the other order (10, of either list).
 fn write_order(prepared: Prepared, to_chain: bool, entries: &[u16], out: &mut [u16]) -> CountAnswer
     requires { Ready prepared }
-    ensures { Filled (inRoom (length out.old) (orderedIn to_chain entries.now (layoutIn prepared))) (countOutcome result) out.old out.new }
+    ensures { Filled (in_room (length out.old) (ordered_in to_chain entries.now (layout_in prepared))) (count_outcome result) out.old out.new }
 {
     let octave = prepared.found.octave;
     if !both_hold(octave, entries.len(), out.len()) {
@@ -73,7 +73,7 @@ pub(crate) fn order(
     entries: &[u16],
     out: &mut [u16],
 ) -> CountAnswer
-    ensures { Filled (inRoom (length out.old) (getOrder to_chain layout entries.now)) (countOutcome result) out.old out.new }
+    ensures { Filled (in_room (length out.old) (get_order to_chain layout entries.now)) (count_outcome result) out.old out.new }
 {
     match layout::parts::ask(layout) {
         FoundAnswer::Refused(q) => CountAnswer::Refused(q),

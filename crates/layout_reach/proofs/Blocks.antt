@@ -21,15 +21,15 @@ below P j key h l =
     ∙ ap (λ (g : ℕ). min g (P - g)) (let z : gap j key ≡ key - j = omega arith in z)
     ∙ (let z : min (key - j) (P - (key - j)) ≡ min (P - (key - j)) (key - j) = omega arith in z)
 
-zero-apart : (P g : ℕ) → g < P → 0 ≡ min g (P - g) → g ≡ 0
-zero-apart P g h e = omega arith
+zero_apart : (P g : ℕ) → g < P → 0 ≡ min g (P - g) → g ≡ 0
+zero_apart P g h e = omega arith
 
 distance_self : (P a : ℕ) → a < P → distance P (pos a) (pos a) ≡ 0
 distance_self P a h = above P a a (omega arith) h ∙ (let z : min (a - a) (P - (a - a)) ≡ 0 = omega arith in z)
 
 module _ (P base n key : ℕ) (b : Block P base n) (hk : key < P) where
-  pub key-itself : base ≤ key → key < base + n → NearestIn P base n key key
-  key-itself h l =
+  pub key_itself : base ≤ key → key < base + n → NearestIn P base n key key
+  key_itself h l =
       record {
         from = h;
         below = l;
@@ -37,7 +37,7 @@ module _ (P base n key : ℕ) (b : Block P base n) (hk : key < P) where
         lower =
             λ j f t e.
             let g : gap j key ≡ 0
-            = zero-apart P _ (omega (arith, b.fits)) (sym (distance_self P key hk) ∙ e ∙ distance_is P j key (omega (arith, b.fits)) hk) in
+            = zero_apart P _ (omega (arith, b.fits)) (sym (distance_self P key hk) ∙ e ∙ distance_is P j key (omega (arith, b.fits)) hk) in
             omega arith;
       }
 
@@ -51,7 +51,7 @@ module _ (P base n key : ℕ) (b : Block P base n) (hk : key < P) where
     round : (i : ℕ) → base ≤ i → i < base + n → growing i + shrinking i ≡ P
     smaller : (i : ℕ) → base ≤ i → i < base + n → distance P (pos i) (pos key) ≡ min (growing i) (shrinking i)
     grows : (i j : ℕ) → base ≤ i → i ≤ j → j < base + n → growing i ≤ growing j
-    stays-behind : (i j : ℕ) → base ≤ i → i < base + n → j < base + n → growing i ≤ growing j → i ≤ j
+    stays_behind : (i j : ℕ) → base ≤ i → i < base + n → j < base + n → growing i ≤ growing j → i ≤ j
 
   ways : Outside → Ways
   ways (inl o) =
@@ -61,7 +61,7 @@ module _ (P base n key : ℕ) (b : Block P base n) (hk : key < P) where
         round = λ i f t. omega (arith, b.fits);
         smaller = λ i f t. above P i key (omega arith) (omega (arith, b.fits));
         grows = λ i j f h t. omega arith;
-        stays-behind = λ i j f t u h. omega arith;
+        stays_behind = λ i j f t u h. omega arith;
       }
   ways (inr o) =
       record {
@@ -70,15 +70,15 @@ module _ (P base n key : ℕ) (b : Block P base n) (hk : key < P) where
         round = λ i f t. omega arith;
         smaller = λ i f t. below P i key (omega arith) hk;
         grows = λ i j f h t. omega arith;
-        stays-behind = λ i j f t u h. omega arith;
+        stays_behind = λ i j f t u h. omega arith;
       }
 
   module _ (last : ℕ) (e : last + 1 ≡ base + n) where
     -- both ways round, of the block's ends and of a key in it
     record Three (j db dj dl : ℕ) : Type 0 where
-      no-nearer-than-last : dl < db → dl ≤ dj
-      only-last : dl < db → dl ≡ dj → last ≤ j
-      no-nearer-than-base : db ≤ dl → db ≤ dj
+      no_nearer_than_last : dl < db → dl ≤ dj
+      only_last : dl < db → dl ≡ dj → last ≤ j
+      no_nearer_than_base : db ≤ dl → db ≤ dj
 
     three : Outside → (j : ℕ) → base ≤ j → j < base + n
         → Three j (distance P (pos base) (pos key)) (distance P (pos j) (pos key)) (distance P (pos last) (pos key))
@@ -97,26 +97,26 @@ module _ (P base n key : ℕ) (b : Block P base n) (hk : key < P) where
         let g₁ = w.grows base j from f t in
         let g₂ = w.grows j last f (omega arith) ends in
         record {
-          no-nearer-than-last = λ h. omega arith;
-          only-last = λ h q. w.stays-behind last j end ends t (omega arith);
-          no-nearer-than-base = λ h. omega arith;
+          no_nearer_than_last = λ h. omega arith;
+          only_last = λ h q. w.stays_behind last j end ends t (omega arith);
+          no_nearer_than_base = λ h. omega arith;
         }
 
-    last-is : Outside → distance P (pos last) (pos key) < distance P (pos base) (pos key) → NearestIn P base n key last
-    last-is o h =
+    last_is : Outside → distance P (pos last) (pos key) < distance P (pos base) (pos key) → NearestIn P base n key last
+    last_is o h =
         record {
           from = omega (arith, b.some);
           below = omega arith;
-          least = λ j f t. (three o j f t).no-nearer-than-last h;
-          lower = λ j f t q. (three o j f t).only-last h q;
+          least = λ j f t. (three o j f t).no_nearer_than_last h;
+          lower = λ j f t q. (three o j f t).only_last h q;
         }
 
-    base-is : Outside → distance P (pos base) (pos key) ≤ distance P (pos last) (pos key) → NearestIn P base n key base
-    base-is o h =
+    base_is : Outside → distance P (pos base) (pos key) ≤ distance P (pos last) (pos key) → NearestIn P base n key base
+    base_is o h =
         record {
           from = omega arith;
           below = omega (arith, b.some);
-          least = λ j f t. (three o j f t).no-nearer-than-base h;
+          least = λ j f t. (three o j f t).no_nearer_than_base h;
           lower = λ j f t q. f;
         }
 
@@ -125,22 +125,22 @@ module _ (P base n key : ℕ) (b : Block P base n) (hk : key < P) where
       where
         by : ((r ≡ last) × (distance P (pos last) (pos key) < distance P (pos base) (pos key)))
             ⊎ ((r ≡ base) × (distance P (pos base) (pos key) ≤ distance P (pos last) (pos key))) → NearestIn P base n key r
-        by (inl (q, h)) = subst (NearestIn P base n key) (sym q) (last-is o h)
-        by (inr (q, h)) = subst (NearestIn P base n key) (sym q) (base-is o h)
+        by (inl (q, h)) = subst (NearestIn P base n key) (sym q) (last_is o h)
+        by (inr (q, h)) = subst (NearestIn P base n key) (sym q) (base_is o h)
 
 -- ---- as the code counts the distance
 
-pub distance-first : (P a b r : ℕ) → a < b → b < P → r ≡ min (b - a) (P - (b - a)) → r ≡ distance P (pos a) (pos b)
-distance-first P a b r h l e =
+pub distance_first : (P a b r : ℕ) → a < b → b < P → r ≡ min (b - a) (P - (b - a)) → r ≡ distance P (pos a) (pos b)
+distance_first P a b r h l e =
     e ∙ (let z : min (b - a) (P - (b - a)) ≡ min (P - (b - a)) (b - a) = omega arith in z) ∙ sym (below P a b (omega arith) l)
 
-pub distance-second : (P a b r : ℕ) → b ≤ a → a < P → r ≡ min (a - b) (P - (a - b)) → r ≡ distance P (pos a) (pos b)
-distance-second P a b r h l e = e ∙ sym (above P a b h l)
+pub distance_second : (P a b r : ℕ) → b ≤ a → a < P → r ≡ min (a - b) (P - (a - b)) → r ≡ distance P (pos a) (pos b)
+distance_second P a b r h l e = e ∙ sym (above P a b h l)
 
 -- ---- every block has a nearest key
 
-pub some-nearest : (P base n key : ℕ) → Block P base n → key < P → (r : ℕ) × NearestIn P base n key r
-some-nearest P base n key b hk = by (ltb key base) (ltb key (base + n)) refl refl
+pub some_nearest : (P base n key : ℕ) → Block P base n → key < P → (r : ℕ) × NearestIn P base n key r
+some_nearest P base n key b hk = by (ltb key base) (ltb key (base + n)) refl refl
   where
     last : ℕ
     last = base + n - 1
@@ -149,10 +149,10 @@ some-nearest P base n key b hk = by (ltb key base) (ltb key (base + n)) refl ref
     outside o = ends (ltb (distance P (pos last) (pos key)) (distance P (pos base) (pos key))) refl
       where
         ends : (t : Bool) → ltb (distance P (pos last) (pos key)) (distance P (pos base) (pos key)) ≡ t → (r : ℕ) × NearestIn P base n key r
-        ends true q = (last, last-is P base n key b hk last (omega (arith, b.some)) o (ltb-true _ _ q))
-        ends false q = (base, base-is P base n key b hk last (omega (arith, b.some)) o (ltb-false _ _ q))
+        ends true q = (last, last_is P base n key b hk last (omega (arith, b.some)) o (ltb-true _ _ q))
+        ends false q = (base, base_is P base n key b hk last (omega (arith, b.some)) o (ltb-false _ _ q))
 
     by : (t u : Bool) → ltb key base ≡ t → ltb key (base + n) ≡ u → (r : ℕ) × NearestIn P base n key r
     by true u q w = outside (inl (ltb-true key base q))
-    by false true q w = (key, key-itself P base n key b hk (ltb-false key base q) (ltb-true key (base + n) w))
+    by false true q w = (key, key_itself P base n key b hk (ltb-false key base q) (ltb-true key (base + n) w))
     by false false q w = outside (inr (ltb-false key (base + n) w))

@@ -3,10 +3,10 @@ use Rattle.std.specs.Prelude.{ℕ, List, [], ◌∷◌, map, ◌≡◌, ℤ, pos
 use Rattle.answer.specs.Outcome.{Outcome, given, refused}
 use Rattle.layout.specs.declared.IsomorphicLayout.{IsomorphicLayout}
 use Rattle.layout.specs.Layouts.{Layout}
-use Rattle.layout.specs.Answers.{ofLayout}
+use Rattle.layout.specs.Answers.{of_layout}
 use Rattle.layout.specs.Examples.{layout, beginning}
 use Rattle.layout_reach.specs.Reach.{keys_of}
-use Rattle.layout_reach.specs.Answers.{getNearest, getReach}
+use Rattle.layout_reach.specs.Answers.{get_nearest, get_reach}
 
 pub record NearestExample : Type 0 where
   pub layout : IsomorphicLayout
@@ -15,8 +15,8 @@ pub record NearestExample : Type 0 where
   pub nearest : Outcome ℕ
 
 -- Of F C G D A E B, D is 3 and F is 0; `negsuc k` is −1 − k.
-abbrev pub nearestExamples : List NearestExample
-nearestExamples =
+abbrev pub nearest_examples : List NearestExample
+nearest_examples =
     -- D in 12 steps is 0: from 1; from 7, where the way up is the shorter; from an octave above
     record { layout = layout 1 12 19; key = pos 1; letter = 3; nearest = given 0 }
     ∷ record { layout = layout 1 12 19; key = pos 7; letter = 3; nearest = given 0 }
@@ -51,8 +51,8 @@ pub record ReachExample : Type 0 where
   pub distance : ℕ
   pub keys : Outcome (List ℕ)
 
-abbrev pub reachExamples : List ReachExample
-reachExamples =
+abbrev pub reach_examples : List ReachExample
+reach_examples =
     record { layout = layout 1 12 19; key = pos 5; distance = 2; keys = given (3 ∷ 4 ∷ 5 ∷ 6 ∷ 7 ∷ []) }
     ∷ record { layout = layout 1 12 19; key = pos 2; distance = 0; keys = given (2 ∷ []) }
     -- past either end of the octave: from −1, and from an octave above key 0
@@ -68,16 +68,16 @@ reachExamples =
     ∷ []
 
 -- The keys of a letter.
-abbrev pub lettersKeys : IsomorphicLayout → ℕ → Outcome (List ℕ)
-lettersKeys r letter = ofLayout r (λ (l : Layout). given (keys_of l letter))
+abbrev pub letters_keys : IsomorphicLayout → ℕ → Outcome (List ℕ)
+letters_keys r letter = of_layout r (λ (l : Layout). given (keys_of l letter))
 
 -- Theorem.
 pub record ExamplesHold : Type 0 where
-  pub nearests : map (λ (e : NearestExample). getNearest e.layout e.key e.letter) nearestExamples
-      ≡ map (λ (e : NearestExample). e.nearest) nearestExamples
-  pub reaches : map (λ (e : ReachExample). getReach e.layout e.key e.distance) reachExamples
-      ≡ map (λ (e : ReachExample). e.keys) reachExamples
+  pub nearests : map (λ (e : NearestExample). get_nearest e.layout e.key e.letter) nearest_examples
+      ≡ map (λ (e : NearestExample). e.nearest) nearest_examples
+  pub reaches : map (λ (e : ReachExample). get_reach e.layout e.key e.distance) reach_examples
+      ≡ map (λ (e : ReachExample). e.keys) reach_examples
   -- D; D and D*; B, B* and B**
-  pub one-d : lettersKeys (layout 1 12 19) 3 ≡ given (0 ∷ [])
-  pub two-ds : lettersKeys (layout 1 24 38) 3 ≡ given (0 ∷ 1 ∷ [])
-  pub three-bs : lettersKeys (layout 1 36 57) 6 ≡ given (27 ∷ 28 ∷ 29 ∷ [])
+  pub one_d : letters_keys (layout 1 12 19) 3 ≡ given (0 ∷ [])
+  pub two_ds : letters_keys (layout 1 24 38) 3 ≡ given (0 ∷ 1 ∷ [])
+  pub three_bs : letters_keys (layout 1 36 57) 6 ≡ given (27 ∷ 28 ∷ 29 ∷ [])

@@ -34,7 +34,7 @@ pub record SpanOf (octave key d : ℕ) (s : Span) : Type 0 where
   pub second : s.from ≤ s.to
   pub third : s.to ≤ octave
   pub near_first : (j : ℕ) → j < s.wrapped → distance octave (pos j) (pos key) ≤ d
-  pub far-first : (j : ℕ) → s.wrapped ≤ j → j < s.from → d < distance octave (pos j) (pos key)
-  pub near-second : (j : ℕ) → s.from ≤ j → j < s.to → distance octave (pos j) (pos key) ≤ d
-  pub far-second : (j : ℕ) → s.to ≤ j → j < octave → d < distance octave (pos j) (pos key)
+  pub far_first : (j : ℕ) → s.wrapped ≤ j → j < s.from → d < distance octave (pos j) (pos key)
+  pub near_second : (j : ℕ) → s.from ≤ j → j < s.to → distance octave (pos j) (pos key) ≤ d
+  pub far_second : (j : ℕ) → s.to ≤ j → j < octave → d < distance octave (pos j) (pos key)
   pub together : s.wrapped + (s.to - s.from) ≡ min (2 * d + 1) octave

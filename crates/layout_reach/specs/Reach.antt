@@ -1,11 +1,11 @@
 -- Distances round the octave, the keys of a letter, the nearest of them, and the keys in reach (document 02, W-203).
 use Rattle.std.specs.Prelude.{ℕ, min, Bool, true, false, ◌&&◌, List, [], ◌∷◌, eqb, ltb, leb, ℤ, pos, ◌-ℤ◌, length}
-use Rattle.genchain.specs.Chains.{chainOf}
+use Rattle.genchain.specs.Chains.{chain_of}
 use Rattle.math.specs.Division.{remainder}
 use Rattle.math.specs.Passing.{first, passing}
-use Rattle.notes.specs.Names.{letterText, letterAt}
+use Rattle.notes.specs.Names.{letter_text, letter_at}
 use Rattle.layout.specs.Layouts.{Layout}
-use Rattle.layout.specs.Names.{nameIn}
+use Rattle.layout.specs.Names.{name_in}
 
 -- "distance round the octave": the steps from one number to the other, whole octaves aside, by the shorter way: the smaller of the two
 -- remainders that are never negative.
@@ -23,8 +23,8 @@ starred (a ∷ front) (b ∷ text) = eqb a b && starred front text
 
 -- The name of a key is the letter at this place in the chain, with any stars.
 unfoldable pub bears : Layout → ℕ → ℤ → Bool
-unfolding starred letterText letterAt nameIn
-bears l letter key = starred (letterText (letterAt (chainOf l.chain).letters letter)) (nameIn l key)
+unfolding starred letter_text letter_at name_in
+bears l letter key = starred (letter_text (letter_at (chain_of l.chain).letters letter)) (name_in l key)
 
 -- "the key of 0 to octave − 1" of which that holds: all of them.
 unfoldable pub keys_of : Layout → ℕ → List ℕ
@@ -46,6 +46,6 @@ nearest l key letter = first (λ k. bears l letter (pos k) && eqb (length (neare
 
 -- ---- "all keys of 0 to octave − 1 within distance d of a key, counted the same way, each once, rising"
 
-unfoldable pub inReach : ℕ → ℤ → ℕ → List ℕ
+unfoldable pub in_reach : ℕ → ℤ → ℕ → List ℕ
 unfolding passing distance
-inReach octave key d = passing (λ k. leb (distance octave (pos k) key) d) octave 0
+in_reach octave key d = passing (λ k. leb (distance octave (pos k) key) d) octave 0

@@ -4,12 +4,14 @@
 // octave; and the list of all keys within a distance.
 // specs/: Reach defines, Answers says what each call answers, Theorems and Examples state what holds.
 // Every entry point answers every input; `parts` asks for more, as its head says. Nothing is assumed.
+#![tactic(auto)]
+
 pub mod parts;
 
 ghost use Rattle.std.specs.Prelude.{◌≡◌, length};
-ghost use Rattle.answer.specs.Lent.{inRoom, Filled};
-ghost use Rattle.answer.specs.Refusals.{numberOutcome, countOutcome};
-ghost use Rattle.layout_reach.specs.Answers.{getNearest, getReach, CountsReach};
+ghost use Rattle.answer.specs.Lent.{in_room, Filled};
+ghost use Rattle.answer.specs.Refusals.{number_outcome, count_outcome};
+ghost use Rattle.layout_reach.specs.Answers.{get_nearest, get_reach, CountsReach};
 
 use answer::{CountAnswer, NumberAnswer};
 use layout::IsomorphicLayout;
@@ -18,7 +20,7 @@ use layout::parts::FoundAnswer;
 // The key of the octave nearest to a key, among those whose name is the letter at this place in the chain, with any stars; of two equally
 // near the lower (1, 2, 3, 4, 18, 16).
 pub fn nearest_natural(layout: IsomorphicLayout, key: i32, letter: u16) -> NumberAnswer
-    ensures { numberOutcome result ≡ getNearest layout key letter }
+    ensures { number_outcome result ≡ get_nearest layout key letter }
 {
     match layout::parts::ask(layout) {
         FoundAnswer::Refused(q) => NumberAnswer::Refused(q),
@@ -33,7 +35,7 @@ pub fn keys_in_reach(
     distance: u16,
     out: &mut [u16],
 ) -> CountAnswer
-    ensures { Filled (inRoom (length out.old) (getReach layout key distance)) (countOutcome result) out.old out.new }
+    ensures { Filled (in_room (length out.old) (get_reach layout key distance)) (count_outcome result) out.old out.new }
 {
     match layout::parts::ask(layout) {
         FoundAnswer::Refused(q) => CountAnswer::Refused(q),
@@ -43,7 +45,7 @@ pub fn keys_in_reach(
 
 // How many keys `keys_in_reach` writes, whatever the key (1, 2, 3, 4, 18).
 pub fn keys_in_reach_len(layout: IsomorphicLayout, distance: u16) -> CountAnswer
-    ensures { CountsReach layout distance (countOutcome result) }
+    ensures { CountsReach layout distance (count_outcome result) }
 {
     match layout::parts::ask(layout) {
         FoundAnswer::Refused(q) => CountAnswer::Refused(q),

@@ -1,13 +1,13 @@
 // Distances round the octave, and what is found by them: parts, and no entry points. Callers have asked the questions that a `requires`
 // names.
 ghost use Rattle.std.specs.Prelude.{◌≡◌, ◌+◌, ◌*◌, ◌<◌, ◌≤◌, ◌-◌, min, pos, length};
-ghost use Rattle.answer.specs.Lent.{heldIn, Filled};
-ghost use Rattle.answer.specs.Refusals.{numberOutcome, countOutcome};
+ghost use Rattle.answer.specs.Lent.{held_in, Filled};
+ghost use Rattle.answer.specs.Refusals.{number_outcome, count_outcome};
 ghost use Rattle.text.specs.Writing.{Room, Wrote};
 ghost use Rattle.layout.specs.Parts.{layout_of, Laid};
-ghost use Rattle.layout_reach.specs.Answers.{nearestIn};
+ghost use Rattle.layout_reach.specs.Answers.{nearest_in};
 ghost use Rattle.math.specs.Passing.{run};
-ghost use Rattle.layout_reach.specs.Reach.{distance, inReach};
+ghost use Rattle.layout_reach.specs.Reach.{distance, in_reach};
 ghost use Rattle.layout_reach.specs.Parts.{Block, NearerEnd, NearestIn, NearestFrom, SpanOf};
 
 use answer::{CountAnswer, NumberAnswer, Refusal};
@@ -88,7 +88,7 @@ fn nearest_from(octave: u16, generator: u16, start: u16, key: i32, letter: u16) 
 // The nearest key of a letter (16).
 pub(crate) fn nearest_of_letter(found: Found, key: i32, letter: u16) -> NumberAnswer
     requires { Laid (layout_of found) }
-    ensures { numberOutcome result ≡ nearestIn (layout_of found) key letter }
+    ensures { number_outcome result ≡ nearest_in (layout_of found) key letter }
 {
     if found.num_letters <= letter {
         return NumberAnswer::Refused(Refusal::Letter);
@@ -166,7 +166,7 @@ fn put_run(out: &mut [u16], at: usize, from: u16, to: u16) -> usize
 // The keys in reach at the front of a slice that holds them (10).
 pub(crate) fn write_reach(octave: u16, key: i32, distance: u16, out: &mut [u16]) -> CountAnswer
     requires { 0 < octave }
-    ensures { Filled (heldIn (length out.old) (inReach octave key distance)) (countOutcome result) out.old out.new }
+    ensures { Filled (held_in (length out.old) (in_reach octave key distance)) (count_outcome result) out.old out.new }
 {
     let count = reach_count(octave, distance);
     if out.len() < count {

@@ -8,34 +8,34 @@ use lib.Dec.{eqb, ltb}
 use lib.ListN.{length, drop, replicate, length-append, length-replicate}
 use borrow.Author.Tests.{ltb-true, eqb-true}
 use Rattle.answer.specs.Outcome.{Outcome, given, refused, ask, and_then}
-use Rattle.answer.proofs.Asked.{given-same, asked-yes, asked-rest, and_left, and_right}
-use Rattle.genchain.specs.Chains.{chainOf}
+use Rattle.answer.proofs.Asked.{given_same, asked_yes, asked_rest, and_left, and_right}
+use Rattle.genchain.specs.Chains.{chain_of}
 use Rattle.pergen.specs.declared.Spelling.{Spelling}
-use Rattle.notes.specs.Names.{sharpSign, flatSign, signsIn, signsText, letterText, letterAt, spellingText}
-use Rattle.notes.specs.Reading.{pastLetter, leading as leadingCount}
-use Rattle.layout.specs.Layouts.{Layout, Accepted, layoutOutcome, cyclesIn, sharpFirst}
+use Rattle.notes.specs.Names.{sharp_sign, flat_sign, signs_in, signs_text, letter_text, letter_at, spelling_text}
+use Rattle.notes.specs.Reading.{past_letter, leading as leadingCount}
+use Rattle.layout.specs.Layouts.{Layout, Accepted, layout_outcome, cycles_in, sharp_first}
 use Rattle.layout.proofs.Finding.{Parts, accepted}
-use Rattle.layout_reading.specs.Reading.{letterIndex, signsFrom, spellingInFront, is_whole, readSpelling}
-use Rattle.layout_reading.specs.Answers.{typedIn, spellingIn, getSpelling}
+use Rattle.layout_reading.specs.Reading.{letter_index, signs_from, spelling_in_front, is_whole, read_spelling}
+use Rattle.layout_reading.specs.Answers.{typed_in, spelling_in, get_spelling}
 use Rattle.layout_reading.specs.Theorems.{text_of, Typable, NothingElseIsRead}
-use Rattle.layout_reading.proofs.Texts.{front-split, leading-split}
-use Rattle.layout_reading.proofs.FrontLetters.{index-begins, past-front}
+use Rattle.layout_reading.proofs.Texts.{front_split, leading_split}
+use Rattle.layout_reading.proofs.FrontLetters.{index_begins, past_front}
 use Rattle.layout_reading.proofs.WholeTexts.{Signed, signed}
 
 -- ---- a text that begins with a letter
 
-module _ (letters : List ℕ) (sf : Bool) (text : List ℕ) (lt : letterIndex letters text < length letters) where
+module _ (letters : List ℕ) (sf : Bool) (text : List ℕ) (lt : letter_index letters text < length letters) where
   abbrev c : ℕ
-  c = letterAt letters (letterIndex letters text)
+  c = letter_at letters (letter_index letters text)
 
   abbrev marks : List ℕ
-  marks = pastLetter text
+  marks = past_letter text
 
   abbrev s : ℕ
-  s = leadingCount (sharpSign sf) marks
+  s = leadingCount (sharp_sign sf) marks
 
   abbrev f : ℕ
-  f = leadingCount (flatSign sf) marks
+  f = leadingCount (flat_sign sf) marks
 
   abbrev u : List ℕ
   u = drop (s + f) marks
@@ -43,45 +43,45 @@ module _ (letters : List ℕ) (sf : Bool) (text : List ℕ) (lt : letterIndex le
   abbrev n : ℕ
   n = leadingCount 42 u
 
-  signs-are : Signed sf marks s f (signsFrom s f)
-  signs-are = signed sf marks s f refl refl
+  signs_are : Signed sf marks s f (signs_from s f)
+  signs_are = signed sf marks s f refl refl
 
-  letter-front : letterText c ++ marks ≡ text
-  letter-front =
-      let there = index-begins letters text lt in
-      ap (λ (m : List ℕ). letterText c ++ m) (past-front c text there) ∙ front-split (letterText c) text there
+  letter_front : letter_text c ++ marks ≡ text
+  letter_front =
+      let there = index_begins letters text lt in
+      ap (λ (m : List ℕ). letter_text c ++ m) (past_front c text there) ∙ front_split (letter_text c) text there
 
   -- the letter, the signs, the stars, and what is left over
-  whole : (letterText c ++ signsText sf (signsFrom s f)) ++ (replicate n 42 ++ drop n u) ≡ text
+  whole : (letter_text c ++ signs_text sf (signs_from s f)) ++ (replicate n 42 ++ drop n u) ≡ text
   whole =
-      append_assoc (letterText c) (signsText sf (signsFrom s f)) (replicate n 42 ++ drop n u)
-      ∙ ap (λ (l : List ℕ). letterText c ++ (signsText sf (signsFrom s f) ++ l)) (leading-split 42 u)
-      ∙ ap (λ (l : List ℕ). letterText c ++ l) signs-are.front
-      ∙ letter-front
+      append_assoc (letter_text c) (signs_text sf (signs_from s f)) (replicate n 42 ++ drop n u)
+      ∙ ap (λ (l : List ℕ). letter_text c ++ (signs_text sf (signs_from s f) ++ l)) (leading_split 42 u)
+      ∙ ap (λ (l : List ℕ). letter_text c ++ l) signs_are.front
+      ∙ letter_front
 
-  length-marks : length marks ≡ s + f + (n + length (drop n u))
-  length-marks =
+  length_marks : length marks ≡ s + f + (n + length (drop n u))
+  length_marks =
       omega (
         arith,
-        ap length signs-are.front,
-        length-append (signsText sf (signsFrom s f)) u,
-        signs-are.bytes,
-        ap length (leading-split 42 u),
+        ap length signs_are.front,
+        length-append (signs_text sf (signs_from s f)) u,
+        signs_are.bytes,
+        ap length (leading_split 42 u),
         length-append (replicate n 42) (drop n u),
         length-replicate {A = ℕ} n 42,
       )
 
-  module _ (all : signsIn (signsFrom s f) + n ≡ length marks) where
+  module _ (all : signs_in (signs_from s f) + n ≡ length marks) where
     nothing_left : drop n u ≡ []
-    nothing_left = by (drop n u) (omega (arith, all, signs-are.count, length-marks))
+    nothing_left = by (drop n u) (omega (arith, all, signs_are.count, length_marks))
       where
         by : (l : List ℕ) → length l ≡ 0 → l ≡ []
         by [] e = refl
         by (x ∷ l) e = absurd (let z : ⊥ = omega arith in z)
 
-    written-again : (letterText c ++ signsText sf (signsFrom s f)) ++ replicate n 42 ≡ text
-    written-again =
-        ap (λ (l : List ℕ). (letterText c ++ signsText sf (signsFrom s f)) ++ l)
+    written_again : (letter_text c ++ signs_text sf (signs_from s f)) ++ replicate n 42 ≡ text
+    written_again =
+        ap (λ (l : List ℕ). (letter_text c ++ signs_text sf (signs_from s f)) ++ l)
         (sym (append-nil (replicate n 42)) ∙ ap (λ (l : List ℕ). replicate n 42 ++ l) (sym nothing_left))
         ∙ whole
 
@@ -89,73 +89,73 @@ module _ (letters : List ℕ) (sf : Bool) (text : List ℕ) (lt : letterIndex le
 
 pub record Told (letters : List ℕ) (sf : Bool) (text : List ℕ) (x : Spelling) : Type 0 where
   pub letter : x.index < length letters
-  pub few : signsIn x.signs < 4294967296
-  pub written : spellingText letters sf x ++ replicate x.stars 42 ≡ text
+  pub few : signs_in x.signs < 4294967296
+  pub written : spelling_text letters sf x ++ replicate x.stars 42 ≡ text
 
 module _ (letters : List ℕ) (sf : Bool) (text : List ℕ) where
-  test-told : is_whole letters text (spellingInFront letters sf text) ≡ true → Told letters sf text (spellingInFront letters sf text)
-  unfolding is_whole spellingInFront spellingText
-  test-told e =
-      let x = spellingInFront letters sf text in
+  test_told : is_whole letters text (spelling_in_front letters sf text) ≡ true → Told letters sf text (spelling_in_front letters sf text)
+  unfolding is_whole spelling_in_front spelling_text
+  test_told e =
+      let x = spelling_in_front letters sf text in
       let i = ltb x.index (length letters) in
-      let a = eqb (signsIn x.signs + x.stars) (length (pastLetter text)) in
-      let m = ltb (signsIn x.signs) 4294967296 in
-      let lt : letterIndex letters text < length letters = ltb-true x.index (length letters) (and_left i (a && m) e) in
+      let a = eqb (signs_in x.signs + x.stars) (length (past_letter text)) in
+      let m = ltb (signs_in x.signs) 4294967296 in
+      let lt : letter_index letters text < length letters = ltb-true x.index (length letters) (and_left i (a && m) e) in
       let rest = and_right i (a && m) e in
       record {
         letter = lt;
-        few = ltb-true (signsIn x.signs) 4294967296 (and_right a m rest);
-        written = written-again letters sf text lt (eqb-true (signsIn x.signs + x.stars) (length (pastLetter text)) (and_left a m rest));
+        few = ltb-true (signs_in x.signs) 4294967296 (and_right a m rest);
+        written = written_again letters sf text lt (eqb-true (signs_in x.signs + x.stars) (length (past_letter text)) (and_left a m rest));
       }
 
-  pub read_told : (x : Spelling) → readSpelling letters sf text ≡ given x → Told letters sf text x
-  unfolding readSpelling
+  pub read_told : (x : Spelling) → read_spelling letters sf text ≡ given x → Told letters sf text x
+  unfolding read_spelling
   read_told x e =
-      let y = spellingInFront letters sf text in
+      let y = spelling_in_front letters sf text in
       let b = is_whole letters text y in
-      subst (Told letters sf text) (given-same (asked-rest 23 b (given y) e)) (test-told (asked-yes 23 b (given y) e))
+      subst (Told letters sf text) (given_same (asked_rest 23 b (given y) e)) (test_told (asked_yes 23 b (given y) e))
 
 -- ---- in a layout
 
 pub record ToldIn (l : Layout) (text : List ℕ) (x : Spelling) : Type 0 where
   pub letter : x.index < l.letters
-  pub few : signsIn x.signs < 4294967296
+  pub few : signs_in x.signs < 4294967296
   pub written : text_of l x ≡ text
 
-pub told_in : (l : Layout) → Parts l → (text : List ℕ) (x : Spelling) → typedIn l text ≡ given x → ToldIn l text x
-unfolding typedIn
-told_in l a text x e =
-    let t = read_told (chainOf l.chain).letters (sharpFirst l) text x e in
+pub told_in_lem : (l : Layout) → Parts l → (text : List ℕ) (x : Spelling) → typed_in l text ≡ given x → ToldIn l text x
+unfolding typed_in
+told_in_lem l a text x e =
+    let t = read_told (chain_of l.chain).letters (sharp_first l) text x e in
     record {
-      letter = subst (λ (n : ℕ). x.index < n) (sym a.letters-are) t.letter;
+      letter = subst (λ (n : ℕ). x.index < n) (sym a.letters_are) t.letter;
       few = t.few;
       written = t.written;
     }
 
-pub spelling-told : (l : Layout) → Parts l → (text : List ℕ) (x : Spelling) → spellingIn l text ≡ given x → Typable l x × (text_of l x ≡ text)
-unfolding spellingIn
-spelling-told l a text x e = by (typedIn l text) refl e
+pub spelling_told : (l : Layout) → Parts l → (text : List ℕ) (x : Spelling) → spelling_in l text ≡ given x → Typable l x × (text_of l x ≡ text)
+unfolding spelling_in
+spelling_told l a text x e = by (typed_in l text) refl e
   where
-    by : (o : Outcome Spelling) → typedIn l text ≡ o
-        → and_then o (λ (y : Spelling). ask 21 (ltb y.stars (cyclesIn l)) (given y)) ≡ given x → Typable l x × (text_of l x ≡ text)
+    by : (o : Outcome Spelling) → typed_in l text ≡ o
+        → and_then o (λ (y : Spelling). ask 21 (ltb y.stars (cycles_in l)) (given y)) ≡ given x → Typable l x × (text_of l x ≡ text)
     by (refused n) q f = absurd (let z : ◌≡◌ {A = ℕ} 0 1 = cc in omega arith)
     by (given y) q f =
-        let b = ltb y.stars (cyclesIn l) in
-        let same : y ≡ x = given-same (asked-rest 21 b (given y) f) in
-        let t = told_in l a text y q in
+        let b = ltb y.stars (cycles_in l) in
+        let same : y ≡ x = given_same (asked_rest 21 b (given y) f) in
+        let t = told_in_lem l a text y q in
         subst (λ (z : Spelling). Typable l z × (text_of l z ≡ text)) same (
           record {
-            spelling = record { letter = t.letter; stars = ltb-true y.stars (cyclesIn l) (asked-yes 21 b (given y) f) };
+            spelling = record { letter = t.letter; stars = ltb-true y.stars (cycles_in l) (asked_yes 21 b (given y) f) };
             signs = t.few;
           },
           t.written,
         )
 
-pub nothing-else-is-read : NothingElseIsRead
-unfolding getSpelling
-nothing-else-is-read r text x e = by (layoutOutcome r) refl e
+pub nothing_else_is_read : NothingElseIsRead
+unfolding get_spelling
+nothing_else_is_read r text x e = by (layout_outcome r) refl e
   where
-    by : (o : Outcome Layout) → layoutOutcome r ≡ o → and_then o (λ (l : Layout). spellingIn l text) ≡ given x
+    by : (o : Outcome Layout) → layout_outcome r ≡ o → and_then o (λ (l : Layout). spelling_in l text) ≡ given x
         → (l : Layout) × Accepted r l × Typable l x × (text_of l x ≡ text)
     by (refused n) q f = absurd (let z : ◌≡◌ {A = ℕ} 0 1 = cc in omega arith)
-    by (given l) q f = let t = spelling-told l (accepted r l q) text x f in (l, q, t.0, t.1)
+    by (given l) q f = let t = spelling_told l (accepted r l q) text x f in (l, q, t.0, t.1)

@@ -3,91 +3,91 @@ use Rattle.std.specs.Prelude.{ℕ, ◌+◌, ◌-◌, ◌&&◌, List, [], ◌∷�
 use Rattle.answer.specs.Choice.{pick}
 use Rattle.answer.specs.Outcome.{Outcome, given, refused, ask, and_then}
 use Rattle.answer.specs.Refusals.{number_of}
-use Rattle.genchain.specs.Chains.{chainOf}
+use Rattle.genchain.specs.Chains.{chain_of}
 use Rattle.pergen.specs.declared.Spelling.{Spelling}
 use Rattle.pergen.specs.Pergen.{cycles}
 use Rattle.notes.specs.Reading.{leading as leadingCount}
-use Rattle.layout.specs.Layouts.{Layout, layoutOutcome, cyclesIn, sharpFirst}
-use Rattle.layout.specs.Names.{keyOf}
-use Rattle.layout.specs.Answers.{ofLayout}
+use Rattle.layout.specs.Layouts.{Layout, layout_outcome, cycles_in, sharp_first}
+use Rattle.layout.specs.Names.{key_of}
+use Rattle.layout.specs.Answers.{of_layout}
 use Rattle.layout.specs.declared.IsomorphicLayout.{IsomorphicLayout}
-use Rattle.layout_reading.specs.Reading.{inFront, bytesBefore, readSpelling}
+use Rattle.layout_reading.specs.Reading.{in_front, bytes_before, read_spelling}
 use Rattle.layout_reading.specs.declared.SpellingAnswer.{SpellingAnswer}
 use Rattle.layout_reading.specs.declared.SpellingAnswer.TheVariants as SpellingAnswer
 
 -- ---- one spelling
 
 -- 23. Is the text a spelling's, in the chain's letters and the layout's signs?
-unfoldable pub typedIn : Layout → List ℕ → Outcome Spelling
-unfolding readSpelling
-typedIn l text = readSpelling (chainOf l.chain).letters (sharpFirst l) text
+unfoldable pub typed_in : Layout → List ℕ → Outcome Spelling
+unfolding read_spelling
+typed_in l text = read_spelling (chain_of l.chain).letters (sharp_first l) text
 
 -- Then 21. Are its stars below the cycles?
-unfoldable pub spellingIn : Layout → List ℕ → Outcome Spelling
-unfolding typedIn cycles
-spellingIn l text = and_then (typedIn l text) (λ (x : Spelling). ask 21 (ltb x.stars (cyclesIn l)) (given x))
+unfoldable pub spelling_in : Layout → List ℕ → Outcome Spelling
+unfolding typed_in cycles
+spelling_in l text = and_then (typed_in l text) (λ (x : Spelling). ask 21 (ltb x.stars (cycles_in l)) (given x))
 
 -- Questions 1 to 4 and 18, then those of the text.
-unfoldable pub getSpelling : IsomorphicLayout → List ℕ → Outcome Spelling
-unfolding layoutOutcome spellingIn
-getSpelling r text = ofLayout r (λ (l : Layout). spellingIn l text)
+unfoldable pub get_spelling : IsomorphicLayout → List ℕ → Outcome Spelling
+unfolding layout_outcome spelling_in
+get_spelling r text = of_layout r (λ (l : Layout). spelling_in l text)
 
 -- ---- two spellings of one key
 
 -- 23. Is the text that of a spelling without stars?
-unfoldable pub starlessIn : Layout → List ℕ → Outcome Spelling
-unfolding typedIn
-starlessIn l text = and_then (typedIn l text) (λ (x : Spelling). ask 23 (eqb x.stars 0) (given x))
+unfoldable pub starless_in : Layout → List ℕ → Outcome Spelling
+unfolding typed_in
+starless_in l text = and_then (typed_in l text) (λ (x : Spelling). ask 23 (eqb x.stars 0) (given x))
 
 -- The same letter and signs, with these stars.
-abbrev pub withStars : ℕ → Spelling → Spelling
-withStars stars x = record { index = x.index; signs = x.signs; stars = stars }
+abbrev pub with_stars : ℕ → Spelling → Spelling
+with_stars stars x = record { index = x.index; signs = x.signs; stars = stars }
 
 -- 24. Do two spellings, with these stars, sound one key?
-unfoldable pub keyOfBoth : Layout → ℕ → Spelling → Spelling → Outcome ℕ
-unfolding keyOf
-keyOfBoth l stars x y =
-    ask 24 (eqb (keyOf l (withStars stars x)) (keyOf l (withStars stars y))) (given (keyOf l (withStars stars x)))
+unfoldable pub key_of_both : Layout → ℕ → Spelling → Spelling → Outcome ℕ
+unfolding key_of
+key_of_both l stars x y =
+    ask 24 (eqb (key_of l (with_stars stars x)) (key_of l (with_stars stars y))) (given (key_of l (with_stars stars x)))
 
 -- 23, of the first text and of the second; 21, of the stars that both spellings have; 24.
-unfoldable pub bothIn : Layout → ℕ → (first second : List ℕ) → Outcome ℕ
-unfolding starlessIn cycles keyOfBoth
-bothIn l stars first second =
-    and_then (starlessIn l first)
-    (λ (x : Spelling). and_then (starlessIn l second) (λ (y : Spelling). ask 21 (ltb stars (cyclesIn l)) (keyOfBoth l stars x y)))
+unfoldable pub both_in : Layout → ℕ → (first second : List ℕ) → Outcome ℕ
+unfolding starless_in cycles key_of_both
+both_in l stars first second =
+    and_then (starless_in l first)
+    (λ (x : Spelling). and_then (starless_in l second) (λ (y : Spelling). ask 21 (ltb stars (cycles_in l)) (key_of_both l stars x y)))
 
 -- "with / between": 47 is /
-unfoldable pub slashedIn : Layout → ℕ → List ℕ → Outcome ℕ
-unfolding bytesBefore bothIn
-slashedIn l stars text =
-    let slash = bytesBefore 47 text in
-    ask 23 (ltb slash (length text)) (bothIn l stars (take slash text) (drop (slash + 1) text))
+unfoldable pub slashed_in : Layout → ℕ → List ℕ → Outcome ℕ
+unfolding bytes_before both_in
+slashed_in l stars text =
+    let slash = bytes_before 47 text in
+    ask 23 (ltb slash (length text)) (both_in l stars (take slash text) (drop (slash + 1) text))
 
 -- "in parentheses if a cycle is present .. Then one * per cycle number": 40 is (, 41 is ), 42 is *
-unfoldable pub enclosedIn : Layout → List ℕ → Outcome ℕ
-unfolding inFront bytesBefore leadingCount slashedIn
-enclosedIn l text =
-    let close = bytesBefore 41 text in
+unfoldable pub enclosed_in : Layout → List ℕ → Outcome ℕ
+unfolding in_front bytes_before leadingCount slashed_in
+enclosed_in l text =
+    let close = bytes_before 41 text in
     let stars = drop (close + 1) text in
-    ask 23 (inFront (40 ∷ []) text && (ltb close (length text) && eqb (leadingCount 42 stars) (length stars)))
-    (slashedIn l (length stars) (take (close - 1) (drop 1 text)))
+    ask 23 (in_front (40 ∷ []) text && (ltb close (length text) && eqb (leadingCount 42 stars) (length stars)))
+    (slashed_in l (length stars) (take (close - 1) (drop 1 text)))
 
 -- ---- the key that a text names
 
 -- A text with a / is read as two spellings, in parentheses where the layout has more cycles than one; any other text as one spelling.
 unfoldable pub named_in : Layout → List ℕ → Outcome ℕ
-unfolding bytesBefore cycles enclosedIn slashedIn spellingIn keyOf
+unfolding bytes_before cycles enclosed_in slashed_in spelling_in key_of
 named_in l text =
-    pick (ltb (bytesBefore 47 text) (length text))
-    (pick (ltb 1 (cyclesIn l)) (enclosedIn l text) (slashedIn l 0 text))
-    (and_then (spellingIn l text) (λ (x : Spelling). given (keyOf l x)))
+    pick (ltb (bytes_before 47 text) (length text))
+    (pick (ltb 1 (cycles_in l)) (enclosed_in l text) (slashed_in l 0 text))
+    (and_then (spelling_in l text) (λ (x : Spelling). given (key_of l x)))
 
 -- Questions 1 to 4 and 18, then those of the text.
-unfoldable pub getNamedKey : IsomorphicLayout → List ℕ → Outcome ℕ
-unfolding layoutOutcome named_in
-getNamedKey r text = ofLayout r (λ (l : Layout). named_in l text)
+unfoldable pub get_named_key : IsomorphicLayout → List ℕ → Outcome ℕ
+unfolding layout_outcome named_in
+get_named_key r text = of_layout r (λ (l : Layout). named_in l text)
 
 -- What an answer means.
-abbrev pub spellingOutcome : SpellingAnswer → Outcome Spelling
-spellingOutcome (SpellingAnswer.Given x) = given x
-spellingOutcome (SpellingAnswer.Refused q) = refused (number_of q)
+abbrev pub spelling_outcome : SpellingAnswer → Outcome Spelling
+spelling_outcome (SpellingAnswer.Given x) = given x
+spelling_outcome (SpellingAnswer.Refused q) = refused (number_of q)

@@ -5,15 +5,15 @@ use Rattle.pergen.specs.declared.Signs.TheVariants.{Sharps, Flats}
 use Rattle.pergen.specs.declared.Spelling.{Spelling}
 use Rattle.layout.specs.Examples.{layout, beginning, spelt}
 use Rattle.layout.specs.declared.IsomorphicLayout.{IsomorphicLayout}
-use Rattle.layout_reading.specs.Answers.{getSpelling, getNamedKey}
+use Rattle.layout_reading.specs.Answers.{get_spelling, get_named_key}
 
 pub record SpellingExample : Type 0 where
   pub layout : IsomorphicLayout
   pub text : List ℕ
   pub outcome : Outcome Spelling
 
-abbrev pub spellingExamples : List SpellingExample
-spellingExamples =
+abbrev pub spelling_examples : List SpellingExample
+spelling_examples =
     -- F# and Gb; B, and B with a flat
     record { layout = layout 1 12 19; text = 70 ∷ 35 ∷ []; outcome = given (spelt 0 (Sharps 1) 0) }  -- F#
     ∷ record { layout = layout 1 12 19; text = 71 ∷ 98 ∷ []; outcome = given (spelt 2 (Flats 1) 0) }  -- Gb
@@ -60,8 +60,8 @@ pub record KeyExample : Type 0 where
   pub text : List ℕ
   pub outcome : Outcome ℕ
 
-abbrev pub keyExamples : List KeyExample
-keyExamples =
+abbrev pub key_examples : List KeyExample
+key_examples =
     -- F# and Gb: one key in 12 steps, two in 31
     record { layout = layout 1 12 19; text = 70 ∷ 35 ∷ []; outcome = given 4 }  -- F#
     ∷ record { layout = layout 1 12 19; text = 71 ∷ 98 ∷ []; outcome = given 4 }  -- Gb
@@ -108,6 +108,6 @@ keyExamples =
 
 -- Theorem.
 pub record ExamplesHold : Type 0 where
-  pub spellings : map (λ (e : SpellingExample). getSpelling e.layout e.text) spellingExamples
-      ≡ map (λ (e : SpellingExample). e.outcome) spellingExamples
-  pub keys : map (λ (e : KeyExample). getNamedKey e.layout e.text) keyExamples ≡ map (λ (e : KeyExample). e.outcome) keyExamples
+  pub spellings : map (λ (e : SpellingExample). get_spelling e.layout e.text) spelling_examples
+      ≡ map (λ (e : SpellingExample). e.outcome) spelling_examples
+  pub keys : map (λ (e : KeyExample). get_named_key e.layout e.text) key_examples ≡ map (λ (e : KeyExample). e.outcome) key_examples

@@ -5,12 +5,14 @@
 // need not be printed on any cap.
 // specs/: Reading defines what a spelling's text is, Answers what each call answers, Theorems and Examples state what holds.
 // Every entry point answers every input; `spellings` and `names` ask for more, as their heads say. Nothing is assumed.
+#![tactic(auto)]
+
 pub mod names;
 pub mod spellings;
 
 ghost use Rattle.std.specs.Prelude.{◌≡◌};
-ghost use Rattle.answer.specs.Refusals.{numberOutcome};
-ghost use Rattle.layout_reading.specs.Answers.{getSpelling, getNamedKey, spellingOutcome};
+ghost use Rattle.answer.specs.Refusals.{number_outcome};
+ghost use Rattle.layout_reading.specs.Answers.{get_spelling, get_named_key, spelling_outcome};
 
 use answer::{NumberAnswer, Refusal};
 use genchain::rows;
@@ -26,7 +28,7 @@ pub enum SpellingAnswer {
 
 // The spelling that a text is: a letter of the chain, sharps or flats, stars (1, 2, 3, 4, 18, 23, 21).
 pub fn read_spelling(layout: IsomorphicLayout, text: &[u8]) -> SpellingAnswer
-    ensures { spellingOutcome result ≡ getSpelling layout text.now }
+    ensures { spelling_outcome result ≡ get_spelling layout text.now }
 {
     let row = rows::row(layout.genchain);
     match layout::parts::ask_with_row(layout, row) {
@@ -40,7 +42,7 @@ pub fn read_spelling(layout: IsomorphicLayout, text: &[u8]) -> SpellingAnswer
 
 // The key of the octave that a text names: a spelling's, or a name's with two spellings of one key (1, 2, 3, 4, 18, 23, 21, 24).
 pub fn find_key(layout: IsomorphicLayout, text: &[u8]) -> NumberAnswer
-    ensures { numberOutcome result ≡ getNamedKey layout text.now }
+    ensures { number_outcome result ≡ get_named_key layout text.now }
 {
     let row = rows::row(layout.genchain);
     match layout::parts::ask_with_row(layout, row) {

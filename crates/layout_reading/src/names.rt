@@ -1,11 +1,11 @@
 // The key that a text names, by one spelling or by two: parts, and no entry points. Callers have asked questions 1 to 4 and 18, and hand in
 // the chain's row and the number of cycles.
 ghost use Rattle.std.specs.Prelude.{◌≡◌};
-ghost use Rattle.answer.specs.Refusals.{numberOutcome};
+ghost use Rattle.answer.specs.Refusals.{number_outcome};
 ghost use Rattle.layout.specs.Parts.{layout_of, Laid};
-ghost use Rattle.layout.specs.Names.{keyOf};
-ghost use Rattle.layout_reading.specs.Answers.{starlessIn, withStars, keyOfBoth, bothIn, slashedIn, enclosedIn, named_in};
-ghost use Rattle.layout_reading.specs.Parts.{Asked, Before, spellingOf, typedOutcome};
+ghost use Rattle.layout.specs.Names.{key_of};
+ghost use Rattle.layout_reading.specs.Answers.{starless_in, with_stars, key_of_both, both_in, slashed_in, enclosed_in, named_in};
+ghost use Rattle.layout_reading.specs.Parts.{Asked, Before, spelling_of, typed_outcome};
 
 use crate::spellings::{Typed, TypedAnswer};
 use crate::{SpellingAnswer, spellings};
@@ -31,7 +31,7 @@ fn bytes_before(text: &[u8], byte: u8) -> usize
 // The key that a spelling sounds.
 fn key_of(found: Found, spelling: Spelling) -> u16
     requires { Laid (layout_of found) }
-    ensures { result ≡ keyOf (layout_of found) spelling }
+    ensures { result ≡ key_of (layout_of found) spelling }
 {
     let format = AccidentalsFormat {
         num_symbols: found.num_letters,
@@ -48,7 +48,7 @@ fn key_of(found: Found, spelling: Spelling) -> u16
 // The spelling without stars that a text is (23).
 fn starless(row: ChainRow, found: Found, cycles: u16, text: &[u8]) -> TypedAnswer
     requires { Asked row found cycles }
-    ensures { typedOutcome result ≡ starlessIn (layout_of found) text.now }
+    ensures { typed_outcome result ≡ starless_in (layout_of found) text.now }
 {
     match spellings::typed_spelling(row, found, cycles, text) {
         TypedAnswer::Refused => TypedAnswer::Refused,
@@ -62,7 +62,7 @@ fn starless(row: ChainRow, found: Found, cycles: u16, text: &[u8]) -> TypedAnswe
 }
 
 fn with_stars(t: Typed, stars: u16) -> Spelling
-    ensures { result ≡ withStars stars (spellingOf t) }
+    ensures { result ≡ with_stars stars (spelling_of t) }
 {
     let signs = t.signs;
     Spelling {
@@ -75,7 +75,7 @@ fn with_stars(t: Typed, stars: u16) -> Spelling
 // The key of two spellings, with stars below the cycles (24).
 fn key_of_both(found: Found, stars: u16, first: Typed, second: Typed) -> NumberAnswer
     requires { Laid (layout_of found) }
-    ensures { numberOutcome result ≡ keyOfBoth (layout_of found) stars (spellingOf first) (spellingOf second) }
+    ensures { number_outcome result ≡ key_of_both (layout_of found) stars (spelling_of first) (spelling_of second) }
 {
     let one = key_of(found, with_stars(first, stars));
     let other = key_of(found, with_stars(second, stars));
@@ -95,7 +95,7 @@ fn both(
     second: &[u8],
 ) -> NumberAnswer
     requires { Asked row found cycles }
-    ensures { numberOutcome result ≡ bothIn (layout_of found) stars first.now second.now }
+    ensures { number_outcome result ≡ both_in (layout_of found) stars first.now second.now }
 {
     match starless(row, found, cycles, first) {
         TypedAnswer::Refused => NumberAnswer::Refused(Refusal::NoteName),
@@ -114,7 +114,7 @@ fn both(
 // The key of two spellings with / between (23, 21, 24).
 fn slashed(row: ChainRow, found: Found, cycles: u16, stars: usize, text: &[u8]) -> NumberAnswer
     requires { Asked row found cycles }
-    ensures { numberOutcome result ≡ slashedIn (layout_of found) stars text.now }
+    ensures { number_outcome result ≡ slashed_in (layout_of found) stars text.now }
 {
     let slash = bytes_before(text, b'/');
     if text.len() <= slash {
@@ -133,7 +133,7 @@ fn slashed(row: ChainRow, found: Found, cycles: u16, stars: usize, text: &[u8]) 
 // The same in parentheses, with stars behind (23, 21, 24).
 fn enclosed(row: ChainRow, found: Found, cycles: u16, text: &[u8]) -> NumberAnswer
     requires { Asked row found cycles }
-    ensures { numberOutcome result ≡ enclosedIn (layout_of found) text.now }
+    ensures { number_outcome result ≡ enclosed_in (layout_of found) text.now }
 {
     let close = bytes_before(text, b')');
     if text.len() <= close {
@@ -153,7 +153,7 @@ fn enclosed(row: ChainRow, found: Found, cycles: u16, text: &[u8]) -> NumberAnsw
 // The key that a text names (23, 21, 24).
 pub(crate) fn find(row: ChainRow, found: Found, cycles: u16, text: &[u8]) -> NumberAnswer
     requires { Asked row found cycles }
-    ensures { numberOutcome result ≡ named_in (layout_of found) text.now }
+    ensures { number_outcome result ≡ named_in (layout_of found) text.now }
 {
     if bytes_before(text, b'/') < text.len() {
         if 1 < cycles {

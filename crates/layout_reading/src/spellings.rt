@@ -1,13 +1,13 @@
 // Reading one spelling: parts, and no entry points. Callers have asked questions 1 to 4 and 18, and hand in the chain's row and the number
 // of cycles.
 ghost use Rattle.std.specs.Prelude.{◌≡◌, ◌≤◌, length, leb};
-ghost use Rattle.genchain.specs.Chains.{TableRow, lettersIn};
+ghost use Rattle.genchain.specs.Chains.{TableRow, letters_in};
 ghost use Rattle.mos.specs.Patterns.{primary, secondary};
-ghost use Rattle.notes.specs.Names.{sharpSign, flatSign, letterText};
+ghost use Rattle.notes.specs.Names.{sharp_sign, flat_sign, letter_text};
 ghost use Rattle.layout.specs.Parts.{layout_of};
-ghost use Rattle.layout_reading.specs.Reading.{inFront, readSpelling};
-ghost use Rattle.layout_reading.specs.Answers.{spellingOutcome, typedIn, spellingIn};
-ghost use Rattle.layout_reading.specs.Parts.{Asked, RunAt, FrontFound, MarksFound, typedOutcome};
+ghost use Rattle.layout_reading.specs.Reading.{in_front, read_spelling};
+ghost use Rattle.layout_reading.specs.Answers.{spelling_outcome, typed_in, spelling_in};
+ghost use Rattle.layout_reading.specs.Parts.{Asked, RunAt, FrontFound, MarksFound, typed_outcome};
 
 use crate::SpellingAnswer;
 use answer::Refusal;
@@ -69,7 +69,7 @@ pub(crate) fn run(text: &[u8], at: usize, byte: u8) -> usize
 
 // Does the text begin with this letter? Its bytes are compared, and not what they stand for: half a letter is none.
 fn starts(text: &[u8], letter: u16) -> bool
-    ensures { result ≡ inFront (letterText letter) text.now }
+    ensures { result ≡ in_front (letter_text letter) text.now }
 {
     if letter < 128 {
         if text.len() < 1 {
@@ -87,7 +87,7 @@ fn starts(text: &[u8], letter: u16) -> bool
 }
 
 fn letter_length(letter: u16) -> usize
-    ensures { result ≡ length (letterText letter) }
+    ensures { result ≡ length (letter_text letter) }
 {
     if letter < 128 {
         return 1;
@@ -97,7 +97,7 @@ fn letter_length(letter: u16) -> usize
 
 fn letter_in_front(row: ChainRow, text: &[u8]) -> Front
     requires { TableRow row }
-    ensures { FrontFound (lettersIn row) text.now result }
+    ensures { FrontFound (letters_in row) text.now result }
 {
     let count = row.num_letters as usize;
     let mut place: usize = 0;
@@ -118,7 +118,7 @@ fn letter_in_front(row: ChainRow, text: &[u8]) -> Front
 }
 
 fn sharp_sign(sharp_first: bool) -> u8
-    ensures { result ≡ sharpSign sharp_first }
+    ensures { result ≡ sharp_sign sharp_first }
 {
     if sharp_first {
         return b'#';
@@ -127,7 +127,7 @@ fn sharp_sign(sharp_first: bool) -> u8
 }
 
 fn flat_sign(sharp_first: bool) -> u8
-    ensures { result ≡ flatSign sharp_first }
+    ensures { result ≡ flat_sign sharp_first }
 {
     if sharp_first {
         return b'b';
@@ -152,7 +152,7 @@ fn marks_from(sharp_first: bool, at: usize, text: &[u8]) -> Marks
 // The spelling that a text is, with any number of stars (23).
 fn read_text(row: ChainRow, sharp_first: bool, text: &[u8]) -> TypedAnswer
     requires { TableRow row }
-    ensures { typedOutcome result ≡ readSpelling (lettersIn row) sharp_first text.now }
+    ensures { typed_outcome result ≡ read_spelling (letters_in row) sharp_first text.now }
 {
     let front = letter_in_front(row, text);
     let index = front.index;
@@ -194,7 +194,7 @@ fn sharp_first(pattern: Mos) -> bool
 // The same in a layout (23).
 pub fn typed_spelling(row: ChainRow, found: Found, cycles: u16, text: &[u8]) -> TypedAnswer
     requires { Asked row found cycles }
-    ensures { typedOutcome result ≡ typedIn (layout_of found) text.now }
+    ensures { typed_outcome result ≡ typed_in (layout_of found) text.now }
 {
     read_text(row, sharp_first(found.pattern), text)
 }
@@ -202,7 +202,7 @@ pub fn typed_spelling(row: ChainRow, found: Found, cycles: u16, text: &[u8]) -> 
 // The spelling that a text is (23, 21).
 pub(crate) fn read(row: ChainRow, found: Found, cycles: u16, text: &[u8]) -> SpellingAnswer
     requires { Asked row found cycles }
-    ensures { spellingOutcome result ≡ spellingIn (layout_of found) text.now }
+    ensures { spelling_outcome result ≡ spelling_in (layout_of found) text.now }
 {
     match typed_spelling(row, found, cycles, text) {
         TypedAnswer::Refused => SpellingAnswer::Refused(Refusal::NoteName),

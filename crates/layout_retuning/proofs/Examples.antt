@@ -1,8 +1,8 @@
 -- The worked examples hold by computation.
 use mathlib.Core.Path.{refl}
-use Rattle.layout_retuning.specs.Answers.{getMoved, getMoveTable, getLargestMove}
+use Rattle.layout_retuning.specs.Answers.{get_moved, get_move_table, get_largest_move}
 use Rattle.layout_retuning.specs.Examples.{ExamplesHold}
 
-pub examples-hold : ExamplesHold
-unfolding getMoved getMoveTable getLargestMove
-examples-hold = record { moves = refl; table = refl; most = refl; no-tables = refl; none-largest = refl }
+pub examples_hold : ExamplesHold
+unfolding get_moved get_move_table get_largest_move
+examples_hold = record { moves = refl; table = refl; most = refl; no_tables = refl; none_largest = refl }

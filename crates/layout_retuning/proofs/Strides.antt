@@ -7,13 +7,13 @@ use native.Mathlib.Nat.{mul-add, mod-lt}
 use native.Mathlib.Omega.{arith}
 use Rattle.math.specs.Division.{remainder}
 use Rattle.math.proofs.Congruence.{add_cong}
-use Rattle.math.proofs.Integers.{up, down, Rep, rep-self, rep_pos, rep_add, rep-minus, rep_mul, rep-agree}
-use Rattle.math.proofs.Division.{remainder-below, remainder-rep, remainders-agree}
+use Rattle.math.proofs.Integers.{up, down, Rep, rep_self, rep_pos, rep_add, rep_minus, rep_mul, rep_agree}
+use Rattle.math.proofs.Division.{remainder_below, remainder_rep, remainders_agree}
 use Rattle.pergen.specs.Spelling.{place, sounds}
-use Rattle.pergen.proofs.SignedNumbers.{signs-add-to-the-place}
+use Rattle.pergen.proofs.SignedNumbers.{signs_add_to_the_place}
 use Rattle.layout_reach.specs.Reach.{distance}
-use Rattle.layout_retuning.specs.Retunings.{tableSpelling}
-use Rattle.layout_retuning.specs.Parts.{keysAt, stepsBy, tableKeys, StridesOf}
+use Rattle.layout_retuning.specs.Retunings.{table_spelling}
+use Rattle.layout_retuning.specs.Parts.{keys_at, steps_by, table_keys, StridesOf}
 use Rattle.layout_retuning.specs.declared.parts.Keys.{Keys}
 use Rattle.layout_retuning.specs.declared.parts.Strides.{Strides}
 use Rattle.layout_retuning.specs.declared.parts.Tunings.{Tunings}
@@ -21,10 +21,10 @@ use Rattle.layout_retuning.specs.declared.parts.Tunings.{Tunings}
 -- ---- the keys of two places together
 
 module _ (P G : ℕ) (h : 0 < P) where
-  pub key-on : (u v : ℤ) → sounds P G (u +ℤ v) 0 ≡ (sounds P G u 0 + sounds P G v 0) % P
+  pub key_on : (u v : ℤ) → sounds P G (u +ℤ v) 0 ≡ (sounds P G u 0 + sounds P G v 0) % P
   unfolding sounds
-  key-on u v =
-      (remainders-agree P h (rep_add (rep_mul G (rep_add (rep-self u) (rep-self v))) (rep_pos 0)) (rep_pos (key u + key v))).1
+  key_on u v =
+      (remainders_agree P h (rep_add (rep_mul G (rep_add (rep_self u) (rep_self v))) (rep_pos 0)) (rep_pos (key u + key v))).1
       (ap (λ (x : ℕ). x % P) split
       ∙ add_cong P (G * up v + 0) (G * up u + 0) (key u + (G * down u + 0)) (sym (left u))
       ∙ ap (λ (x : ℕ). x % P) (let z : key u + (G * down u + 0) + (G * up v + 0) ≡ G * up v + 0 + (key u + (G * down u + 0)) = omega arith in z)
@@ -35,7 +35,7 @@ module _ (P G : ℕ) (h : 0 < P) where
       key z = remainder (pos G *ℤ z +ℤ pos 0) P
 
       left : (z : ℤ) → (key z + (G * down z + 0)) % P ≡ (G * up z + 0) % P
-      left z = remainder-rep P h (rep_add (rep_mul G (rep-self z)) (rep_pos 0))
+      left z = remainder_rep P h (rep_add (rep_mul G (rep_self z)) (rep_pos 0))
 
       split : G * (up u + up v) + 0 + 0 ≡ G * up u + 0 + (G * up v + 0)
       split = omega (arith, mul-add G (up u) (up v))
@@ -46,112 +46,112 @@ module _ (P G : ℕ) (h : 0 < P) where
 -- ---- the places of the entries
 
 module _ (N s : ℕ) where
-  abbrev spelt-at : ℕ → ℕ → ℤ
-  spelt-at letter j = place N s (tableSpelling letter j)
+  abbrev spelt_at : ℕ → ℕ → ℤ
+  spelt_at letter j = place N s (table_spelling letter j)
 
-  place_is : (letter j : ℕ) → Rep (spelt-at letter j) (letter + N * (j + 0) + 0) (0 + N * (0 + 8) + s)
+  place_is : (letter j : ℕ) → Rep (spelt_at letter j) (letter + N * (j + 0) + 0) (0 + N * (0 + 8) + s)
   unfolding place
   place_is letter j =
-      rw (signs-add-to-the-place N (pos j -ℤ pos 8))
-      (rep-minus (rep_add (rep_pos letter) (rep_mul N (rep-minus (rep_pos j) (rep_pos 8)))) (rep_pos s))
+      rw (signs_add_to_the_place N (pos j -ℤ pos 8))
+      (rep_minus (rep_add (rep_pos letter) (rep_mul N (rep_minus (rep_pos j) (rep_pos 8)))) (rep_pos s))
 
-  pub first-place : pos 0 -ℤ pos (N * 8 + s) ≡ spelt-at 0 0
-  first-place = rep-agree (rep-minus (rep_pos 0) (rep_pos (N * 8 + s))) (place_is 0 0) (omega arith)
+  pub first_place : pos 0 -ℤ pos (N * 8 + s) ≡ spelt_at 0 0
+  first_place = rep_agree (rep_minus (rep_pos 0) (rep_pos (N * 8 + s))) (place_is 0 0) (omega arith)
 
-  a-sharp-on : (letter j : ℕ) → spelt-at letter (j + 1) ≡ spelt-at letter j +ℤ (pos N -ℤ pos 0)
-  a-sharp-on letter j =
-      rep-agree (place_is letter (j + 1)) (rep_add (place_is letter j) (rep-minus (rep_pos N) (rep_pos 0)))
+  a_sharp_on : (letter j : ℕ) → spelt_at letter (j + 1) ≡ spelt_at letter j +ℤ (pos N -ℤ pos 0)
+  a_sharp_on letter j =
+      rep_agree (place_is letter (j + 1)) (rep_add (place_is letter j) (rep_minus (rep_pos N) (rep_pos 0)))
       (omega (arith, mul-add N (j + 0) 1))
 
-  a-letter-on : (letter : ℕ) → spelt-at (letter + 1) 0 ≡ spelt-at letter 16 +ℤ (pos 1 -ℤ pos (N * 16))
-  a-letter-on letter =
-      rep-agree (place_is (letter + 1) 0) (rep_add (place_is letter 16) (rep-minus (rep_pos 1) (rep_pos (N * 16)))) (omega arith)
+  a_letter_on : (letter : ℕ) → spelt_at (letter + 1) 0 ≡ spelt_at letter 16 +ℤ (pos 1 -ℤ pos (N * 16))
+  a_letter_on letter =
+      rep_agree (place_is (letter + 1) 0) (rep_add (place_is letter 16) (rep_minus (rep_pos 1) (rep_pos (N * 16)))) (omega arith)
 
-  abbrev place_at : ℕ → ℤ
-  place_at i = spelt-at (i / 17) (i % 17)
+  abbrev place_at_lem : ℕ → ℤ
+  place_at_lem i = spelt_at (i / 17) (i % 17)
 
-  sharp-place : (i : ℕ) → (i % 17 ≡ 16 → ⊥) → place_at (i + 1) ≡ place_at i +ℤ (pos N -ℤ pos 0)
-  sharp-place i h =
-      ap₂ spelt-at (let z : (i + 1) / 17 ≡ i / 17 = omega arith in z) (let z : (i + 1) % 17 ≡ i % 17 + 1 = omega arith in z)
-      ∙ a-sharp-on (i / 17) (i % 17)
+  sharp_place : (i : ℕ) → (i % 17 ≡ 16 → ⊥) → place_at_lem (i + 1) ≡ place_at_lem i +ℤ (pos N -ℤ pos 0)
+  sharp_place i h =
+      ap₂ spelt_at (let z : (i + 1) / 17 ≡ i / 17 = omega arith in z) (let z : (i + 1) % 17 ≡ i % 17 + 1 = omega arith in z)
+      ∙ a_sharp_on (i / 17) (i % 17)
 
-  letter-place : (i : ℕ) → i % 17 ≡ 16 → place_at (i + 1) ≡ place_at i +ℤ (pos 1 -ℤ pos (N * 16))
-  letter-place i h =
-      ap₂ spelt-at (let z : (i + 1) / 17 ≡ i / 17 + 1 = omega arith in z) (let z : (i + 1) % 17 ≡ 0 = omega arith in z)
-      ∙ a-letter-on (i / 17)
-      ∙ ap (λ (j : ℕ). spelt-at (i / 17) j +ℤ (pos 1 -ℤ pos (N * 16))) (sym h)
+  letter_place : (i : ℕ) → i % 17 ≡ 16 → place_at_lem (i + 1) ≡ place_at_lem i +ℤ (pos 1 -ℤ pos (N * 16))
+  letter_place i h =
+      ap₂ spelt_at (let z : (i + 1) / 17 ≡ i / 17 + 1 = omega arith in z) (let z : (i + 1) % 17 ≡ 0 = omega arith in z)
+      ∙ a_letter_on (i / 17)
+      ∙ ap (λ (j : ℕ). spelt_at (i / 17) j +ℤ (pos 1 -ℤ pos (N * 16))) (sym h)
 
 -- ---- both keys
 
 abbrev both : ℕ → ℕ → Keys
 both a b = record { first = a; second = b }
 
-pub keys-are : (k : Tunings) (u : ℤ) (stars a b : ℕ) → a ≡ sounds k.octave k.first u stars
-    → b ≡ sounds k.octave k.second u stars → both a b ≡ keysAt k u stars
-unfolding keysAt
-keys-are k u stars a b e f = ap₂ both e f
+pub keys_are : (k : Tunings) (u : ℤ) (stars a b : ℕ) → a ≡ sounds k.octave k.first u stars
+    → b ≡ sounds k.octave k.second u stars → both a b ≡ keys_at k u stars
+unfolding keys_at
+keys_are k u stars a b e f = ap₂ both e f
 
-pub first-keys : (k : Tunings) (y : Keys) → y ≡ keysAt k (pos 0 -ℤ pos (k.num_letters * 8 + k.start)) 0 → y ≡ tableKeys k 0
-unfolding tableKeys
-first-keys k y e = e ∙ ap (λ (u : ℤ). keysAt k u 0) (first-place k.num_letters k.start)
+pub first_keys : (k : Tunings) (y : Keys) → y ≡ keys_at k (pos 0 -ℤ pos (k.num_letters * 8 + k.start)) 0 → y ≡ table_keys k 0
+unfolding table_keys
+first_keys k y e = e ∙ ap (λ (u : ℤ). keys_at k u 0) (first_place k.num_letters k.start)
 
 module _ (k : Tunings) (h : 0 < k.octave) where
-  pub keys_below : (u : ℤ) (stars : ℕ) (r : Keys) → r ≡ keysAt k u stars → (r.first < k.octave) × (r.second < k.octave)
-  unfolding keysAt sounds
+  pub keys_below : (u : ℤ) (stars : ℕ) (r : Keys) → r ≡ keys_at k u stars → (r.first < k.octave) × (r.second < k.octave)
+  unfolding keys_at sounds
   keys_below u stars r e = (
-    omega (arith, ap (λ (x : Keys). x.first) e, remainder-below (pos k.first *ℤ u +ℤ pos stars) k.octave h),
-    omega (arith, ap (λ (x : Keys). x.second) e, remainder-below (pos k.second *ℤ u +ℤ pos stars) k.octave h),
+    omega (arith, ap (λ (x : Keys). x.first) e, remainder_below (pos k.first *ℤ u +ℤ pos stars) k.octave h),
+    omega (arith, ap (λ (x : Keys). x.second) e, remainder_below (pos k.second *ℤ u +ℤ pos stars) k.octave h),
   )
 
-  pub table-keys-below : (i : ℕ) (r : Keys) → r ≡ tableKeys k i → (r.first < k.octave) × (r.second < k.octave)
-  unfolding tableKeys
-  table-keys-below i r e = keys_below (place_at k.num_letters k.start i) 0 r e
+  pub table_keys_below : (i : ℕ) (r : Keys) → r ≡ table_keys k i → (r.first < k.octave) × (r.second < k.octave)
+  unfolding table_keys
+  table_keys_below i r e = keys_below (place_at_lem k.num_letters k.start i) 0 r e
 
-  keys_on : (u v : ℤ) (x y : Keys) (a b : ℕ) → x ≡ keysAt k u 0 → y ≡ keysAt k v 0 → a ≡ (x.first + y.first) % k.octave
-      → b ≡ (x.second + y.second) % k.octave → both a b ≡ keysAt k (u +ℤ v) 0
-  unfolding keysAt
+  keys_on : (u v : ℤ) (x y : Keys) (a b : ℕ) → x ≡ keys_at k u 0 → y ≡ keys_at k v 0 → a ≡ (x.first + y.first) % k.octave
+      → b ≡ (x.second + y.second) % k.octave → both a b ≡ keys_at k (u +ℤ v) 0
+  unfolding keys_at
   keys_on u v x y a b e f p q =
       ap₂ both
       (p
       ∙ ap₂ (λ (m n : ℕ). (m + n) % k.octave) (ap (λ (z : Keys). z.first) e) (ap (λ (z : Keys). z.first) f)
-      ∙ sym (key-on k.octave k.first h u v))
+      ∙ sym (key_on k.octave k.first h u v))
       (q
       ∙ ap₂ (λ (m n : ℕ). (m + n) % k.octave) (ap (λ (z : Keys). z.second) e) (ap (λ (z : Keys). z.second) f)
-      ∙ sym (key-on k.octave k.second h u v))
+      ∙ sym (key_on k.octave k.second h u v))
 
-  module _ (t : Strides) (g : StridesOf k t) (i : ℕ) (x : Keys) (e : x ≡ tableKeys k i) where
-    pub first-by-a-sharp : (x.first < k.octave) × (t.sharp.first < k.octave)
-    first-by-a-sharp = ((table-keys-below i x e).0, (keys_below (pos k.num_letters -ℤ pos 0) 0 t.sharp g.sharp-is).0)
+  module _ (t : Strides) (g : StridesOf k t) (i : ℕ) (x : Keys) (e : x ≡ table_keys k i) where
+    pub first_by_a_sharp : (x.first < k.octave) × (t.sharp.first < k.octave)
+    first_by_a_sharp = ((table_keys_below i x e).0, (keys_below (pos k.num_letters -ℤ pos 0) 0 t.sharp g.sharp_is).0)
 
-    pub second-by-a-sharp : (x.second < k.octave) × (t.sharp.second < k.octave)
-    second-by-a-sharp = ((table-keys-below i x e).1, (keys_below (pos k.num_letters -ℤ pos 0) 0 t.sharp g.sharp-is).1)
+    pub second_by_a_sharp : (x.second < k.octave) × (t.sharp.second < k.octave)
+    second_by_a_sharp = ((table_keys_below i x e).1, (keys_below (pos k.num_letters -ℤ pos 0) 0 t.sharp g.sharp_is).1)
 
-    pub first-by-a-letter : (x.first < k.octave) × (t.letter.first < k.octave)
-    first-by-a-letter = ((table-keys-below i x e).0, (keys_below (pos 1 -ℤ pos (k.num_letters * 16)) 0 t.letter g.letter-is).0)
+    pub first_by_a_letter : (x.first < k.octave) × (t.letter.first < k.octave)
+    first_by_a_letter = ((table_keys_below i x e).0, (keys_below (pos 1 -ℤ pos (k.num_letters * 16)) 0 t.letter g.letter_is).0)
 
-    pub second-by-a-letter : (x.second < k.octave) × (t.letter.second < k.octave)
-    second-by-a-letter = ((table-keys-below i x e).1, (keys_below (pos 1 -ℤ pos (k.num_letters * 16)) 0 t.letter g.letter-is).1)
+    pub second_by_a_letter : (x.second < k.octave) × (t.letter.second < k.octave)
+    second_by_a_letter = ((table_keys_below i x e).1, (keys_below (pos 1 -ℤ pos (k.num_letters * 16)) 0 t.letter g.letter_is).1)
 
-  module _ (t : Strides) (g : StridesOf k t) (i : ℕ) (x : Keys) (e : x ≡ tableKeys k i) (a b : ℕ) where
-    pub by-a-sharp : (i % 17 ≡ 16 → ⊥) → a ≡ (x.first + t.sharp.first) % k.octave → b ≡ (x.second + t.sharp.second) % k.octave
-        → both a b ≡ tableKeys k (i + 1)
-    unfolding tableKeys
-    by-a-sharp n p q =
-        keys_on (place_at k.num_letters k.start i) (pos k.num_letters -ℤ pos 0) x t.sharp a b e g.sharp-is p q
-        ∙ ap (λ (u : ℤ). keysAt k u 0) (sym (sharp-place k.num_letters k.start i n))
+  module _ (t : Strides) (g : StridesOf k t) (i : ℕ) (x : Keys) (e : x ≡ table_keys k i) (a b : ℕ) where
+    pub by_a_sharp : (i % 17 ≡ 16 → ⊥) → a ≡ (x.first + t.sharp.first) % k.octave → b ≡ (x.second + t.sharp.second) % k.octave
+        → both a b ≡ table_keys k (i + 1)
+    unfolding table_keys
+    by_a_sharp n p q =
+        keys_on (place_at_lem k.num_letters k.start i) (pos k.num_letters -ℤ pos 0) x t.sharp a b e g.sharp_is p q
+        ∙ ap (λ (u : ℤ). keys_at k u 0) (sym (sharp_place k.num_letters k.start i n))
 
-    pub by-a-letter : i % 17 ≡ 16 → a ≡ (x.first + t.letter.first) % k.octave → b ≡ (x.second + t.letter.second) % k.octave
-        → both a b ≡ tableKeys k (i + 1)
-    unfolding tableKeys
-    by-a-letter n p q =
-        keys_on (place_at k.num_letters k.start i) (pos 1 -ℤ pos (k.num_letters * 16)) x t.letter a b e g.letter-is p q
-        ∙ ap (λ (u : ℤ). keysAt k u 0) (sym (letter-place k.num_letters k.start i n))
+    pub by_a_letter : i % 17 ≡ 16 → a ≡ (x.first + t.letter.first) % k.octave → b ≡ (x.second + t.letter.second) % k.octave
+        → both a b ≡ table_keys k (i + 1)
+    unfolding table_keys
+    by_a_letter n p q =
+        keys_on (place_at_lem k.num_letters k.start i) (pos 1 -ℤ pos (k.num_letters * 16)) x t.letter a b e g.letter_is p q
+        ∙ ap (λ (u : ℤ). keys_at k u 0) (sym (letter_place k.num_letters k.start i n))
 
 -- ---- an entry
 
-pub entry-is : (k : Tunings) (i : ℕ) (x : Keys) (n : ℕ) → x ≡ tableKeys k i → n ≡ distance k.octave (pos x.first) (pos x.second)
-    → n ≡ stepsBy k (tableSpelling (i / 17) (i % 17))
-unfolding tableKeys keysAt stepsBy
-entry-is k i x n e q =
+pub entry_is : (k : Tunings) (i : ℕ) (x : Keys) (n : ℕ) → x ≡ table_keys k i → n ≡ distance k.octave (pos x.first) (pos x.second)
+    → n ≡ steps_by k (table_spelling (i / 17) (i % 17))
+unfolding table_keys keys_at steps_by
+entry_is k i x n e q =
     q
     ∙ ap₂ (λ (u v : ℕ). distance k.octave (pos u) (pos v)) (ap (λ (z : Keys). z.first) e) (ap (λ (z : Keys). z.second) e)

@@ -2,7 +2,7 @@
 use Rattle.std.specs.Prelude.{ℕ, List, [], ◌∷◌, ◌++◌, map, ◌≡◌, ℤ, pos, negsuc}
 use Rattle.answer.specs.Outcome.{Outcome, given, refused}
 use Rattle.layout_retuning.specs.Retunings.{spelt}
-use Rattle.layout_retuning.specs.Answers.{getMoved, getMoveTable, getLargestMove}
+use Rattle.layout_retuning.specs.Answers.{get_moved, get_move_table, get_largest_move}
 use Rattle.layout_retuning.specs.declared.Retuning.{Retuning}
 
 -- A chain, an octave and a start, from one tritave to another.
@@ -16,8 +16,8 @@ abbrev pub lesson : Retuning
 lesson = retuning 2 31 2 49 50
 
 -- From eight flats to eight sharps; the ninth of each row is the letter by itself.
-abbrev pub lessonTable : List ℕ
-lessonTable =
+abbrev pub lesson_table : List ℕ
+lesson_table =
     -- C
     (11 ∷ 6 ∷ 1 ∷ 4 ∷ 9 ∷ 14 ∷ 12 ∷ 7 ∷ 2 ∷ 3 ∷ 8 ∷ 13 ∷ 13 ∷ 8 ∷ 3 ∷ 2 ∷ 7 ∷ [])
     -- G
@@ -37,8 +37,8 @@ pub record MoveExample : Type 0 where
   pub move : Outcome ℕ
 
 -- `negsuc k` is −1 − k.
-abbrev pub moveExamples : List MoveExample
-moveExamples =
+abbrev pub move_examples : List MoveExample
+move_examples =
     -- D stays; A, a place from it, moves by a step; D#### is at place 20 and moves by 20 steps one way, so by 11 the other
     record { retuning = lesson; letter = 2; signs = pos 0; stars = 0; move = given 0 }
     ∷ record { retuning = lesson; letter = 3; signs = pos 0; stars = 0; move = given 1 }
@@ -70,12 +70,12 @@ moveExamples =
 
 -- Theorem.
 pub record ExamplesHold : Type 0 where
-  pub moves : map (λ (e : MoveExample). getMoved e.retuning (spelt e.letter e.signs e.stars)) moveExamples
-      ≡ map (λ (e : MoveExample). e.move) moveExamples
-  pub table : getMoveTable lesson ≡ given lessonTable
-  pub most : getLargestMove lesson ≡ given 15
+  pub moves : map (λ (e : MoveExample). get_moved e.retuning (spelt e.letter e.signs e.stars)) move_examples
+      ≡ map (λ (e : MoveExample). e.move) move_examples
+  pub table : get_move_table lesson ≡ given lesson_table
+  pub most : get_largest_move lesson ≡ given 15
   -- the order of the questions, for tables too
-  pub no-tables : map getMoveTable (retuning 2 4 9 6 3 ∷ retuning 2 31 5 49 30 ∷ retuning 2 31 4 49 30 ∷ [])
+  pub no_tables : map get_move_table (retuning 2 4 9 6 3 ∷ retuning 2 31 5 49 30 ∷ retuning 2 31 4 49 30 ∷ [])
       ≡ refused 4 ∷ refused 18 ∷ refused 3 ∷ []
-  pub none-largest : map getLargestMove (retuning 2 4 9 6 3 ∷ retuning 2 31 5 49 30 ∷ retuning 2 31 4 49 30 ∷ [])
+  pub none_largest : map get_largest_move (retuning 2 4 9 6 3 ∷ retuning 2 31 5 49 30 ∷ retuning 2 31 4 49 30 ∷ [])
       ≡ refused 4 ∷ refused 18 ∷ refused 3 ∷ []

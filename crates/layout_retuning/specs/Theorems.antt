@@ -3,12 +3,12 @@ use Rattle.std.specs.Prelude.{ℕ, ◌+◌, ◌*◌, ◌<◌, ◌≤◌, ◌↔�
 use mathlib.Core.List.{List, Memᴰ}
 use Rattle.answer.specs.Outcome.{given}
 use Rattle.pergen.specs.declared.Spelling.{Spelling}
-use Rattle.layout.specs.Layouts.{Layout, Accepted, lettersOf}
+use Rattle.layout.specs.Layouts.{Layout, Accepted, letters_of}
 use Rattle.layout.specs.Names.{place_in}
-use Rattle.layout.specs.Answers.{getSoundedKey}
+use Rattle.layout.specs.Answers.{get_sounded_key}
 use Rattle.layout_reach.specs.Reach.{distance}
-use Rattle.layout_retuning.specs.Retunings.{first_of, second_of, moved, tableSpelling}
-use Rattle.layout_retuning.specs.Answers.{getMoved, getMoveTable, getLargestMove}
+use Rattle.layout_retuning.specs.Retunings.{first_of, second_of, moved, table_spelling}
+use Rattle.layout_retuning.specs.Answers.{get_moved, get_move_table, get_largest_move}
 use Rattle.layout_retuning.specs.declared.Retuning.{Retuning}
 
 -- ---- a spelling's move
@@ -18,8 +18,8 @@ use Rattle.layout_retuning.specs.declared.Retuning.{Retuning}
 abbrev pub MovesAreDistances : Type 0
 MovesAreDistances =
     (t : Retuning) (x : Spelling) (n : ℕ)
-    → (getMoved t x ≡ given n)
-    ↔ ((a : ℕ) × (b : ℕ) × (getSoundedKey (first_of t) x ≡ given a) × (getSoundedKey (second_of t) x ≡ given b)
+    → (get_moved t x ≡ given n)
+    ↔ ((a : ℕ) × (b : ℕ) × (get_sounded_key (first_of t) x ≡ given a) × (get_sounded_key (second_of t) x ≡ given b)
     × (n ≡ distance t.octave (pos a) (pos b)))
 
 -- How far apart two generators are.
@@ -39,7 +39,7 @@ pub record MovesAre (l m : Layout) (x : Spelling) : Type 0 where
   -- only the place counts,
   pub by_place : (y : Spelling) → place_in l x ≡ place_in l y → moved l m x ≡ moved l m y
   -- so the stars do not.
-  pub stars-aside : (stars : ℕ) → moved l m x ≡ moved l m (record { index = x.index; signs = x.signs; stars = stars })
+  pub stars_aside : (stars : ℕ) → moved l m x ≡ moved l m (record { index = x.index; signs = x.signs; stars = stars })
 
 abbrev pub MovesAreBounded : Type 0
 MovesAreBounded =
@@ -59,9 +59,9 @@ back t =
     }
 
 pub record AsFarBack (t : Retuning) : Type 0 where
-  pub moves : (x : Spelling) → getMoved (back t) x ≡ getMoved t x
-  pub table : getMoveTable (back t) ≡ getMoveTable t
-  pub most : getLargestMove (back t) ≡ getLargestMove t
+  pub moves : (x : Spelling) → get_moved (back t) x ≡ get_moved t x
+  pub table : get_move_table (back t) ≡ get_move_table t
+  pub most : get_largest_move (back t) ≡ get_largest_move t
 
 -- Where both layouts are accepted, all answers stay, refusals with 16 and 21 too. (Of two layouts that are refused the first is told.)
 abbrev pub BackIsAsFar : Type 0
@@ -71,12 +71,12 @@ BackIsAsFar = (t : Retuning) (l m : Layout) → Accepted (first_of t) l → Acce
 
 -- Its entries are what single calls answer, letter by letter, from eight flats (j is 0) to eight sharps (j is 16), and no others.
 pub record OfSingleCalls (t : Retuning) (table : List ℕ) : Type 0 where
-  pub long : length table ≡ lettersOf t.genchain * 17
-  pub each : (letter j : ℕ) → letter < lettersOf t.genchain → j < 17
-      → getMoved t (tableSpelling letter j) ≡ given (get_or table (letter * 17 + j) 0)
+  pub long : length table ≡ letters_of t.genchain * 17
+  pub each : (letter j : ℕ) → letter < letters_of t.genchain → j < 17
+      → get_moved t (table_spelling letter j) ≡ given (get_or table (letter * 17 + j) 0)
 
 abbrev pub TableIsOfSingleCalls : Type 0
-TableIsOfSingleCalls = (t : Retuning) (table : List ℕ) → getMoveTable t ≡ given table → OfSingleCalls t table
+TableIsOfSingleCalls = (t : Retuning) (table : List ℕ) → get_move_table t ≡ given table → OfSingleCalls t table
 
 -- A number of the list that none passes.
 pub record IsLargest (table : List ℕ) (n : ℕ) : Type 0 where
@@ -87,4 +87,4 @@ pub record IsLargest (table : List ℕ) (n : ℕ) : Type 0 where
 abbrev pub LargestIsTheLargest : Type 0
 LargestIsTheLargest =
     (t : Retuning) (n : ℕ)
-    → (getLargestMove t ≡ given n) ↔ ((table : List ℕ) × (getMoveTable t ≡ given table) × IsLargest table n)
+    → (get_largest_move t ≡ given n) ↔ ((table : List ℕ) × (get_move_table t ≡ given table) × IsLargest table n)

@@ -5,13 +5,15 @@
 // specs/: Retunings defines, Answers says what each call answers, Theorems and Examples state what holds.
 // A retuning holds only the five numbers that a caller chose; each call asks the questions of both its layouts again, the first's first.
 // Every entry point answers every input; `parts` asks for more, as its head says. Nothing is assumed.
+#![tactic(auto)]
+
 mod parts;
 
 ghost use Rattle.std.specs.Prelude.{◌≡◌, length};
-ghost use Rattle.answer.specs.Lent.{inRoom, counted, Filled};
-ghost use Rattle.answer.specs.Refusals.{numberOutcome, countOutcome};
+ghost use Rattle.answer.specs.Lent.{in_room, counted, Filled};
+ghost use Rattle.answer.specs.Refusals.{number_outcome, count_outcome};
 ghost use Rattle.layout_retuning.specs.Retunings.{spelt};
-ghost use Rattle.layout_retuning.specs.Answers.{getMoved, getMoveTable, getLargestMove};
+ghost use Rattle.layout_retuning.specs.Answers.{get_moved, get_move_table, get_largest_move};
 
 use answer::{CountAnswer, NumberAnswer};
 use parts::TuningsAnswer;
@@ -31,7 +33,7 @@ pub struct Retuning {
 // How many steps round the octave, the shorter way, the key moves that a spelling sounds: a letter's index along the chain, signs (sharps
 // above 0, flats below), stars (1, 2, 3, 4, 18, of the second layout 3, 4, then 16, 21).
 pub fn moved(retuning: Retuning, letter: u16, signs: i32, stars: u16) -> NumberAnswer
-    ensures { numberOutcome result ≡ getMoved retuning (spelt letter signs stars) }
+    ensures { number_outcome result ≡ get_moved retuning (spelt letter signs stars) }
 {
     match parts::ask(retuning) {
         TuningsAnswer::Refused(q) => NumberAnswer::Refused(q),
@@ -49,7 +51,7 @@ pub fn moved(retuning: Retuning, letter: u16, signs: i32, stars: u16) -> NumberA
 // The moves of all letters, letter by letter along the chain, each from eight flats to eight sharps, without stars (1, 2, 3, 4, 18, of the
 // second layout 3, 4, then 10).
 pub fn move_table(retuning: Retuning, out: &mut [u16]) -> CountAnswer
-    ensures { Filled (inRoom (length out.old) (getMoveTable retuning)) (countOutcome result) out.old out.new }
+    ensures { Filled (in_room (length out.old) (get_move_table retuning)) (count_outcome result) out.old out.new }
 {
     match parts::ask(retuning) {
         TuningsAnswer::Refused(q) => CountAnswer::Refused(q),
@@ -59,7 +61,7 @@ pub fn move_table(retuning: Retuning, out: &mut [u16]) -> CountAnswer
 
 // How many numbers `move_table` writes (1, 2, 3, 4, 18, of the second layout 3, 4).
 pub fn move_table_len(retuning: Retuning) -> CountAnswer
-    ensures { countOutcome result ≡ counted (getMoveTable retuning) }
+    ensures { count_outcome result ≡ counted (get_move_table retuning) }
 {
     match parts::ask(retuning) {
         TuningsAnswer::Refused(q) => CountAnswer::Refused(q),
@@ -69,7 +71,7 @@ pub fn move_table_len(retuning: Retuning) -> CountAnswer
 
 // The largest move in the table (1, 2, 3, 4, 18, of the second layout 3, 4).
 pub fn largest_move(retuning: Retuning) -> NumberAnswer
-    ensures { numberOutcome result ≡ getLargestMove retuning }
+    ensures { number_outcome result ≡ get_largest_move retuning }
 {
     match parts::ask(retuning) {
         TuningsAnswer::Refused(q) => NumberAnswer::Refused(q),

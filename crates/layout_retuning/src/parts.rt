@@ -1,22 +1,22 @@
 // Both layouts of a retuning, and the moves between them: parts, and no entry points. Callers have asked the questions that a `requires`
 // names.
 ghost use Rattle.std.specs.Prelude.{◌≡◌, ◌+◌, ◌*◌, ◌%◌, ◌<◌, ◌≤◌, max, pos, ◌-ℤ◌, length};
-ghost use Rattle.answer.specs.Lent.{heldIn, Filled};
-ghost use Rattle.answer.specs.Refusals.{numberOutcome, countOutcome};
+ghost use Rattle.answer.specs.Lent.{held_in, Filled};
+ghost use Rattle.answer.specs.Refusals.{number_outcome, count_outcome};
 ghost use Rattle.text.specs.Writing.{Wrote};
 ghost use Rattle.layout_retuning.specs.Retunings.{largest};
 ghost use Rattle.layout_retuning.specs.Parts.{
-  layoutAt,
-  tuningsOutcome,
-  getTunings,
+  layout_at,
+  tunings_outcome,
+  get_tunings,
   Tuned,
-  keysAt,
-  stepsBy,
-  movedBy,
-  tableBy,
-  tableKeys,
+  keys_at,
+  steps_by,
+  moved_by,
+  table_by,
+  table_keys,
   StridesOf,
-  tableLength,
+  table_length,
 };
 
 use crate::Retuning;
@@ -45,7 +45,7 @@ pub(crate) enum TuningsAnswer {
 
 // The layout with this tritave.
 fn layout_at(retuning: Retuning, tritave: u16) -> IsomorphicLayout
-    ensures { result ≡ layoutAt retuning tritave }
+    ensures { result ≡ layout_at retuning tritave }
 {
     IsomorphicLayout {
         genchain: retuning.genchain,
@@ -57,7 +57,7 @@ fn layout_at(retuning: Retuning, tritave: u16) -> IsomorphicLayout
 
 // Questions 1 to 4 and 18 of the first layout, then those of the second, of which only 3 and 4 may have the answer no.
 pub(crate) fn ask(retuning: Retuning) -> TuningsAnswer
-    ensures { tuningsOutcome result ≡ getTunings retuning }
+    ensures { tunings_outcome result ≡ get_tunings retuning }
 {
     match layout::parts::ask(layout_at(retuning, retuning.from_tritave)) {
         FoundAnswer::Refused(q) => TuningsAnswer::Refused(q),
@@ -86,7 +86,7 @@ pub(crate) struct Keys {
 // Both keys of a place, with so many stars.
 fn keys_at(tunings: Tunings, place: Sides, stars: u16) -> Keys
     requires { 0 < tunings.octave }
-    ensures { result ≡ keysAt tunings (pos place.above -ℤ pos place.below) stars }
+    ensures { result ≡ keys_at tunings (pos place.above -ℤ pos place.below) stars }
 {
     let octave = tunings.octave;
     let one = PerGen {
@@ -106,7 +106,7 @@ fn keys_at(tunings: Tunings, place: Sides, stars: u16) -> Keys
 // The distance of the keys that a spelling sounds in both tunings: its place on the chain is the same, the generator another.
 fn steps(tunings: Tunings, spelling: Spelling) -> u16
     requires { 0 < tunings.octave }
-    ensures { result ≡ stepsBy tunings spelling }
+    ensures { result ≡ steps_by tunings spelling }
 {
     let format = AccidentalsFormat {
         num_symbols: tunings.num_letters,
@@ -120,7 +120,7 @@ fn steps(tunings: Tunings, spelling: Spelling) -> u16
 // The move of a spelling (16, and 21 of both tunings).
 pub(crate) fn moved_in(tunings: Tunings, spelling: Spelling) -> NumberAnswer
     requires { Tuned tunings }
-    ensures { numberOutcome result ≡ movedBy tunings spelling }
+    ensures { number_outcome result ≡ moved_by tunings spelling }
 {
     let stars = spelling.stars;
     if tunings.num_letters <= spelling.index {
@@ -138,7 +138,7 @@ pub(crate) fn moved_in(tunings: Tunings, spelling: Spelling) -> NumberAnswer
 // How many moves the table has: seventeen for each letter.
 pub(crate) fn entries(tunings: Tunings) -> u16
     requires { Tuned tunings }
-    ensures { result ≡ tableLength tunings }
+    ensures { result ≡ table_length tunings }
 {
     tunings.num_letters * 17
 }
@@ -173,7 +173,7 @@ fn strides_of(tunings: Tunings) -> Strides
 // Both keys of the table's first entry, the first letter with eight flats.
 fn first_keys(tunings: Tunings) -> Keys
     requires { Tuned tunings }
-    ensures { result ≡ tableKeys tunings 0 }
+    ensures { result ≡ table_keys tunings 0 }
 {
     let flats = Sides {
         above: 0,
@@ -196,8 +196,8 @@ fn raised(octave: u16, key: u16, by: u16) -> u16
 
 // Both keys of the next entry.
 fn next_keys(tunings: Tunings, strides: Strides, entry: u16, keys: Keys) -> Keys
-    requires { Tuned tunings × StridesOf tunings strides × (keys ≡ tableKeys tunings entry) }
-    ensures { result ≡ tableKeys tunings (entry + 1) }
+    requires { Tuned tunings × StridesOf tunings strides × (keys ≡ table_keys tunings entry) }
+    ensures { result ≡ table_keys tunings (entry + 1) }
 {
     let octave = tunings.octave;
     if entry % 17 == 16 {
@@ -215,7 +215,7 @@ fn next_keys(tunings: Tunings, strides: Strides, entry: u16, keys: Keys) -> Keys
 // So many entries of the table at the front of a slice that holds them.
 fn put_moves(out: &mut [u16], tunings: Tunings, count: u16)
     requires { Tuned tunings × (count ≤ length out.old) }
-    ensures { Wrote out.old 0 (tableBy tunings count) out.new count }
+    ensures { Wrote out.old 0 (table_by tunings count) out.new count }
 {
     let strides = strides_of(tunings);
     let mut keys = first_keys(tunings);
@@ -230,7 +230,7 @@ fn put_moves(out: &mut [u16], tunings: Tunings, count: u16)
 // The table at the front of a slice that holds it (10).
 pub(crate) fn write_table(tunings: Tunings, out: &mut [u16]) -> CountAnswer
     requires { Tuned tunings }
-    ensures { Filled (heldIn (length out.old) (tableBy tunings (tableLength tunings))) (countOutcome result) out.old out.new }
+    ensures { Filled (held_in (length out.old) (table_by tunings (table_length tunings))) (count_outcome result) out.old out.new }
 {
     let count = entries(tunings);
     if out.len() < count as usize {
@@ -252,7 +252,7 @@ fn larger(a: u16, b: u16) -> u16
 // The largest move of the table.
 pub(crate) fn largest_in(tunings: Tunings) -> u16
     requires { Tuned tunings }
-    ensures { result ≡ largest (tableBy tunings (tableLength tunings)) }
+    ensures { result ≡ largest (table_by tunings (table_length tunings)) }
 {
     let count = entries(tunings);
     let strides = strides_of(tunings);

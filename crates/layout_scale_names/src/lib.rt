@@ -3,12 +3,14 @@
 // Holds the name and its length (document 01, "Step patterns"); the names stand in the table of `genchain::names`.
 // The definitions are those of `layout`: ScaleNames says which name a pattern's scale has, Answers what each call answers.
 // Every entry point answers every input; `parts` asks for more, as its head says. Nothing is assumed.
+#![tactic(auto)]
+
 pub mod parts;
 
 ghost use Rattle.std.specs.Prelude.{◌≡◌, length};
-ghost use Rattle.answer.specs.Refusals.{countOutcome};
-ghost use Rattle.answer.specs.Lent.{inRoom, counted, Filled};
-ghost use Rattle.layout.specs.Answers.{getScaleName};
+ghost use Rattle.answer.specs.Refusals.{count_outcome};
+ghost use Rattle.answer.specs.Lent.{in_room, counted, Filled};
+ghost use Rattle.layout.specs.Answers.{get_scale_name};
 
 use answer::CountAnswer;
 use genchain::names;
@@ -17,7 +19,7 @@ use layout::parts::FoundAnswer;
 
 // How many bytes the scale's name has (1, 2, 3, 4, 18).
 pub fn scale_name_len(layout: IsomorphicLayout) -> CountAnswer
-    ensures { countOutcome result ≡ counted (getScaleName layout) }
+    ensures { count_outcome result ≡ counted (get_scale_name layout) }
 {
     match layout::parts::ask(layout) {
         FoundAnswer::Refused(q) => CountAnswer::Refused(q),
@@ -29,7 +31,7 @@ pub fn scale_name_len(layout: IsomorphicLayout) -> CountAnswer
 
 // The scale's name, as "diatonic" (1, 2, 3, 4, 18, 10).
 pub fn get_scale_name(layout: IsomorphicLayout, out: &mut [u8]) -> CountAnswer
-    ensures { Filled (inRoom (length out.old) (getScaleName layout)) (countOutcome result) out.old out.new }
+    ensures { Filled (in_room (length out.old) (get_scale_name layout)) (count_outcome result) out.old out.new }
 {
     match layout::parts::ask(layout) {
         FoundAnswer::Refused(q) => CountAnswer::Refused(q),

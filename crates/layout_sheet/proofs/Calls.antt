@@ -6,77 +6,77 @@ use native.Mathlib.Nat.{le_refl}
 use native.Mathlib.Omega.{arith}
 use lib.ListN.{length, drop, length-map}
 use Rattle.answer.specs.Outcome.{Outcome, given, refused, and_then}
-use Rattle.answer.specs.Lent.{inRoom, counted, written}
+use Rattle.answer.specs.Lent.{in_room, counted, written}
 use Rattle.answer.proofs.Lent.{held}
-use Rattle.answer.specs.Refusals.{countOutcome}
+use Rattle.answer.specs.Refusals.{count_outcome}
 use Rattle.answer.specs.declared.CountAnswer.TheVariants.{Given}
 use Rattle.pergen.specs.declared.stepping.Key.{Key}
 use Rattle.layout.specs.declared.IsomorphicLayout.{IsomorphicLayout}
-use Rattle.layout.specs.Layouts.{Layout, layoutOutcome}
-use Rattle.layout.specs.Parts.{layoutIn}
-use Rattle.layout.proofs.Calls.{of-refused, of-given}
+use Rattle.layout.specs.Layouts.{Layout, layout_outcome}
+use Rattle.layout.specs.Parts.{layout_in}
+use Rattle.layout.proofs.Calls.{of_refused, of_given}
 use Rattle.layout_sheet.specs.declared.Record.{Record}
 use Rattle.layout_sheet.specs.declared.parts.Sheet.{Sheet}
 use Rattle.layout_sheet.specs.declared.parts.Source.{Source}
-use Rattle.layout_sheet.specs.Sheets.{recordIn, sheetIn}
-use Rattle.layout_sheet.specs.Answers.{getSheet}
-use Rattle.layout_sheet.specs.Parts.{Walking, filledTo, PreparedFor}
-use Rattle.layout_sheet.proofs.Changed.{changed-none, changed-all}
+use Rattle.layout_sheet.specs.Sheets.{record_in, sheet_in}
+use Rattle.layout_sheet.specs.Answers.{get_sheet}
+use Rattle.layout_sheet.specs.Parts.{Walking, filled_to, PreparedFor}
+use Rattle.layout_sheet.proofs.Changed.{changed_none, changed_all}
 
-pub sheet-refused : (r : IsomorphicLayout) (n : ℕ) → refused n ≡ layoutOutcome r → (records : List Record) → refused n ≡ getSheet r records
-unfolding getSheet
-sheet-refused r n e records = of-refused r _ n e
+pub sheet_refused : (r : IsomorphicLayout) (n : ℕ) → refused n ≡ layout_outcome r → (records : List Record) → refused n ≡ get_sheet r records
+unfolding get_sheet
+sheet_refused r n e records = of_refused r _ n e
 
-pub sheet-given : (r : IsomorphicLayout) (l : Layout) → given l ≡ layoutOutcome r → (records : List Record)
-    → given (sheetIn l records) ≡ getSheet r records
-unfolding getSheet
-sheet-given r l e records = of-given r _ l e
+pub sheet_given : (r : IsomorphicLayout) (l : Layout) → given l ≡ layout_outcome r → (records : List Record)
+    → given (sheet_in l records) ≡ get_sheet r records
+unfolding get_sheet
+sheet_given r l e records = of_given r _ l e
 
 -- nothing lies past a sheet, which is as long as its list
-none-past : (f : Record → Record) (records : List Record) → map f records ≡ map f records ++ drop (length (map f records)) records
-none-past f [] = refl
-none-past f (x ∷ records) = ap (λ (l : List Record). f x ∷ l) (none-past f records)
+none_past : (f : Record → Record) (records : List Record) → map f records ≡ map f records ++ drop (length (map f records)) records
+none_past f [] = refl
+none_past f (x ∷ records) = ap (λ (l : List Record). f x ∷ l) (none_past f records)
 
 -- a refused layout: no record is filled
-pub nothing-filled : (r : IsomorphicLayout) (n m : ℕ) → refused m ≡ layoutOutcome r → (p : Sheet)
-    → (countOutcome p.answer ≡ refused m) × (p.count ≡ 0) → PreparedFor r n p
-nothing-filled r n m e p (refuses, none) =
+pub nothing_filled : (r : IsomorphicLayout) (n m : ℕ) → refused m ≡ layout_outcome r → (p : Sheet)
+    → (count_outcome p.answer ≡ refused m) × (p.count ≡ 0) → PreparedFor r n p
+nothing_filled r n m e p (refuses, none) =
     record {
       held = omega (arith, none);
       walking = λ some. absurd (let z : ⊥ = omega (arith, some, none) in z);
       fills = λ records long. record {
-        answered = refuses ∙ ap counted (sheet-refused r m e records);
+        answered = refuses ∙ ap counted (sheet_refused r m e records);
         content =
-            ap (λ (k : ℕ). filledTo p.source k records) none
-            ∙ changed-none (recordIn (layoutIn p.source.prepared)) records
-            ∙ ap (λ (o : Outcome (List Record)). written o records) (sheet-refused r m e records);
+            ap (λ (k : ℕ). filled_to p.source k records) none
+            ∙ changed_none (record_in (layout_in p.source.prepared)) records
+            ∙ ap (λ (o : Outcome (List Record)). written o records) (sheet_refused r m e records);
       };
     }
 
 -- an accepted layout: all are
-pub all-filled : (r : IsomorphicLayout) (n : ℕ) (s : Source) → given (layoutIn s.prepared) ≡ layoutOutcome r → (k : Key) → Walking s k
+pub all_filled : (r : IsomorphicLayout) (n : ℕ) (s : Source) → given (layout_in s.prepared) ≡ layout_outcome r → (k : Key) → Walking s k
     → PreparedFor r n (record { answer = Given n; source = s; first = k; count = n })
-all-filled r n s e k walking =
-    let l = layoutIn s.prepared in
+all_filled r n s e k walking =
+    let l = layout_in s.prepared in
     record {
       held = le_refl n;
       walking = λ some. walking;
       fills = λ records long. record {
-        answered = ap given (sym long ∙ sym (length-map records (recordIn l))) ∙ ap counted (sheet-given r l e records);
+        answered = ap given (sym long ∙ sym (length-map records (record_in l))) ∙ ap counted (sheet_given r l e records);
         content =
-            ap (λ (m : ℕ). filledTo s m records) (sym long)
-            ∙ changed-all (recordIn l) records
-            ∙ none-past (recordIn l) records
-            ∙ ap (λ (o : Outcome (List Record)). written o records) (sheet-given r l e records);
+            ap (λ (m : ℕ). filled_to s m records) (sym long)
+            ∙ changed_all (record_in l) records
+            ∙ none_past (record_in l) records
+            ∙ ap (λ (o : Outcome (List Record)). written o records) (sheet_given r l e records);
       };
     }
 
 -- a sheet has room in its list
-pub sheet-has-room : (r : IsomorphicLayout) (records : List Record) → inRoom (length records) (getSheet r records) ≡ getSheet r records
-unfolding getSheet
-sheet-has-room r records = by (layoutOutcome r)
+pub sheet_has_room : (r : IsomorphicLayout) (records : List Record) → in_room (length records) (get_sheet r records) ≡ get_sheet r records
+unfolding get_sheet
+sheet_has_room r records = by (layout_outcome r)
   where
     by : (o : Outcome Layout)
-        → inRoom (length records) (and_then o (λ (l : Layout). given (sheetIn l records))) ≡ and_then o (λ (l : Layout). given (sheetIn l records))
-    by (given l) = held (length records) (sheetIn l records) (omega (arith, length-map records (recordIn l)))
+        → in_room (length records) (and_then o (λ (l : Layout). given (sheet_in l records))) ≡ and_then o (λ (l : Layout). given (sheet_in l records))
+    by (given l) = held (length records) (sheet_in l records) (omega (arith, length-map records (record_in l)))
     by (refused n) = refl

@@ -7,30 +7,30 @@ use lib.ListN.{length, get_or, set}
 use Rattle.layout_sheet.specs.Parts.{changed}
 
 module _ {A : Type 0} (f : A → A) where
-  pub changed-none : (xs : List A) → changed f 0 xs ≡ xs
+  pub changed_none : (xs : List A) → changed f 0 xs ≡ xs
   unfolding changed
-  changed-none xs = refl
+  changed_none xs = refl
 
-  pub changed-all : (xs : List A) → changed f (length xs) xs ≡ map f xs
+  pub changed_all : (xs : List A) → changed f (length xs) xs ≡ map f xs
   unfolding changed
-  changed-all [] = refl
-  changed-all (x ∷ xs) = ap {B = List A} (λ ys. f x ∷ ys) (changed-all xs)
+  changed_all [] = refl
+  changed_all (x ∷ xs) = ap {B = List A} (λ ys. f x ∷ ys) (changed_all xs)
 
-  pub changed-length : (i : ℕ) (xs : List A) → length (changed f i xs) ≡ length xs
+  pub changed_length : (i : ℕ) (xs : List A) → length (changed f i xs) ≡ length xs
   unfolding changed
-  changed-length zero xs = refl
-  changed-length (suc i) [] = refl
-  changed-length (suc i) (x ∷ xs) = ap suc (changed-length i xs)
+  changed_length zero xs = refl
+  changed_length (suc i) [] = refl
+  changed_length (suc i) (x ∷ xs) = ap suc (changed_length i xs)
 
   -- one turn more
-  changed-suc : (i : ℕ) (xs : List A) (d : A) → i < length xs → set (changed f i xs) i (f (get_or (changed f i xs) i d)) ≡ changed f (suc i) xs
+  changed_suc : (i : ℕ) (xs : List A) (d : A) → i < length xs → set (changed f i xs) i (f (get_or (changed f i xs) i d)) ≡ changed f (suc i) xs
   unfolding changed
-  changed-suc i [] d l = absurd (not-suc-le-zero l)
-  changed-suc zero (x ∷ xs) d l = refl
-  changed-suc (suc i) (x ∷ xs) d l = ap {B = List A} (λ ys. f x ∷ ys) (changed-suc i xs d (le_of_suc-le-suc l))
+  changed_suc i [] d l = absurd (not-suc-le-zero l)
+  changed_suc zero (x ∷ xs) d l = refl
+  changed_suc (suc i) (x ∷ xs) d l = ap {B = List A} (λ ys. f x ∷ ys) (changed_suc i xs d (le_of_suc-le-suc l))
 
-  pub changed-next : (i : ℕ) (xs : List A) (d : A) → i < length xs → set (changed f i xs) i (f (get_or (changed f i xs) i d)) ≡ changed f (i + 1) xs
-  changed-next i xs d l = changed-suc i xs d l ∙ ap (λ (k : ℕ). changed f k xs) (sym (add-suc i zero ∙ ap suc (add-zero i)))
+  pub changed_next : (i : ℕ) (xs : List A) (d : A) → i < length xs → set (changed f i xs) i (f (get_or (changed f i xs) i d)) ≡ changed f (i + 1) xs
+  changed_next i xs d l = changed_suc i xs d l ∙ ap (λ (k : ℕ). changed f k xs) (sym (add-suc i zero ∙ ap suc (add-zero i)))
 
 -- some element of a list that has one
 abbrev pub some_of : {A : Type 0} (xs : List A) {i : ℕ} → i < length xs → A

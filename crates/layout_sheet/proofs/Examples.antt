@@ -1,8 +1,8 @@
 -- The worked examples hold by computation.
 use mathlib.Core.Path.{refl}
-use Rattle.layout_sheet.specs.Answers.{getSheet}
+use Rattle.layout_sheet.specs.Answers.{get_sheet}
 use Rattle.layout_sheet.specs.Examples.{ExamplesHold}
 
-pub examples-hold : ExamplesHold
-unfolding getSheet
-examples-hold = record { counts = refl; sheets = refl }
+pub examples_hold : ExamplesHold
+unfolding get_sheet
+examples_hold = record { counts = refl; sheets = refl }

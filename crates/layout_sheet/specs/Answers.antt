@@ -3,11 +3,11 @@
 use Rattle.std.specs.Prelude.{List}
 use Rattle.answer.specs.Outcome.{Outcome, given}
 use Rattle.layout.specs.declared.IsomorphicLayout.{IsomorphicLayout}
-use Rattle.layout.specs.Layouts.{Layout, layoutOutcome}
-use Rattle.layout.specs.Answers.{ofLayout}
+use Rattle.layout.specs.Layouts.{Layout, layout_outcome}
+use Rattle.layout.specs.Answers.{of_layout}
 use Rattle.layout_sheet.specs.declared.Record.{Record}
-use Rattle.layout_sheet.specs.Sheets.{recordIn, sheetIn}
+use Rattle.layout_sheet.specs.Sheets.{record_in, sheet_in}
 
-unfoldable pub getSheet : IsomorphicLayout → List Record → Outcome (List Record)
-unfolding layoutOutcome recordIn
-getSheet r records = ofLayout r (λ (l : Layout). given (sheetIn l records))
+unfoldable pub get_sheet : IsomorphicLayout → List Record → Outcome (List Record)
+unfolding layout_outcome record_in
+get_sheet r records = of_layout r (λ (l : Layout). given (sheet_in l records))

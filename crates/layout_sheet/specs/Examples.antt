@@ -5,7 +5,7 @@ use Rattle.answer.specs.Lent.{counted, written}
 use Rattle.layout.specs.declared.IsomorphicLayout.{IsomorphicLayout}
 use Rattle.layout.specs.Examples.{layout, beginning}
 use Rattle.layout_sheet.specs.declared.Record.{Record}
-use Rattle.layout_sheet.specs.Answers.{getSheet}
+use Rattle.layout_sheet.specs.Answers.{get_sheet}
 
 -- Key, sharp index and count, flat index and count, stars, lamp.
 abbrev pub line : ℤ → (sharpIndex sharps flatIndex flats stars lamp : ℕ) → Record
@@ -31,8 +31,8 @@ pub record SheetExample : Type 0 where
   pub after : List Record
 
 -- `negsuc k` is −1 − k. Of F C G D A E B, D is 3, E 5, C 1, A 4, F 0, G 2.
-abbrev pub sheetExamples : List SheetExample
-sheetExamples =
+abbrev pub sheet_examples : List SheetExample
+sheet_examples =
     -- D#/Eb, D, D#/Eb again, C#/Db below 0, D an octave above and below, both ends of 32 signed bits: in list order
     record {
       layout = layout 1 12 19;
@@ -103,7 +103,7 @@ sheetExamples =
 
 -- Theorem: the definitions give what the examples say.
 pub record ExamplesHold : Type 0 where
-  pub counts : map (λ (e : SheetExample). counted (getSheet e.layout e.before)) sheetExamples
-      ≡ map (λ (e : SheetExample). e.count) sheetExamples
-  pub sheets : map (λ (e : SheetExample). written (getSheet e.layout e.before) e.before) sheetExamples
-      ≡ map (λ (e : SheetExample). e.after) sheetExamples
+  pub counts : map (λ (e : SheetExample). counted (get_sheet e.layout e.before)) sheet_examples
+      ≡ map (λ (e : SheetExample). e.count) sheet_examples
+  pub sheets : map (λ (e : SheetExample). written (get_sheet e.layout e.before) e.before) sheet_examples
+      ≡ map (λ (e : SheetExample). e.after) sheet_examples

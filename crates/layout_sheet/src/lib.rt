@@ -5,11 +5,13 @@
 // specs/: Sheets defines, Answers says what the call answers, Parts what the parts behind it promise, Theorems and Examples state what
 // holds.
 // The entry point answers every input. Nothing is assumed.
+#![tactic(auto)]
+
 mod parts;
 
 ghost use Rattle.answer.specs.Lent.{Filled};
-ghost use Rattle.answer.specs.Refusals.{countOutcome};
-ghost use Rattle.layout_sheet.specs.Answers.{getSheet};
+ghost use Rattle.answer.specs.Refusals.{count_outcome};
+ghost use Rattle.layout_sheet.specs.Answers.{get_sheet};
 
 use answer::CountAnswer;
 use layout::IsomorphicLayout;
@@ -30,7 +32,7 @@ pub struct Record {
 
 // Fills every record from its key, in list order; tells how many there are (1, 2, 3, 4, 18).
 pub fn fill_sheet(layout: IsomorphicLayout, records: &mut [Record]) -> CountAnswer
-    ensures { Filled (getSheet layout records.old) (countOutcome result) records.old records.new }
+    ensures { Filled (get_sheet layout records.old) (count_outcome result) records.old records.new }
 {
     let sheet = parts::prepare(layout, records.len());
     let source = sheet.source;

@@ -1,12 +1,12 @@
 // What a sheet is filled from: parts, and no entry points. `prepare` asks questions 1 to 4 and 18, once for all records.
 ghost use Rattle.std.specs.Prelude.{◌≡◌, ◌*◌, ◌≤◌, ◌<◌};
 ghost use Rattle.answer.specs.Outcome.{refused};
-ghost use Rattle.answer.specs.Refusals.{number_of, countOutcome};
+ghost use Rattle.answer.specs.Refusals.{number_of, count_outcome};
 ghost use Rattle.math.specs.Division.{remainder};
 ghost use Rattle.pergen.specs.Parts.{Walkable, At};
-ghost use Rattle.layout.specs.Parts.{layoutIn};
-ghost use Rattle.layout_lamps.specs.Lamps.{stripLengthIn};
-ghost use Rattle.layout_sheet.specs.Sheets.{recordIn};
+ghost use Rattle.layout.specs.Parts.{layout_in};
+ghost use Rattle.layout_lamps.specs.Lamps.{strip_length_in};
+ghost use Rattle.layout_sheet.specs.Sheets.{record_in};
 ghost use Rattle.layout_sheet.specs.Parts.{Known, Walking, PreparedFor};
 
 use crate::Record;
@@ -45,7 +45,7 @@ pub(crate) struct Turn {
 
 // The sheet of a refused layout: no record is filled, and its numbers are no layout's.
 fn unfilled(question: Refusal) -> Sheet
-    ensures { (countOutcome result.answer ≡ refused (number_of question)) × (result.count ≡ 0) }
+    ensures { (count_outcome result.answer ≡ refused (number_of question)) × (result.count ≡ 0) }
 {
     Sheet {
         answer: CountAnswer::Refused(question),
@@ -103,8 +103,8 @@ pub(crate) fn prepare(layout: IsomorphicLayout, len: usize) -> Sheet
 
 // One record, filled from its key, which was found on the strip: what single calls would have given.
 fn record_at(source: Source, key: Key, asked: Record) -> Record
-    requires { Known source × At source.prepared.solved key × (key.number ≡ remainder asked.key (stripLengthIn (layoutIn source.prepared))) }
-    ensures { result ≡ recordIn (layoutIn source.prepared) asked }
+    requires { Known source × At source.prepared.solved key × (key.number ≡ remainder asked.key (strip_length_in (layout_in source.prepared))) }
+    ensures { result ≡ record_in (layout_in source.prepared) asked }
 {
     let prepared = source.prepared;
     let spelled = prepared::spellings(prepared, key);
@@ -137,7 +137,7 @@ fn key_after(solved: Solved, last: Key, number: u32) -> Key
 // One record, filled from its key, which is brought round the strip; the last record's key is known.
 pub(crate) fn filled(source: Source, last: Key, asked: Record) -> Turn
     requires { Walking source last }
-    ensures { (result.record ≡ recordIn (layoutIn source.prepared) asked) × Walking source result.key }
+    ensures { (result.record ≡ record_in (layout_in source.prepared) asked) × Walking source result.key }
 {
     let prepared = source.prepared;
     let number = math::parts::rem_u32(asked.key, keys::entry_count(prepared));

@@ -6,56 +6,56 @@ use native.Mathlib.Omega.{arith}
 use lib.ListN.{length, length-append}
 use Rattle.text.specs.Writing.{joined}
 use Rattle.text.specs.Decimal.{digits}
-use Rattle.text.proofs.Digits.{digits-length}
-use Rattle.line.specs.Lines.{space, lineFeed}
+use Rattle.text.proofs.Digits.{digits_length}
+use Rattle.line.specs.Lines.{space, line_feed}
 use Rattle.layout.specs.Layouts.{Layout}
-use Rattle.layout.specs.Names.{listedName}
-use Rattle.layout_lamps.specs.Lamps.{lampIn}
-use Rattle.layout_table.specs.Tables.{keyLine, lineIn}
-use Rattle.line.specs.Refusals.{refusedWord, refusalLine}
-use Rattle.layout_table.specs.Parts.{numbersIn}
+use Rattle.layout.specs.Names.{listed_name}
+use Rattle.layout_lamps.specs.Lamps.{lamp_in}
+use Rattle.layout_table.specs.Tables.{key_line, line_in}
+use Rattle.line.specs.Refusals.{refused_word, refusal_line}
+use Rattle.layout_table.specs.Parts.{numbers_in}
 
 -- ---- the length of a line
 
-pub length-line : (key : ℕ) (name : List ℕ) (lamp : ℕ) → length (keyLine key name lamp) ≡ length (digits key) + length name + length (digits lamp) + 3
-unfolding keyLine
-length-line key name lamp =
+pub length_line : (key : ℕ) (name : List ℕ) (lamp : ℕ) → length (key_line key name lamp) ≡ length (digits key) + length name + length (digits lamp) + 3
+unfolding key_line
+length_line key name lamp =
     omega (
       arith,
       length-append (digits key) (space ∷ []),
       length-append (digits key ++ (space ∷ [])) name,
       length-append (digits key ++ (space ∷ []) ++ name) (space ∷ []),
       length-append (digits key ++ (space ∷ []) ++ name ++ (space ∷ [])) (digits lamp),
-      length-append (digits key ++ (space ∷ []) ++ name ++ (space ∷ []) ++ digits lamp) (lineFeed ∷ []),
+      length-append (digits key ++ (space ∷ []) ++ name ++ (space ∷ []) ++ digits lamp) (line_feed ∷ []),
     )
 
 -- a line by the name that the code planned, and the lamp that it found
-pub line-is : (l : Layout) (k : ℕ) (name : List ℕ) (lamp : ℕ) → name ≡ listedName l k → lamp ≡ lampIn l k → keyLine k name lamp ≡ lineIn l k
-unfolding lineIn
-line-is l k name lamp e f = ap₂ (λ (x : List ℕ) (y : ℕ). keyLine k x y) e f
+pub line_is : (l : Layout) (k : ℕ) (name : List ℕ) (lamp : ℕ) → name ≡ listed_name l k → lamp ≡ lamp_in l k → key_line k name lamp ≡ line_in l k
+unfolding line_in
+line_is l k name lamp e f = ap₂ (λ (x : List ℕ) (y : ℕ). key_line k x y) e f
 
 -- ---- the sum of the lengths
 
 -- of a line without its name
-pub length-numbers : (l : Layout) (k lamp : ℕ) → lamp ≡ lampIn l k → length (numbersIn l k) ≡ length (digits k) + length (digits lamp) + 3
-unfolding numbersIn
-length-numbers l k lamp e = omega (arith, length-line k [] (lampIn l k), ap (λ (x : ℕ). length (digits x)) e)
+pub length_numbers : (l : Layout) (k lamp : ℕ) → lamp ≡ lamp_in l k → length (numbers_in l k) ≡ length (digits k) + length (digits lamp) + 3
+unfolding numbers_in
+length_numbers l k lamp e = omega (arith, length_line k [] (lamp_in l k), ap (λ (x : ℕ). length (digits x)) e)
 
 -- all names, and all the rest
-pub length-lines : (l : Layout) (keys : ℕ)
-    → length (joined (listedName l) keys) + length (joined (numbersIn l) keys) ≡ length (joined (lineIn l) keys)
+pub length_lines : (l : Layout) (keys : ℕ)
+    → length (joined (listed_name l) keys) + length (joined (numbers_in l) keys) ≡ length (joined (line_in l) keys)
 unfolding joined
-length-lines l zero = refl
-length-lines l (suc k) =
-    let lamp = lampIn l k in
-    let name = listedName l k in
+length_lines l zero = refl
+length_lines l (suc k) =
+    let lamp = lamp_in l k in
+    let name = listed_name l k in
     omega (
       arith,
-      length-lines l k,
-      length-append (joined (listedName l) k) name,
-      length-append (joined (numbersIn l) k) (numbersIn l k),
-      length-append (joined (lineIn l) k) (lineIn l k),
-      length-numbers l k lamp refl,
-      length-line k name lamp,
-      ap length (line-is l k name lamp refl refl),
+      length_lines l k,
+      length-append (joined (listed_name l) k) name,
+      length-append (joined (numbers_in l) k) (numbers_in l k),
+      length-append (joined (line_in l) k) (line_in l k),
+      length_numbers l k lamp refl,
+      length_line k name lamp,
+      ap length (line_is l k name lamp refl refl),
     )

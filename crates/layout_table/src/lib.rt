@@ -4,12 +4,14 @@
 // the lines that `parts` puts.
 // specs/: Tables defines, Theorems states how much room holds every line and every table, Examples what is printed for some lines.
 // Every entry point answers every input, and a refusal changes no byte that was lent. Nothing is assumed.
+#![tactic(auto)]
+
 pub mod parts;
 
 ghost use Rattle.std.specs.Prelude.{◌≡◌, length};
-ghost use Rattle.answer.specs.Lent.{heldIn, inRoom, counted, Filled};
-ghost use Rattle.answer.specs.Refusals.{countOutcome};
-ghost use Rattle.layout_table.specs.Tables.{getTable, output};
+ghost use Rattle.answer.specs.Lent.{held_in, in_room, counted, Filled};
+ghost use Rattle.answer.specs.Refusals.{count_outcome};
+ghost use Rattle.layout_table.specs.Tables.{get_table, output};
 
 use answer::CountAnswer;
 use layout::parts::FoundAnswer;
@@ -17,7 +19,7 @@ use layout::{IsomorphicLayout, prepared};
 
 // How many bytes a layout's table has (1, 2, 3, 4, 18).
 pub fn table_len(layout: IsomorphicLayout) -> CountAnswer
-    ensures { countOutcome result ≡ counted (getTable layout) }
+    ensures { count_outcome result ≡ counted (get_table layout) }
 {
     match layout::parts::ask(layout) {
         FoundAnswer::Refused(q) => CountAnswer::Refused(q),
@@ -29,7 +31,7 @@ pub fn table_len(layout: IsomorphicLayout) -> CountAnswer
 
 // A layout's table: a line for each key of the octave (1, 2, 3, 4, 18, 10).
 pub fn write_table(layout: IsomorphicLayout, out: &mut [u8]) -> CountAnswer
-    ensures { Filled (inRoom (length out.old) (getTable layout)) (countOutcome result) out.old out.new }
+    ensures { Filled (in_room (length out.old) (get_table layout)) (count_outcome result) out.old out.new }
 {
     match layout::parts::ask(layout) {
         FoundAnswer::Refused(q) => CountAnswer::Refused(q),
@@ -40,7 +42,7 @@ pub fn write_table(layout: IsomorphicLayout, out: &mut [u8]) -> CountAnswer
 // What the key table program prints for a line: the table of the layout that it asks for, or a refusal's number (14, 1, 2, 3, 4)
 // on a line of its own. Only a slice that does not hold the whole output is refused (10); `TablesFit` bounds it.
 pub fn respond(line: &[u8], out: &mut [u8]) -> CountAnswer
-    ensures { Filled (heldIn (length out.old) (output line.now)) (countOutcome result) out.old out.new }
+    ensures { Filled (held_in (length out.old) (output line.now)) (count_outcome result) out.old out.new }
 {
     match line::layouts::ask_line(line) {
         FoundAnswer::Refused(q) => line::refusals::write_refusal(q.number() as u16, out),

@@ -2,13 +2,13 @@
 //
 // The layout is prepared, its chain's row read and its layers counted once for all keys; degree and cycle are carried from key to key.
 ghost use Rattle.std.specs.Prelude.{◌≡◌, ◌+◌, ◌*◌, ◌≤◌, length, leb};
-ghost use Rattle.answer.specs.Lent.{heldIn, Filled};
-ghost use Rattle.answer.specs.Refusals.{countOutcome};
+ghost use Rattle.answer.specs.Lent.{held_in, Filled};
+ghost use Rattle.answer.specs.Refusals.{count_outcome};
 ghost use Rattle.text.specs.Writing.{Room, Wrote, joined};
-ghost use Rattle.layout.specs.Parts.{layoutIn, Ready};
-ghost use Rattle.notes.specs.Parts.{planText, ShortLetters};
-ghost use Rattle.layout_table.specs.Tables.{keyLine, tableIn};
-ghost use Rattle.layout_table.specs.Parts.{numbersIn, lineFrom};
+ghost use Rattle.layout.specs.Parts.{layout_in, Ready};
+ghost use Rattle.notes.specs.Parts.{plan_text, ShortLetters};
+ghost use Rattle.layout_table.specs.Tables.{key_line, table_in};
+ghost use Rattle.layout_table.specs.Parts.{numbers_in, line_from};
 
 use answer::{CountAnswer, Refusal};
 use genchain::rows;
@@ -23,7 +23,7 @@ use text::writer::put_byte;
 // How many bytes the lines of all keys have without their names.
 fn numbers_length(prepared: Prepared) -> usize
     requires { Ready prepared }
-    ensures { (result ≡ length (joined (numbersIn (layoutIn prepared)) prepared.found.octave)) × (result ≤ 13 * prepared.found.octave) }
+    ensures { (result ≡ length (joined (numbers_in (layout_in prepared)) prepared.found.octave)) × (result ≤ 13 * prepared.found.octave) }
 {
     let solved = prepared.solved;
     let layers = layout_layers::keys::total_of(prepared);
@@ -41,7 +41,7 @@ fn numbers_length(prepared: Prepared) -> usize
 // How many bytes the lines of all keys have together: those of all names, and the others.
 pub(crate) fn lines_length(prepared: Prepared) -> usize
     requires { Ready prepared }
-    ensures { result ≡ length (tableIn (layoutIn prepared)) }
+    ensures { result ≡ length (table_in (layout_in prepared)) }
 {
     let row = rows::row(prepared.found.chain);
     layout_book::lengths::names_length(prepared, row) + numbers_length(prepared)
@@ -49,8 +49,8 @@ pub(crate) fn lines_length(prepared: Prepared) -> usize
 
 // A key's line; the place after it.
 fn put_line(out: &mut [u8], at: usize, key: u16, name: NamePlan, lamp: u16) -> usize
-    requires { ShortLetters name × Room out.old at (keyLine key (planText name) lamp) }
-    ensures { Wrote out.old at (keyLine key (planText name) lamp) out.new result }
+    requires { ShortLetters name × Room out.old at (key_line key (plan_text name) lamp) }
+    ensures { Wrote out.old at (key_line key (plan_text name) lamp) out.new result }
 {
     let number = decimal::put_number(out, at, key);
     let first = put_byte(out, number, b' ');
@@ -62,8 +62,8 @@ fn put_line(out: &mut [u8], at: usize, key: u16, name: NamePlan, lamp: u16) -> u
 
 // The lines of so many keys, from a key on, at the front of a slice that is known to hold them; the place after the last.
 pub fn put_lines(out: &mut [u8], prepared: Prepared, from: u16, count: u16) -> usize
-    requires { Ready prepared × (from + count ≤ prepared.found.octave) × Room out.old 0 (joined (lineFrom (layoutIn prepared) from) count) }
-    ensures { Wrote out.old 0 (joined (lineFrom (layoutIn prepared) from) count) out.new result }
+    requires { Ready prepared × (from + count ≤ prepared.found.octave) × Room out.old 0 (joined (line_from (layout_in prepared) from) count) }
+    ensures { Wrote out.old 0 (joined (line_from (layout_in prepared) from) count) out.new result }
 {
     let solved = prepared.solved;
     let row = rows::row(prepared.found.chain);
@@ -83,7 +83,7 @@ pub fn put_lines(out: &mut [u8], prepared: Prepared, from: u16, count: u16) -> u
 // Do so many bytes hold the lines of all keys? Where they hold any table of so many keys, the lines are not measured.
 fn has_room(prepared: Prepared, room: usize) -> bool
     requires { Ready prepared }
-    ensures { result ≡ leb (length (tableIn (layoutIn prepared))) room }
+    ensures { result ≡ leb (length (table_in (layout_in prepared))) room }
 {
     let keys = prepared.found.octave as usize;
     if (keys / 5 + 21) * keys <= room {
@@ -95,7 +95,7 @@ fn has_room(prepared: Prepared, room: usize) -> bool
 // The lines of all keys at the front of a slice that holds them (10).
 pub(crate) fn write_lines(prepared: Prepared, out: &mut [u8]) -> CountAnswer
     requires { Ready prepared }
-    ensures { Filled (heldIn (length out.old) (tableIn (layoutIn prepared))) (countOutcome result) out.old out.new }
+    ensures { Filled (held_in (length out.old) (table_in (layout_in prepared))) (count_outcome result) out.old out.new }
 {
     if !has_room(prepared, out.len()) {
         return CountAnswer::Refused(Refusal::Room);

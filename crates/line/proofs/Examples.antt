@@ -1,8 +1,8 @@
 -- The worked examples hold by computation.
 use mathlib.Core.Path.{refl}
-use Rattle.line.specs.Lines.{lineText, lineOutcome, numberLine}
+use Rattle.line.specs.Lines.{line_text, line_outcome, number_line}
 use Rattle.line.specs.Examples.{ExamplesHold}
 
-pub examples-hold : ExamplesHold
-unfolding lineText lineOutcome numberLine
-examples-hold = record { outcomes = refl; any_code = refl; zeros = refl; written = refl; numbers = refl; no-numbers = refl }
+pub examples_hold : ExamplesHold
+unfolding line_text line_outcome number_line
+examples_hold = record { outcomes = refl; any_code = refl; zeros = refl; written = refl; numbers = refl; no_numbers = refl }

@@ -7,26 +7,26 @@ use Rattle.answer.specs.Outcome.{given, refused, ask}
 use Rattle.text.specs.Decimal.{value_at}
 use Rattle.text.specs.declared.decimal.Reading.{Reading}
 use Rattle.text.specs.declared.decimal.Reading.TheVariants.{Number, Nothing}
-use Rattle.line.specs.Lines.{isField, field_at, lineFeed, numberLine}
+use Rattle.line.specs.Lines.{is_field, field_at, line_feed, number_line}
 use Rattle.line.proofs.WholeLine.{field_is, nothing_is}
 
 module _ (line : List ℕ) where
-  by-test : (test : Bool) → isField line 0 lineFeed ≡ test → ask 14 test (given (value_at line 0)) ≡ numberLine line
-  unfolding numberLine
-  by-test test e = ap (λ (t : Bool). ask 14 t (given (value_at line 0))) (sym e)
+  by_test : (test : Bool) → is_field line 0 line_feed ≡ test → ask 14 test (given (value_at line 0)) ≡ number_line line
+  unfolding number_line
+  by_test test e = ap (λ (t : Bool). ask 14 t (given (value_at line 0))) (sym e)
 
-  pub no-number-line : Nothing ≡ field_at line 0 lineFeed → refused 14 ≡ numberLine line
-  no-number-line e = by-test false (nothing_is line 0 lineFeed e)
+  pub no_number_line : Nothing ≡ field_at line 0 line_feed → refused 14 ≡ number_line line
+  no_number_line e = by_test false (nothing_is line 0 line_feed e)
 
-  pub number-line : (number next : ℕ) → Number number next ≡ field_at line 0 lineFeed → given number ≡ numberLine line
-  number-line number next e =
-      let is = field_is line 0 lineFeed number next e in
-      ap given is.is-value ∙ by-test true is.yes
+  pub number_line_lem : (number next : ℕ) → Number number next ≡ field_at line 0 line_feed → given number ≡ number_line line
+  number_line_lem number next e =
+      let is = field_is line 0 line_feed number next e in
+      ap given is.is_value ∙ by_test true is.yes
 
 -- two lines at whose front the same is read
-pub same-number-line : (line other : List ℕ) → field_at line 0 lineFeed ≡ field_at other 0 lineFeed → numberLine line ≡ numberLine other
-same-number-line line other e = by (field_at line 0 lineFeed) refl
+pub same_number_line : (line other : List ℕ) → field_at line 0 line_feed ≡ field_at other 0 line_feed → number_line line ≡ number_line other
+same_number_line line other e = by (field_at line 0 line_feed) refl
   where
-    by : (r : Reading) → r ≡ field_at line 0 lineFeed → numberLine line ≡ numberLine other
-    by Nothing f = sym (no-number-line line f) ∙ no-number-line other (f ∙ e)
-    by (Number number next) f = sym (number-line line number next f) ∙ number-line other number next (f ∙ e)
+    by : (r : Reading) → r ≡ field_at line 0 line_feed → number_line line ≡ number_line other
+    by Nothing f = sym (no_number_line line f) ∙ no_number_line other (f ∙ e)
+    by (Number number next) f = sym (number_line_lem line number next f) ∙ number_line_lem other number next (f ∙ e)

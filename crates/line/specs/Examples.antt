@@ -1,7 +1,7 @@
 -- Worked examples of lines, given and refused, and one theorem that the definitions give what is said here.
 use Rattle.std.specs.Prelude.{ℕ, List, [], ◌∷◌, map, ◌≡◌}
 use Rattle.answer.specs.Outcome.{Outcome, given, refused}
-use Rattle.line.specs.Lines.{lineText, lineOutcome, numberLine}
+use Rattle.line.specs.Lines.{line_text, line_outcome, number_line}
 use Rattle.line.specs.declared.Line.{Line}
 
 abbrev pub three : ℕ → ℕ → ℕ → Outcome Line
@@ -12,8 +12,8 @@ pub record LineExample : Type 0 where
   pub outcome : Outcome Line
 
 -- 48 to 57 are digits, 32 is the space, 10 the line feed, 13 the carriage return, 43 and 45 the signs.
-abbrev pub lineExamples : List LineExample
-lineExamples =
+abbrev pub line_examples : List LineExample
+line_examples =
     -- "1 12 19", "0 1817 3432", "5 4096 65535"
     record { line = 49 ∷ 32 ∷ 49 ∷ 50 ∷ 32 ∷ 49 ∷ 57 ∷ 10 ∷ []; outcome = three 1 12 19 }
     ∷ record { line = 48 ∷ 32 ∷ 49 ∷ 56 ∷ 49 ∷ 55 ∷ 32 ∷ 51 ∷ 52 ∷ 51 ∷ 50 ∷ 10 ∷ []; outcome = three 0 1817 3432 }
@@ -50,14 +50,14 @@ lineExamples =
 
 -- Theorem.
 pub record ExamplesHold : Type 0 where
-  pub outcomes : map (λ (e : LineExample). lineOutcome e.line) lineExamples ≡ map (λ (e : LineExample). e.outcome) lineExamples
+  pub outcomes : map (λ (e : LineExample). line_outcome e.line) line_examples ≡ map (λ (e : LineExample). e.outcome) line_examples
   -- a code of 6 or more is a number too: question 1 comes later
-  pub any_code : lineOutcome (lineText 65535 4096 65535) ≡ three 65535 4096 65535
-  pub zeros : lineOutcome (lineText 0 0 0) ≡ three 0 0 0
-  pub written : lineText 1 12 19 ≡ 49 ∷ 32 ∷ 49 ∷ 50 ∷ 32 ∷ 49 ∷ 57 ∷ 10 ∷ []
+  pub any_code : line_outcome (line_text 65535 4096 65535) ≡ three 65535 4096 65535
+  pub zeros : line_outcome (line_text 0 0 0) ≡ three 0 0 0
+  pub written : line_text 1 12 19 ≡ 49 ∷ 32 ∷ 49 ∷ 50 ∷ 32 ∷ 49 ∷ 57 ∷ 10 ∷ []
   -- "31", "00031", "65535", "31" with bytes after the line feed
-  pub numbers : map numberLine ((51 ∷ 49 ∷ 10 ∷ []) ∷ (48 ∷ 48 ∷ 48 ∷ 51 ∷ 49 ∷ 10 ∷ []) ∷ (54 ∷ 53 ∷ 53 ∷ 51 ∷ 53 ∷ 10 ∷ []) ∷ (51 ∷ 49 ∷ 10 ∷ 46 ∷ []) ∷ [])
+  pub numbers : map number_line ((51 ∷ 49 ∷ 10 ∷ []) ∷ (48 ∷ 48 ∷ 48 ∷ 51 ∷ 49 ∷ 10 ∷ []) ∷ (54 ∷ 53 ∷ 53 ∷ 51 ∷ 53 ∷ 10 ∷ []) ∷ (51 ∷ 49 ∷ 10 ∷ 46 ∷ []) ∷ [])
       ≡ given 31 ∷ given 31 ∷ given 65535 ∷ given 31 ∷ []
   -- no byte, a line feed alone, no line feed, a space behind, a sign, "65536", "000031"
-  pub no-numbers : map numberLine ([] ∷ (10 ∷ []) ∷ (51 ∷ 49 ∷ []) ∷ (51 ∷ 49 ∷ 32 ∷ 10 ∷ []) ∷ (45 ∷ 49 ∷ 10 ∷ []) ∷ (54 ∷ 53 ∷ 53 ∷ 51 ∷ 54 ∷ 10 ∷ []) ∷ (48 ∷ 48 ∷ 48 ∷ 48 ∷ 51 ∷ 49 ∷ 10 ∷ []) ∷ [])
+  pub no_numbers : map number_line ([] ∷ (10 ∷ []) ∷ (51 ∷ 49 ∷ []) ∷ (51 ∷ 49 ∷ 32 ∷ 10 ∷ []) ∷ (45 ∷ 49 ∷ 10 ∷ []) ∷ (54 ∷ 53 ∷ 53 ∷ 51 ∷ 54 ∷ 10 ∷ []) ∷ (48 ∷ 48 ∷ 48 ∷ 48 ∷ 51 ∷ 49 ∷ 10 ∷ []) ∷ [])
       ≡ refused 14 ∷ refused 14 ∷ refused 14 ∷ refused 14 ∷ refused 14 ∷ refused 14 ∷ refused 14 ∷ []

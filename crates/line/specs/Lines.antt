@@ -14,9 +14,9 @@ use Rattle.text.specs.declared.decimal.Reading.TheVariants.{Number, Nothing}
 -- ---- one number
 
 -- "decimal numbers .. of 1 to 5 digits, each at most 65,535", with the byte `behind` right behind.
-unfoldable pub isField : List ℕ → ℕ → ℕ → Bool
+unfoldable pub is_field : List ℕ → ℕ → ℕ → Bool
 unfolding is_number end_at
-isField line at behind = is_number line at && eqb (get_or line (end_at line at) 0) behind
+is_field line at behind = is_number line at && eqb (get_or line (end_at line at) 0) behind
 
 -- ---- the line
 
@@ -24,55 +24,55 @@ isField line at behind = is_number line at && eqb (get_or line (end_at line at) 
 abbrev pub space : ℕ
 space = 32
 
-abbrev pub lineFeed : ℕ
-lineFeed = 10
+abbrev pub line_feed : ℕ
+line_feed = 10
 
 -- Each next number begins behind one space.
-unfoldable pub octaveAt : List ℕ → ℕ
+unfoldable pub octave_at : List ℕ → ℕ
 unfolding end_at
-octaveAt line = end_at line 0 + 1
+octave_at line = end_at line 0 + 1
 
-unfoldable pub tritaveAt : List ℕ → ℕ
-unfolding end_at octaveAt
-tritaveAt line = end_at line (octaveAt line) + 1
+unfoldable pub tritave_at : List ℕ → ℕ
+unfolding end_at octave_at
+tritave_at line = end_at line (octave_at line) + 1
 
 -- 14, whole.
 unfoldable pub is_line : List ℕ → Bool
-unfolding isField octaveAt tritaveAt value_at
+unfolding is_field octave_at tritave_at value_at
 is_line line =
-    isField line 0 space
-    && isField line (octaveAt line) space
-    && isField line (tritaveAt line) lineFeed
-    && leb (value_at line (octaveAt line)) 4096
+    is_field line 0 space
+    && is_field line (octave_at line) space
+    && is_field line (tritave_at line) line_feed
+    && leb (value_at line (octave_at line)) 4096
 
 -- "chain code, octave, tritave"
-unfoldable pub lineOutcome : List ℕ → Outcome Line
-unfolding is_line value_at octaveAt tritaveAt
-lineOutcome line =
+unfoldable pub line_outcome : List ℕ → Outcome Line
+unfolding is_line value_at octave_at tritave_at
+line_outcome line =
     ask 14 (is_line line)
     (given
-    (record { genchain = value_at line 0; octave = value_at line (octaveAt line); tritave = value_at line (tritaveAt line) }))
+    (record { genchain = value_at line 0; octave = value_at line (octave_at line); tritave = value_at line (tritave_at line) }))
 
-abbrev pub lineAnswered : LineAnswer → Outcome Line
-lineAnswered (LineAnswer.Given line) = given line
-lineAnswered (LineAnswer.Refused q) = refused (number_of q)
+abbrev pub line_answered : LineAnswer → Outcome Line
+line_answered (LineAnswer.Given line) = given line
+line_answered (LineAnswer.Refused q) = refused (number_of q)
 
 -- The line that asks for three numbers.
-unfoldable pub lineText : ℕ → ℕ → ℕ → List ℕ
+unfoldable pub line_text : ℕ → ℕ → ℕ → List ℕ
 unfolding digits
-lineText genchain octave tritave =
-    digits genchain ++ (space ∷ []) ++ digits octave ++ (space ∷ []) ++ digits tritave ++ (lineFeed ∷ [])
+line_text genchain octave tritave =
+    digits genchain ++ (space ∷ []) ++ digits octave ++ (space ∷ []) ++ digits tritave ++ (line_feed ∷ [])
 
 -- ---- a number alone on its line (document 02, W-202: "Schools type only "31"")
 
 -- 14: a number as above, and the line feed right behind it.
-unfoldable pub numberLine : List ℕ → Outcome ℕ
-unfolding isField value_at
-numberLine line = ask 14 (isField line 0 lineFeed) (given (value_at line 0))
+unfoldable pub number_line : List ℕ → Outcome ℕ
+unfolding is_field value_at
+number_line line = ask 14 (is_field line 0 line_feed) (given (value_at line 0))
 
 -- ---- what the part behind the calls promises
 
 -- A number, and the place after the byte behind it.
 unfoldable pub field_at : List ℕ → ℕ → ℕ → Reading
-unfolding isField value_at end_at
-field_at line at behind = pick (isField line at behind) (Number (value_at line at) (end_at line at + 1)) Nothing
+unfolding is_field value_at end_at
+field_at line at behind = pick (is_field line at behind) (Number (value_at line at) (end_at line at + 1)) Nothing

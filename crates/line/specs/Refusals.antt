@@ -2,16 +2,16 @@
 use Rattle.std.specs.Prelude.{ℕ, List, [], ◌∷◌, ◌++◌}
 use Rattle.answer.specs.Outcome.{Outcome, given, refused}
 use Rattle.text.specs.Decimal.{digits}
-use Rattle.line.specs.Lines.{space, lineFeed}
+use Rattle.line.specs.Lines.{space, line_feed}
 
 -- "A refusal prints only `refused`, a space and the number, and a line feed."
-abbrev pub refusedWord : List ℕ
-refusedWord = 114 ∷ 101 ∷ 102 ∷ 117 ∷ 115 ∷ 101 ∷ 100 ∷ space ∷ []
+abbrev pub refused_word : List ℕ
+refused_word = 114 ∷ 101 ∷ 102 ∷ 117 ∷ 115 ∷ 101 ∷ 100 ∷ space ∷ []
 
-unfoldable pub refusalLine : ℕ → List ℕ
+unfoldable pub refusal_line : ℕ → List ℕ
 unfolding digits
-refusalLine n = refusedWord ++ digits n ++ (lineFeed ∷ [])
+refusal_line n = refused_word ++ digits n ++ (line_feed ∷ [])
 
-abbrev pub outputOf : Outcome (List ℕ) → List ℕ
-outputOf (given text) = text
-outputOf (refused n) = refusalLine n
+abbrev pub output_of : Outcome (List ℕ) → List ℕ
+output_of (given text) = text
+output_of (refused n) = refusal_line n

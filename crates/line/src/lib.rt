@@ -5,12 +5,14 @@
 // has no `requires`, `refusals` has.
 // specs/: the line and its question (Lines), the layout (LineLayouts), a refusal's line (Refusals); that a written line is read back, and that later bytes change nothing
 // (Theorems). Numbers in decimal are `text`'s. Nothing is assumed.
+#![tactic(auto)]
+
 pub mod layouts;
 pub mod refusals;
 
 ghost use Rattle.std.specs.Prelude.{◌≡◌, ◌<◌};
-ghost use Rattle.answer.specs.Refusals.{numberOutcome};
-ghost use Rattle.line.specs.Lines.{field_at, lineAnswered, lineOutcome, numberLine};
+ghost use Rattle.answer.specs.Refusals.{number_outcome};
+ghost use Rattle.line.specs.Lines.{field_at, line_answered, line_outcome, number_line};
 
 use answer::{NumberAnswer, Refusal};
 use text::decimal::{Reading, read_number};
@@ -49,7 +51,7 @@ fn read_field(line: &[u8], at: usize, behind: u8) -> Reading
 
 // The three numbers that a line asks a key table of; bytes after its line feed are ignored: 14.
 pub fn parse(line: &[u8]) -> LineAnswer
-    ensures { lineAnswered result ≡ lineOutcome line.now }
+    ensures { line_answered result ≡ line_outcome line.now }
 {
     let Reading::Number(genchain, second) = read_field(line, 0, b' ') else {
         return LineAnswer::Refused(Refusal::Line);
@@ -72,7 +74,7 @@ pub fn parse(line: &[u8]) -> LineAnswer
 
 // The number that stands alone on a line; bytes after its line feed are ignored: 14.
 pub fn parse_number(line: &[u8]) -> NumberAnswer
-    ensures { numberOutcome result ≡ numberLine line.now }
+    ensures { number_outcome result ≡ number_line line.now }
 {
     let Reading::Number(number, _) = read_field(line, 0, b'\n') else {
         return NumberAnswer::Refused(Refusal::Line);

@@ -1,9 +1,9 @@
 // The line of a refusal: parts, and no entry points. Callers ask question 10 where they put it at a place that they know.
 ghost use Rattle.std.specs.Prelude.{length};
-ghost use Rattle.answer.specs.Lent.{heldIn, Filled};
-ghost use Rattle.answer.specs.Refusals.{countOutcome};
+ghost use Rattle.answer.specs.Lent.{held_in, Filled};
+ghost use Rattle.answer.specs.Refusals.{count_outcome};
 ghost use Rattle.text.specs.Writing.{Room, Wrote};
-ghost use Rattle.line.specs.Refusals.{refusalLine};
+ghost use Rattle.line.specs.Refusals.{refusal_line};
 
 use answer::{CountAnswer, Refusal};
 use text::decimal;
@@ -11,8 +11,8 @@ use text::writer::{put_byte, put_text};
 
 // A refusal's line at the front of a slice that is known to hold it; the place after it.
 pub fn put_refusal(out: &mut [u8], number: u16) -> usize
-    requires { Room out.old 0 (refusalLine number) }
-    ensures { Wrote out.old 0 (refusalLine number) out.new result }
+    requires { Room out.old 0 (refusal_line number) }
+    ensures { Wrote out.old 0 (refusal_line number) out.new result }
 {
     let word = put_text(out, 0, b"refused ");
     let digits = decimal::put_number(out, word, number);
@@ -21,7 +21,7 @@ pub fn put_refusal(out: &mut [u8], number: u16) -> usize
 
 // A refusal's line at the front of a slice that holds it (10).
 pub fn write_refusal(number: u16, out: &mut [u8]) -> CountAnswer
-    ensures { Filled (heldIn (length out.old) (refusalLine number)) (countOutcome result) out.old out.new }
+    ensures { Filled (held_in (length out.old) (refusal_line number)) (count_outcome result) out.old out.new }
 {
     let bytes = decimal::number_len(number) + 9;
     if out.len() < bytes {

@@ -1,21 +1,21 @@
 -- The worked examples hold by computation.
 use mathlib.Core.Path.{refl}
-use Rattle.math.specs.Gcd.{gcdOrOne, lowestTerms}
-use Rattle.math.specs.OddFactors.{oddFactors}
-use Rattle.math.specs.Answers.{divideOutcome, divOutcome, remOutcome}
+use Rattle.math.specs.Gcd.{gcd_or_one, lowest_terms}
+use Rattle.math.specs.OddFactors.{odd_factors}
+use Rattle.math.specs.Answers.{divide_outcome, div_outcome, rem_outcome}
 use Rattle.math.specs.Examples.{ExamplesHold}
 
-pub examples-hold : ExamplesHold
-unfolding gcdOrOne lowestTerms oddFactors divideOutcome divOutcome remOutcome
-examples-hold =
+pub examples_hold : ExamplesHold
+unfolding gcd_or_one lowest_terms odd_factors divide_outcome div_outcome rem_outcome
+examples_hold =
     record {
       gcds = refl;
       fractions = refl;
       divided = refl;
       quotients = refl;
       remainders = refl;
-      none-divided = refl;
-      no-quotient = refl;
-      no-remainder = refl;
+      none_divided = refl;
+      no_quotient = refl;
+      no_remainder = refl;
       odds = refl;
     }

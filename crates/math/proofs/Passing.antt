@@ -58,14 +58,14 @@ module _ (test : ℕ → Bool) where
     split : passing test (to - from) from ≡ passing test (mid - from + (to - mid)) from
     split = ap (λ (n : ℕ). passing test n from) (let z : to - from ≡ mid - from + (to - mid) = omega arith in z)
 
-    pub kept-to : ((j : ℕ) → from ≤ j → j < mid → test j ≡ true) → passing test (to - from) from ≡ run from (mid - from) ++ passing test (to - mid) mid
-    kept-to h =
+    pub kept_to : ((j : ℕ) → from ≤ j → j < mid → test j ≡ true) → passing test (to - from) from ≡ run from (mid - from) ++ passing test (to - mid) mid
+    kept_to h =
         split
         ∙ kept (mid - from) (to - mid) from (λ j u v. h j u (omega (arith, add-sub_of_le l)))
         ∙ ap (λ (n : ℕ). run from (mid - from) ++ passing test (to - mid) n) (add-sub_of_le l)
 
-    pub left-out-to : ((j : ℕ) → from ≤ j → j < mid → test j ≡ false) → passing test (to - from) from ≡ passing test (to - mid) mid
-    left-out-to h =
+    pub left_out_to : ((j : ℕ) → from ≤ j → j < mid → test j ≡ false) → passing test (to - from) from ≡ passing test (to - mid) mid
+    left_out_to h =
         split
         ∙ left_out (mid - from) (to - mid) from (λ j u v. h j u (omega (arith, add-sub_of_le l)))
         ∙ ap (λ (n : ℕ). passing test (to - mid) n) (add-sub_of_le l)
@@ -113,8 +113,8 @@ module _ (test : ℕ → Bool) where
       at (inl e) ih = subst (Memᴰ k) (sym (one_more count from true (ap test e ∙ p.2))) (Memᴰ.head (sym e))
       at (inr l) ih = subst (Memᴰ k) (sym (one_more count from (test from) refl)) (in_all (test from) (ih (omega arith)))
 
-  pub passes-iff : (count k : ℕ) → Memᴰ k (passing test count 0) ↔ ((k < count) × (test k ≡ true))
-  passes-iff count k = (
+  pub passes_iff : (count k : ℕ) → Memᴰ k (passing test count 0) ↔ ((k < count) × (test k ≡ true))
+  passes_iff count k = (
     λ m. let p = member count 0 k m in (omega (arith, p.1), p.2),
     λ p. is_member count 0 k (omega arith, omega (arith, p.0), p.1),
   )
@@ -125,10 +125,10 @@ module _ (test : ℕ → Bool) where
   sooner n [] r = tt
   sooner n (k ∷ ks) r = (omega (arith, r.0), r.1)
 
-  pub passing-rise : (count from : ℕ) → RisingFrom from (passing test count from)
+  pub passing_rise : (count from : ℕ) → RisingFrom from (passing test count from)
   unfolding passing
-  passing-rise zero from = tt
-  passing-rise (suc count) from = by (test from) (passing-rise count (suc from))
+  passing_rise zero from = tt
+  passing_rise (suc count) from = by (test from) (passing_rise count (suc from))
     where
       by : (b : Bool) → RisingFrom (suc from) (passing test count (suc from))
           → RisingFrom from (elim b [ true ↦ from ∷ passing test count (suc from) | false ↦ passing test count (suc from) ])
@@ -137,11 +137,11 @@ module _ (test : ℕ → Bool) where
 
 -- ---- the first that passes
 
-pub first-is : (f : ℕ → Bool) (count from w : ℕ) → from ≤ w → w < from + count → f w ≡ true
+pub first_is : (f : ℕ → Bool) (count from w : ℕ) → from ≤ w → w < from + count → f w ≡ true
     → ((j : ℕ) → from ≤ j → j < w → f j ≡ false) → first f count from ≡ w
 unfolding first
-first-is f zero from w h l t none = absurd (let z : ⊥ = omega arith in z)
-first-is f (suc count) from w h l t none = by (eq-or-lt_of_le h) (λ k. first-is f count (suc from) w k (omega arith) t (λ j a b. none j (omega arith) b))
+first_is f zero from w h l t none = absurd (let z : ⊥ = omega arith in z)
+first_is f (suc count) from w h l t none = by (eq-or-lt_of_le h) (λ k. first_is f count (suc from) w k (omega arith) t (λ j a b. none j (omega arith) b))
   where
     by : (from ≡ w) ⊎ (from < w) → (suc from ≤ w → first f count (suc from) ≡ w) → elim (f from) [ true ↦ from | false ↦ first f count (suc from) ] ≡ w
     by (inl e) ih = rw (ap f e ∙ t) e
@@ -175,13 +175,13 @@ unfolding all_below
 all_more test k e f = rw (add-one k) (simp (e, f))
 
 -- one fails
-pub all-fails : (test : ℕ → Bool) (k n : ℕ) → k < n → test k ≡ false → all_below test n ≡ false
+pub all_fails : (test : ℕ → Bool) (k n : ℕ) → k < n → test k ≡ false → all_below test n ≡ false
 unfolding all_below
-all-fails test k zero h e = absurd (omega arith)
-all-fails test k (suc n) h e =
+all_fails test k zero h e = absurd (omega arith)
+all_fails test k (suc n) h e =
     ⊎_elim
     (λ (same : k ≡ n). simp (sym (ap test same) ∙ e, and-false))
-    (λ (below : k < n). simp (all-fails test k n below e))
+    (λ (below : k < n). simp (all_fails test k n below e))
     (eq-or-lt_of_le (le_of_suc-le-suc h))
 
 -- each passes, so all do
@@ -191,11 +191,11 @@ all_of test zero h = refl
 all_of test (suc n) h = simp (all_of test n (λ k l. h k (omega arith)), h n (omega arith))
 
 -- all pass, so each does
-pub all-each : (test : ℕ → Bool) (k n : ℕ) → k < n → all_below test n ≡ true → test k ≡ true
+pub all_each : (test : ℕ → Bool) (k n : ℕ) → k < n → all_below test n ≡ true → test k ≡ true
 unfolding all_below
-all-each test k zero h e = absurd (omega arith)
-all-each test k (suc n) h e =
+all_each test k zero h e = absurd (omega arith)
+all_each test k (suc n) h e =
     ⊎_elim
     (λ (same : k ≡ n). ap test same ∙ and_right (all_below test n) (test n) e)
-    (λ (below : k < n). all-each test k n below (and_left (all_below test n) (test n) e))
+    (λ (below : k < n). all_each test k n below (and_left (all_below test n) (test n) e))
     (eq-or-lt_of_le (le_of_suc-le-suc h))

@@ -13,28 +13,28 @@ use Rattle.math.specs.declared.RemainderU32Answer.{RemainderU32Answer}
 use Rattle.math.specs.declared.RemainderU32Answer.TheVariants as Remainder
 
 -- Quotient and remainder, in this order.
-unfoldable pub divideOutcome : ℤ → ℕ → Outcome (ℤ × ℕ)
-divideOutcome z d = ask 2 (leb 1 d) (given (quotient z d, remainder z d))
+unfoldable pub divide_outcome : ℤ → ℕ → Outcome (ℤ × ℕ)
+divide_outcome z d = ask 2 (leb 1 d) (given (quotient z d, remainder z d))
 
-unfoldable pub divOutcome : ℤ → ℕ → Outcome ℤ
-divOutcome z d = ask 2 (leb 1 d) (given (quotient z d))
+unfoldable pub div_outcome : ℤ → ℕ → Outcome ℤ
+div_outcome z d = ask 2 (leb 1 d) (given (quotient z d))
 
-unfoldable pub remOutcome : ℤ → ℕ → Outcome ℕ
-remOutcome z d = ask 2 (leb 1 d) (given (remainder z d))
+unfoldable pub rem_outcome : ℤ → ℕ → Outcome ℕ
+rem_outcome z d = ask 2 (leb 1 d) (given (remainder z d))
 
 -- What each answer means.
-abbrev pub dividedU16Outcome : DividedU16Answer → Outcome (ℤ × ℕ)
-dividedU16Outcome (Narrow.Given v) = given (v.quotient, v.remainder)
-dividedU16Outcome (Narrow.Refused q) = refused (number_of q)
+abbrev pub divided_u16_outcome : DividedU16Answer → Outcome (ℤ × ℕ)
+divided_u16_outcome (Narrow.Given v) = given (v.quotient, v.remainder)
+divided_u16_outcome (Narrow.Refused q) = refused (number_of q)
 
-abbrev pub dividedU32Outcome : DividedU32Answer → Outcome (ℤ × ℕ)
-dividedU32Outcome (Wide.Given v) = given (v.quotient, v.remainder)
-dividedU32Outcome (Wide.Refused q) = refused (number_of q)
+abbrev pub divided_u32_outcome : DividedU32Answer → Outcome (ℤ × ℕ)
+divided_u32_outcome (Wide.Given v) = given (v.quotient, v.remainder)
+divided_u32_outcome (Wide.Refused q) = refused (number_of q)
 
-abbrev pub quotientOutcome : QuotientAnswer → Outcome ℤ
-quotientOutcome (Quotient.Given z) = given z
-quotientOutcome (Quotient.Refused q) = refused (number_of q)
+abbrev pub quotient_outcome : QuotientAnswer → Outcome ℤ
+quotient_outcome (Quotient.Given z) = given z
+quotient_outcome (Quotient.Refused q) = refused (number_of q)
 
-abbrev pub remainderU32Outcome : RemainderU32Answer → Outcome ℕ
-remainderU32Outcome (Remainder.Given n) = given n
-remainderU32Outcome (Remainder.Refused q) = refused (number_of q)
+abbrev pub remainder_u32_outcome : RemainderU32Answer → Outcome ℕ
+remainder_u32_outcome (Remainder.Given n) = given n
+remainder_u32_outcome (Remainder.Refused q) = refused (number_of q)

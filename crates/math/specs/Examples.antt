@@ -1,9 +1,9 @@
 -- Worked examples of the definitions: inputs and answers, and one theorem that each definition gives its column.
 use Rattle.std.specs.Prelude.{◌≡◌, List, [], ◌∷◌, map, ℕ, ℤ, pos, negsuc}
 use Rattle.answer.specs.Outcome.{given, refused}
-use Rattle.math.specs.Gcd.{gcdOrOne, lowestTerms}
-use Rattle.math.specs.Answers.{divideOutcome, divOutcome, remOutcome}
-use Rattle.math.specs.OddFactors.{oddFactors}
+use Rattle.math.specs.Gcd.{gcd_or_one, lowest_terms}
+use Rattle.math.specs.Answers.{divide_outcome, div_outcome, rem_outcome}
+use Rattle.math.specs.OddFactors.{odd_factors}
 
 -- Two numbers with their greatest common divisor and their fraction in lowest terms.
 pub record GcdExample : Type 0 where
@@ -13,8 +13,8 @@ pub record GcdExample : Type 0 where
   pub numer : ℕ
   pub denom : ℕ
 
-abbrev pub gcdExamples : List GcdExample
-gcdExamples =
+abbrev pub gcd_examples : List GcdExample
+gcd_examples =
     record { x = 35; y = 20; gcd = 5; numer = 7; denom = 4 }
     ∷ record { x = 35; y = 22; gcd = 1; numer = 35; denom = 22 }
     ∷ record { x = 35; y = 0; gcd = 35; numer = 1; denom = 0 }
@@ -30,8 +30,8 @@ pub record DivisionExample : Type 0 where
   pub quotient : ℤ
   pub remainder : ℕ
 
-abbrev pub divisionExamples : List DivisionExample
-divisionExamples =
+abbrev pub division_examples : List DivisionExample
+division_examples =
     record { numer = negsuc 3; denom = 12; quotient = negsuc 0; remainder = 8 }
     ∷ record { numer = pos 6; denom = 5; quotient = pos 1; remainder = 1 }
     ∷ record { numer = pos 17; denom = 5; quotient = pos 3; remainder = 2 }
@@ -46,8 +46,8 @@ pub record OddExample : Type 0 where
   pub number : ℕ
   pub odd : ℕ
 
-abbrev pub oddExamples : List OddExample
-oddExamples =
+abbrev pub odd_examples : List OddExample
+odd_examples =
     record { number = 0; odd = 0 }
     ∷ record { number = 1; odd = 1 }
     ∷ record { number = 2; odd = 1 }
@@ -58,17 +58,17 @@ oddExamples =
 
 -- Theorem: the definitions give what the examples say.
 pub record ExamplesHold : Type 0 where
-  pub gcds : map (λ (e : GcdExample). gcdOrOne e.x e.y) gcdExamples ≡ map (λ (e : GcdExample). e.gcd) gcdExamples
-  pub fractions : map (λ (e : GcdExample). lowestTerms e.x e.y) gcdExamples
-      ≡ map (λ (e : GcdExample). record { numer = e.numer; denom = e.denom }) gcdExamples
-  pub divided : map (λ (e : DivisionExample). divideOutcome e.numer e.denom) divisionExamples
-      ≡ map (λ (e : DivisionExample). given (e.quotient, e.remainder)) divisionExamples
-  pub quotients : map (λ (e : DivisionExample). divOutcome e.numer e.denom) divisionExamples
-      ≡ map (λ (e : DivisionExample). given e.quotient) divisionExamples
-  pub remainders : map (λ (e : DivisionExample). remOutcome e.numer e.denom) divisionExamples
-      ≡ map (λ (e : DivisionExample). given e.remainder) divisionExamples
+  pub gcds : map (λ (e : GcdExample). gcd_or_one e.x e.y) gcd_examples ≡ map (λ (e : GcdExample). e.gcd) gcd_examples
+  pub fractions : map (λ (e : GcdExample). lowest_terms e.x e.y) gcd_examples
+      ≡ map (λ (e : GcdExample). record { numer = e.numer; denom = e.denom }) gcd_examples
+  pub divided : map (λ (e : DivisionExample). divide_outcome e.numer e.denom) division_examples
+      ≡ map (λ (e : DivisionExample). given (e.quotient, e.remainder)) division_examples
+  pub quotients : map (λ (e : DivisionExample). div_outcome e.numer e.denom) division_examples
+      ≡ map (λ (e : DivisionExample). given e.quotient) division_examples
+  pub remainders : map (λ (e : DivisionExample). rem_outcome e.numer e.denom) division_examples
+      ≡ map (λ (e : DivisionExample). given e.remainder) division_examples
   -- a denominator of 0 is refused as a period below 1 is
-  pub none-divided : divideOutcome (pos 7) 0 ≡ refused 2
-  pub no-quotient : divOutcome (pos 7) 0 ≡ refused 2
-  pub no-remainder : remOutcome (pos 7) 0 ≡ refused 2
-  pub odds : map (λ (e : OddExample). oddFactors e.number) oddExamples ≡ map (λ (e : OddExample). e.odd) oddExamples
+  pub none_divided : divide_outcome (pos 7) 0 ≡ refused 2
+  pub no_quotient : div_outcome (pos 7) 0 ≡ refused 2
+  pub no_remainder : rem_outcome (pos 7) 0 ≡ refused 2
+  pub odds : map (λ (e : OddExample). odd_factors e.number) odd_examples ≡ map (λ (e : OddExample). e.odd) odd_examples

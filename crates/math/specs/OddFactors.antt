@@ -7,10 +7,10 @@ halved zero n = n
 halved (suc halvings) n = elim (eqb (n % 2) 0) [ true ↦ halved halvings (n / 2) | false ↦ n ]
 
 -- A number is halved fewer times than it is large; 0 stays 0.
-unfoldable pub oddFactors : ℕ → ℕ
+unfoldable pub odd_factors : ℕ → ℕ
 unfolding halved
-oddFactors n = halved n n
+odd_factors n = halved n n
 
 -- Theorem: what is left of a number above 0 is odd, and times a power of two it is the number.
 abbrev pub OddFactorsAreLeft : Type 0
-OddFactorsAreLeft = (n : ℕ) → 0 < n → (oddFactors n % 2 ≡ 1) × ((k : ℕ) × (n ≡ oddFactors n * 2 ^ k))
+OddFactorsAreLeft = (n : ℕ) → 0 < n → (odd_factors n % 2 ≡ 1) × ((k : ℕ) × (n ≡ odd_factors n * 2 ^ k))

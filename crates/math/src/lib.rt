@@ -5,21 +5,23 @@
 // specs/: Gcd, Division and OddFactors define them and state their theorems; Answers says what each call answers.
 // Every entry point answers every input; a denominator of 0 is refused as a period below 1 is (2). `parts` holds remainders for
 // callers that know theirs to be above 0. Nothing is assumed.
+#![tactic(auto)]
+
 pub mod parts;
 
 ghost use Rattle.std.specs.Prelude.{◌≡◌, ◌<◌};
-ghost use Rattle.answer.specs.Refusals.{numberOutcome};
-ghost use Rattle.math.specs.Gcd.{GcdOf, lowestTerms};
+ghost use Rattle.answer.specs.Refusals.{number_outcome};
+ghost use Rattle.math.specs.Gcd.{GcdOf, lowest_terms};
 ghost use Rattle.math.specs.Division.{Divided};
-ghost use Rattle.math.specs.OddFactors.{oddFactors};
+ghost use Rattle.math.specs.OddFactors.{odd_factors};
 ghost use Rattle.math.specs.Answers.{
-  dividedU16Outcome,
-  dividedU32Outcome,
-  quotientOutcome,
-  remainderU32Outcome,
-  divideOutcome,
-  divOutcome,
-  remOutcome,
+  divided_u16_outcome,
+  divided_u32_outcome,
+  quotient_outcome,
+  remainder_u32_outcome,
+  divide_outcome,
+  div_outcome,
+  rem_outcome,
 };
 
 use answer::{NumberAnswer, Refusal};
@@ -47,7 +49,7 @@ pub struct Fraction {
 
 // The fraction in lowest terms; 0 over 0 stays.
 pub fn simplify_u16(numer: u16, denom: u16) -> Fraction
-    ensures { result ≡ lowestTerms numer denom }
+    ensures { result ≡ lowest_terms numer denom }
 {
     let gcd = gcd_u16(numer, denom);
     Fraction {
@@ -58,7 +60,7 @@ pub fn simplify_u16(numer: u16, denom: u16) -> Fraction
 
 // The number without its factors of two; 0 stays.
 pub fn odd_factors_u16(number: u16) -> u16
-    ensures { result ≡ oddFactors number }
+    ensures { result ≡ odd_factors number }
 {
     if number == 0 {
         return 0;
@@ -130,7 +132,7 @@ pub(crate) fn divide(numer: i32, denom: u32) -> DividedU32
 
 // Quotient and remainder, the remainder never negative (2).
 pub fn i32_dr_u32(numer: i32, denom: u32) -> DividedU32Answer
-    ensures { dividedU32Outcome result ≡ divideOutcome numer denom }
+    ensures { divided_u32_outcome result ≡ divide_outcome numer denom }
 {
     if denom == 0 {
         return DividedU32Answer::Refused(Refusal::Period);
@@ -140,7 +142,7 @@ pub fn i32_dr_u32(numer: i32, denom: u32) -> DividedU32Answer
 
 // Quotient and remainder, the remainder never negative (2).
 pub fn i32_dr_u16(numer: i32, denom: u16) -> DividedU16Answer
-    ensures { dividedU16Outcome result ≡ divideOutcome numer denom }
+    ensures { divided_u16_outcome result ≡ divide_outcome numer denom }
 {
     if denom == 0 {
         return DividedU16Answer::Refused(Refusal::Period);
@@ -154,7 +156,7 @@ pub fn i32_dr_u16(numer: i32, denom: u16) -> DividedU16Answer
 
 // The quotient that goes with the remainder that is never negative (2).
 pub fn i32_div_u32(numer: i32, denom: u32) -> QuotientAnswer
-    ensures { quotientOutcome result ≡ divOutcome numer denom }
+    ensures { quotient_outcome result ≡ div_outcome numer denom }
 {
     if denom == 0 {
         return QuotientAnswer::Refused(Refusal::Period);
@@ -165,14 +167,14 @@ pub fn i32_div_u32(numer: i32, denom: u32) -> QuotientAnswer
 
 // The quotient that goes with the remainder that is never negative (2).
 pub fn i32_div_u16(numer: i32, denom: u16) -> QuotientAnswer
-    ensures { quotientOutcome result ≡ divOutcome numer denom }
+    ensures { quotient_outcome result ≡ div_outcome numer denom }
 {
     i32_div_u32(numer, denom as u32)
 }
 
 // The remainder, never negative (2).
 pub fn i32_rem_u32(numer: i32, denom: u32) -> RemainderU32Answer
-    ensures { remainderU32Outcome result ≡ remOutcome numer denom }
+    ensures { remainder_u32_outcome result ≡ rem_outcome numer denom }
 {
     if denom == 0 {
         return RemainderU32Answer::Refused(Refusal::Period);
@@ -182,7 +184,7 @@ pub fn i32_rem_u32(numer: i32, denom: u32) -> RemainderU32Answer
 
 // The remainder, never negative (2).
 pub fn i32_rem_u16(numer: i32, denom: u16) -> NumberAnswer
-    ensures { numberOutcome result ≡ remOutcome numer denom }
+    ensures { number_outcome result ≡ rem_outcome numer denom }
 {
     if denom == 0 {
         return NumberAnswer::Refused(Refusal::Period);

@@ -1,18 +1,18 @@
 -- The worked examples hold by computation.
 use mathlib.Core.Path.{refl}
-use Rattle.mos.specs.Patterns.{isPattern, childOf, parent_of, cyclesOf, reducedSizeOf}
-use Rattle.mos.specs.Walks.{children, parents, genesisOf}
-use Rattle.mos.specs.Answers.{ofPattern, genesisOutcome, coprimeOutcome, listingOutcome}
-use Rattle.mos.specs.Scale.{placeAbove, interval}
+use Rattle.mos.specs.Patterns.{is_pattern, child_of, parent_of, cycles_of, reduced_size_of}
+use Rattle.mos.specs.Walks.{children, parents, genesis_of}
+use Rattle.mos.specs.Answers.{of_pattern, genesis_outcome, coprime_outcome, listing_outcome}
+use Rattle.mos.specs.Scale.{place_above, interval}
 use Rattle.mos.specs.Examples.{ExamplesHold}
 
-pub examples-hold : ExamplesHold
-unfolding isPattern childOf parent_of cyclesOf reducedSizeOf children parents genesisOf ofPattern genesisOutcome coprimeOutcome listingOutcome placeAbove interval
-examples-hold = record {
+pub examples_hold : ExamplesHold
+unfolding is_pattern child_of parent_of cycles_of reduced_size_of children parents genesis_of of_pattern genesis_outcome coprime_outcome listing_outcome place_above interval
+examples_hold = record {
   searches = refl;
   child = refl;
   parent = refl;
-  genesis-of = refl;
+  genesis_of_lem = refl;
   dual = refl;
   mirror = refl;
   sharpness = refl;
@@ -22,12 +22,12 @@ examples-hold = record {
   coprimes = refl;
   keys = refl;
   walk = refl;
-  walk-back = refl;
+  walk_back = refl;
   listing = refl;
   no_room = refl;
-  reduced-generator = refl;
-  no-period = refl;
-  no-pattern = refl;
+  reduced_generator = refl;
+  no_period = refl;
+  no_pattern = refl;
   diatonic = refl;
   pitches = refl;
   classes = refl;

@@ -13,14 +13,14 @@ use Rattle.math.proofs.Congruence.{add_cong}
 use Rattle.mos.specs.declared.Mos.{Mos}
 use Rattle.mos.specs.Patterns.{secondaries, primary, secondary, count_of, genesis}
 use Rattle.mos.specs.Walks.{children}
-use Rattle.mos.specs.Scale.{keyOf, above, stepAbove, placeAbove, interval, round, climbed, MomentOfSymmetry}
-use Rattle.mos.specs.IntervalClasses.{placesUp, TwoSizes, LeadsOn, IntervalClassesHaveTwoSizes}
-use Rattle.mos.proofs.Scale.{Chain, chain-walk, Reached, reached, interval-leads, key-zero, moment-of-symmetry}
+use Rattle.mos.specs.Scale.{key_of, above, step_above, place_above, interval, round, climbed, MomentOfSymmetry}
+use Rattle.mos.specs.IntervalClasses.{places_up, TwoSizes, LeadsOn, IntervalClassesHaveTwoSizes}
+use Rattle.mos.proofs.Scale.{Chain, chain_walk, Reached, reached, interval_leads, key_zero, moment_of_symmetry}
 
 -- ---- the round goes on as it began
 
-along : (m : Mos) (i k : ℕ) → placeAbove m (round m i) k ≡ round m (i + k)
-unfolding placeAbove
+along : (m : Mos) (i k : ℕ) → place_above m (round m i) k ≡ round m (i + k)
+unfolding place_above
 along m i zero = ap (round m) (sym (add-zero i))
 along m i (suc k) = ap (above m) (along m i k) ∙ ap (round m) (let t : suc (i + k) ≡ i + suc k = omega arith in t)
 
@@ -28,19 +28,19 @@ climbs : (m : Mos) (i k : ℕ) → climbed m i + interval m (round m i) k ≡ cl
 unfolding interval
 climbs m i zero = add-zero (climbed m i) ∙ ap (climbed m) (sym (add-zero i))
 climbs m i (suc k) =
-    (let t : climbed m i + (interval m (round m i) k + stepAbove m (placeAbove m (round m i) k))
-    ≡ climbed m i + interval m (round m i) k + stepAbove m (placeAbove m (round m i) k) = omega arith in t)
-    ∙ ap₂ (λ (x y : ℕ). x + stepAbove m y) (climbs m i k) (along m i k)
+    (let t : climbed m i + (interval m (round m i) k + step_above m (place_above m (round m i) k))
+    ≡ climbed m i + interval m (round m i) k + step_above m (place_above m (round m i) k) = omega arith in t)
+    ∙ ap₂ (λ (x y : ℕ). x + step_above m y) (climbs m i k) (along m i k)
     ∙ ap (climbed m) (let t : suc (i + k) ≡ i + suc k = omega arith in t)
 
-round-start : (m : Mos) → 0 ≡ round m 0
-unfolding placeAbove
-round-start m = refl
+round_start : (m : Mos) → 0 ≡ round m 0
+unfolding place_above
+round_start m = refl
 
 -- ---- where k steps lead
 
-quotient-of : (n q x p : ℕ) → p < n → q * n + p ≡ x → q ≡ x / n
-quotient-of n q x p h e = sym (digits_div q h) ∙ ap (λ (z : ℕ). z / n) e
+quotient_of : (n q x p : ℕ) → p < n → q * n + p ≡ x → q ≡ x / n
+quotient_of n q x p h e = sym (digits_div q h) ∙ ap (λ (z : ℕ). z / n) e
 
 remainder_of : (n q x p : ℕ) → p < n → q * n + p ≡ x → p ≡ x % n
 remainder_of n q x p h e = sym (digits_mod q h) ∙ ap (λ (z : ℕ). z % n) e
@@ -49,23 +49,23 @@ module _ (m : Mos) (k : ℕ) where
   low : ℕ
   low = k * secondaries m / count_of m
 
-  split : k * secondaries m ≡ low * count_of m + placesUp m k
+  split : k * secondaries m ≡ low * count_of m + places_up m k
   unfolding low
   split = sym (div-add-mod' (k * secondaries m) (count_of m))
 
-  place_is : (j : ℕ) → j < count_of m → placeAbove m j k ≡ (j + placesUp m k) % count_of m
+  place_is : (j : ℕ) → j < count_of m → place_above m j k ≡ (j + places_up m k) % count_of m
   place_is j h =
       let x = reached m j h k in
-      remainder_of (count_of m) x.q (j + k * secondaries m) (placeAbove m j k) x.inside (sym x.places)
+      remainder_of (count_of m) x.q (j + k * secondaries m) (place_above m j k) x.inside (sym x.places)
       ∙ ap (λ (n : ℕ). n % count_of m) (let t : j + k * secondaries m ≡ k * secondaries m + j = omega arith in t)
-      ∙ sym (add_cong (count_of m) j (placesUp m k) (k * secondaries m) (mod-mod (k * secondaries m) (count_of m)))
-      ∙ ap (λ (n : ℕ). n % count_of m) (let t : placesUp m k + j ≡ j + placesUp m k = omega arith in t)
+      ∙ sym (add_cong (count_of m) j (places_up m k) (k * secondaries m) (mod-mod (k * secondaries m) (count_of m)))
+      ∙ ap (λ (n : ℕ). n % count_of m) (let t : places_up m k + j ≡ j + places_up m k = omega arith in t)
 
 -- ---- the two sizes
 
 module _ (P G : ℕ) (m : Mos) (c : Chain P G m) (k : ℕ) (hk : 0 < k) (below : k < count_of m) where
   rest : ℕ
-  rest = placesUp m k
+  rest = places_up m k
 
   rest_below : rest < count_of m
   unfolding rest
@@ -79,14 +79,14 @@ module _ (P G : ℕ) (m : Mos) (c : Chain P G m) (k : ℕ) (hk : 0 < k) (below :
   fewer : (j : ℕ) (h : j < count_of m) → j + rest < count_of m → (reached m j h k).q ≡ low m k
   fewer j h l =
       let x = reached m j h k in
-      quotient-of (count_of m) x.q (j + k * secondaries m) (placeAbove m j k) x.inside (sym x.places)
-      ∙ sym (quotient-of (count_of m) (low m k) (j + k * secondaries m) (j + rest) l (omega (arith, parts)))
+      quotient_of (count_of m) x.q (j + k * secondaries m) (place_above m j k) x.inside (sym x.places)
+      ∙ sym (quotient_of (count_of m) (low m k) (j + k * secondaries m) (j + rest) l (omega (arith, parts)))
 
   more : (j : ℕ) (h : j < count_of m) → count_of m ≤ j + rest → (reached m j h k).q ≡ suc (low m k)
   more j h l =
       let x = reached m j h k in
-      quotient-of (count_of m) x.q (j + k * secondaries m) (placeAbove m j k) x.inside (sym x.places)
-      ∙ sym (quotient-of (count_of m) (suc (low m k)) (j + k * secondaries m) (j + rest - count_of m) (omega (arith, rest_below)) (omega (arith, parts, suc-mul (low m k) (count_of m))))
+      quotient_of (count_of m) x.q (j + k * secondaries m) (place_above m j k) x.inside (sym x.places)
+      ∙ sym (quotient_of (count_of m) (suc (low m k)) (j + k * secondaries m) (j + rest - count_of m) (omega (arith, rest_below)) (omega (arith, parts, suc-mul (low m k) (count_of m))))
 
   start : 0 < count_of m
   start = omega arith
@@ -96,13 +96,13 @@ module _ (P G : ℕ) (m : Mos) (c : Chain P G m) (k : ℕ) (hk : 0 < k) (below :
   unfolding rest
   from_start = place_is m k 0 start ∙ ap (λ (n : ℕ). n % count_of m) (zero-add rest) ∙ mod-eq_of_lt rest_below
 
-  rest-above : 0 < rest
-  rest-above = go rest refl
+  rest_above : 0 < rest
+  rest_above = go rest refl
     where
       go : (t : ℕ) → rest ≡ t → 0 < rest
       go (suc t) e = omega arith
       go zero e =
-          let same : k ≡ 0 = (moment-of-symmetry P G m c).once k 0 below start (from_start ∙ e ∙ round-start m) in
+          let same : k ≡ 0 = (moment_of_symmetry P G m c).once k 0 below start (from_start ∙ e ∙ round_start m) in
           absurd (let t : ⊥ = omega arith in t)
 
   size : ℕ → ℕ
@@ -121,27 +121,27 @@ module _ (P G : ℕ) (m : Mos) (c : Chain P G m) (k : ℕ) (hk : 0 < k) (below :
   last : ℕ
   last = count_of m - rest
 
-  last-below : last < count_of m
+  last_below : last < count_of m
   unfolding last
-  last-below = omega (arith, rest-above)
+  last_below = omega (arith, rest_above)
 
-  last_more : (reached m last last-below k).q ≡ suc (low m k)
+  last_more : (reached m last last_below k).q ≡ suc (low m k)
   unfolding last
-  last_more = more last last-below (omega (arith, rest_below))
+  last_more = more last last_below (omega (arith, rest_below))
 
   from_last : interval m last k ≡ size (suc (low m k))
-  from_last = size_is last last-below (suc (low m k)) last_more
+  from_last = size_is last last_below (suc (low m k)) last_more
 
-  to-zero : placeAbove m last k ≡ 0
+  to_zero : place_above m last k ≡ 0
   unfolding last rest
-  to-zero = place_is m k last last-below ∙ ap (λ (n : ℕ). n % count_of m) (let t : last + rest ≡ count_of m = omega (arith, rest_below) in t) ∙ mod_self (count_of m)
+  to_zero = place_is m k last last_below ∙ ap (λ (n : ℕ). n % count_of m) (let t : last + rest ≡ count_of m = omega (arith, rest_below) in t) ∙ mod_self (count_of m)
 
   low_below : low m k < k
-  low_below = omega (arith, last_more, (reached m last last-below k).steps)
+  low_below = omega (arith, last_more, (reached m last last_below k).steps)
 
-  sizes-apart : size (low m k) + secondary m ≡ size (suc (low m k)) + primary m
+  sizes_apart : size (low m k) + secondary m ≡ size (suc (low m k)) + primary m
   unfolding size
-  sizes-apart =
+  sizes_apart =
       omega (
         arith,
         suc-mul (low m k) (secondary m),
@@ -150,32 +150,32 @@ module _ (P G : ℕ) (m : Mos) (c : Chain P G m) (k : ℕ) (hk : 0 < k) (below :
       )
 
   -- modulo the period
-  goes-up : size (low m k) % P ≡ keyOf P G rest
-  goes-up =
+  goes_up_lem : size (low m k) % P ≡ key_of P G rest
+  goes_up_lem =
       ap (λ (n : ℕ). n % P) (sym (zero-add (interval m 0 k) ∙ from_zero))
-      ∙ ap (λ (n : ℕ). (n + interval m 0 k) % P) (sym (key-zero P G))
-      ∙ interval-leads P G m c 0 k
-      ∙ ap (keyOf P G) from_start
+      ∙ ap (λ (n : ℕ). (n + interval m 0 k) % P) (sym (key_zero P G))
+      ∙ interval_leads P G m c 0 k
+      ∙ ap (key_of P G) from_start
 
-  goes_down : (size (suc (low m k)) + keyOf P G last) % P ≡ 0
-  goes_down =
-      ap (λ (n : ℕ). n % P) (let t : size (suc (low m k)) + keyOf P G last ≡ keyOf P G last + interval m last k = omega (arith, from_last) in t)
-      ∙ interval-leads P G m c last k
-      ∙ ap (keyOf P G) to-zero
-      ∙ key-zero P G
+  goes_down_lem : (size (suc (low m k)) + key_of P G last) % P ≡ 0
+  goes_down_lem =
+      ap (λ (n : ℕ). n % P) (let t : size (suc (low m k)) + key_of P G last ≡ key_of P G last + interval m last k = omega (arith, from_last) in t)
+      ∙ interval_leads P G m c last k
+      ∙ ap (key_of P G) to_zero
+      ∙ key_zero P G
 
-  two-sizes : TwoSizes P G m k
+  two_sizes : TwoSizes P G m k
   unfolding last rest
-  two-sizes = record {
+  two_sizes = record {
     one = size (low m k);
     other = size (suc (low m k));
     each = λ j h. by j h (dec_lt (j + rest) (count_of m));
-    meets-one = (0, start, from_zero);
-    meets-other = (last, last-below, from_last);
-    up = goes-up;
-    down = goes_down;
-    apart = sizes-apart;
-    equal = (λ e. omega (arith, sizes-apart), λ e. omega (arith, sizes-apart));
+    meets_one = (0, start, from_zero);
+    meets_other = (last, last_below, from_last);
+    up = goes_up_lem;
+    down = goes_down_lem;
+    apart = sizes_apart;
+    equal = (λ e. omega (arith, sizes_apart), λ e. omega (arith, sizes_apart));
   }
     where
       by : (j : ℕ) → j < count_of m → Dec (j + rest < count_of m) → (interval m j k ≡ size (low m k)) ⊎ (interval m j k ≡ size (suc (low m k)))
@@ -184,15 +184,15 @@ module _ (P G : ℕ) (m : Mos) (c : Chain P G m) (k : ℕ) (hk : 0 < k) (below :
 
 -- ---- of every walk
 
-pub interval-classes-have-two-sizes : IntervalClassesHaveTwoSizes
-interval-classes-have-two-sizes = record {
+pub interval_classes_have_two_sizes : IntervalClassesHaveTwoSizes
+interval_classes_have_two_sizes = record {
   leads =
       λ P G h n m e k.
       record {
         place = place_is m k;
-        notes = λ j l. interval-leads P G m (chain-walk P G h n m e) j k;
+        notes = λ j l. interval_leads P G m (chain_walk P G h n m e) j k;
         along = λ i. along m i k;
         climbs = λ i. climbs m i k;
       };
-  sizes = λ P G h n m e k hk below. two-sizes P G m (chain-walk P G h n m e) k hk below;
+  sizes = λ P G h n m e k hk below. two_sizes P G m (chain_walk P G h n m e) k hk below;
 }

@@ -8,19 +8,19 @@ use lib.Dec.{leb, lit<}
 use borrow.Author.Tests.{leb-true, le-leb, lt-leb}
 use Rattle.answer.specs.Outcome.{given, refused}
 use Rattle.mos.specs.declared.Mos.{Mos}
-use Rattle.mos.specs.Patterns.{primaries, secondaries, primary, secondary, count_of, size_of, isPattern, dualOf}
-use Rattle.mos.specs.Answers.{ofPattern}
+use Rattle.mos.specs.Patterns.{primaries, secondaries, primary, secondary, count_of, size_of, is_pattern, dual_of}
+use Rattle.mos.specs.Answers.{of_pattern}
 
-pub product-fits : (a b : ℕ) → a < 65536 → b < 65536 → a * b < 4294967296
-product-fits a b ha hb =
+pub product_fits : (a b : ℕ) → a < 65536 → b < 65536 → a * b < 4294967296
+product_fits a b ha hb =
     let l : a ≤ 65535 = omega arith in
     let k : b ≤ 65535 = omega arith in
     lt_of_le_of_lt (mul-le-mul l k) (lit< tt)
 
 -- both products fit where the size does
-pub size-decides : (m : Mos) → isPattern m ≡ leb (size_of m) 65535
-unfolding isPattern size_of
-size-decides m = go (leb (size_of m) 65535) refl
+pub size_decides : (m : Mos) → is_pattern m ≡ leb (size_of m) 65535
+unfolding is_pattern size_of
+size_decides m = go (leb (size_of m) 65535) refl
   where
     go : (t : Bool) → leb (size_of m) 65535 ≡ t → (leb (primaries m * primary m) 65535 && leb (secondaries m * secondary m) 65535 && t) ≡ t
     go true e =
@@ -30,40 +30,40 @@ size-decides m = go (leb (size_of m) 65535) refl
         )
     go false e = and-false (leb (primaries m * primary m) 65535 && leb (secondaries m * secondary m) 65535)
 
-pub pattern-fits : (m : Mos) → isPattern m ≡ true → size_of m ≤ 65535
-pattern-fits m e = leb-true (size_of m) 65535 (sym (size-decides m) ∙ e)
+pub pattern_fits : (m : Mos) → is_pattern m ≡ true → size_of m ≤ 65535
+pattern_fits m e = leb-true (size_of m) 65535 (sym (size_decides m) ∙ e)
 
-pub fits-pattern : (m : Mos) → size_of m ≤ 65535 → isPattern m ≡ true
-fits-pattern m h = size-decides m ∙ le-leb (size_of m) 65535 h
+pub fits_pattern : (m : Mos) → size_of m ≤ 65535 → is_pattern m ≡ true
+fits_pattern m h = size_decides m ∙ le-leb (size_of m) 65535 h
 
-pub pattern-same : (m n : Mos) → size_of n ≡ size_of m → isPattern n ≡ isPattern m
-pattern-same m n e = size-decides n ∙ ap (λ (x : ℕ). leb x 65535) e ∙ sym (size-decides m)
+pub pattern_same : (m n : Mos) → size_of n ≡ size_of m → is_pattern n ≡ is_pattern m
+pattern_same m n e = size_decides n ∙ ap (λ (x : ℕ). leb x 65535) e ∙ sym (size_decides m)
 
 -- where both steps are above 0 the counts fit what the size fits
-pub counts-fit : (m : Mos) → 0 < primary m → 0 < secondary m → count_of m ≤ size_of m
+pub counts_fit : (m : Mos) → 0 < primary m → 0 < secondary m → count_of m ≤ size_of m
 unfolding size_of
-counts-fit m hp hs = omega (arith, le-mul_of_pos_right (primaries m) hp, le-mul_of_pos_right (secondaries m) hs)
+counts_fit m hp hs = omega (arith, le-mul_of_pos_right (primaries m) hp, le-mul_of_pos_right (secondaries m) hs)
 
-pub dual-size : (m : Mos) → size_of (dualOf m) ≡ size_of m
+pub dual_size : (m : Mos) → size_of (dual_of m) ≡ size_of m
 unfolding size_of
-dual-size m = omega (arith, mul_comm (primaries m) (primary m), mul_comm (secondaries m) (secondary m))
+dual_size m = omega (arith, mul_comm (primaries m) (primary m), mul_comm (secondaries m) (secondary m))
 
-pub dual-pattern : (m : Mos) → isPattern (dualOf m) ≡ isPattern m
-dual-pattern m = pattern-same m (dualOf m) (dual-size m)
+pub dual_pattern : (m : Mos) → is_pattern (dual_of m) ≡ is_pattern m
+dual_pattern m = pattern_same m (dual_of m) (dual_size m)
 
 -- question 7, by what the code's test told
-pub pattern-refused : {A : Type 0} (m : Mos) (fact : A) {test : Bool} → test ≡ isPattern m → test ≡ false → refused 7 ≡ ofPattern m fact
-unfolding ofPattern
-pattern-refused m fact e f = simp (sym e ∙ f)
+pub pattern_refused : {A : Type 0} (m : Mos) (fact : A) {test : Bool} → test ≡ is_pattern m → test ≡ false → refused 7 ≡ of_pattern m fact
+unfolding of_pattern
+pattern_refused m fact e f = simp (sym e ∙ f)
 
-pub pattern-given : {A : Type 0} (m : Mos) {fact told : A} {test : Bool} → test ≡ isPattern m → test ≡ true → told ≡ fact → given told ≡ ofPattern m fact
-unfolding ofPattern
-pattern-given m e f g = simp (sym e ∙ f, g)
+pub pattern_given : {A : Type 0} (m : Mos) {fact told : A} {test : Bool} → test ≡ is_pattern m → test ≡ true → told ≡ fact → given told ≡ of_pattern m fact
+unfolding of_pattern
+pattern_given m e f g = simp (sym e ∙ f, g)
 
 -- the same where the code tests the size
-pub size-refused : {A : Type 0} (m : Mos) (fact : A) {size : ℕ} → size ≡ size_of m → 65535 < size → refused 7 ≡ ofPattern m fact
-size-refused m fact e h =
-    pattern-refused m fact refl (size-decides m ∙ lt-leb (size_of m) 65535 (omega (arith, e)))
+pub size_refused : {A : Type 0} (m : Mos) (fact : A) {size : ℕ} → size ≡ size_of m → 65535 < size → refused 7 ≡ of_pattern m fact
+size_refused m fact e h =
+    pattern_refused m fact refl (size_decides m ∙ lt-leb (size_of m) 65535 (omega (arith, e)))
 
-pub size-given : {A : Type 0} (m : Mos) {fact told : A} {size : ℕ} → size ≡ size_of m → size ≤ 65535 → told ≡ fact → given told ≡ ofPattern m fact
-size-given m e h g = pattern-given m refl (fits-pattern m (omega (arith, e))) g
+pub size_given : {A : Type 0} (m : Mos) {fact told : A} {size : ℕ} → size ≡ size_of m → size ≤ 65535 → told ≡ fact → given told ≡ of_pattern m fact
+size_given m e h g = pattern_given m refl (fits_pattern m (omega (arith, e))) g

@@ -1,7 +1,7 @@
 -- `coprime` (document 01, "Step patterns").
 use Rattle.std.specs.Prelude.{ℕ, zero, suc, ◌+◌, ◌-◌, ◌/◌, max, true, false, leb}
 use Rattle.answer.specs.Choice.{pick}
-use Rattle.math.specs.Gcd.{gcdOrOne}
+use Rattle.math.specs.Gcd.{gcd_or_one}
 use Rattle.mos.specs.declared.Mos.{Mos}
 use Rattle.mos.specs.Patterns.{mos, primaries, secondaries, primary, secondary}
 
@@ -15,15 +15,15 @@ pass g p s = pick (leb s p) (p - max 1 (distance p s / g)) (p + max 1 (distance 
 
 -- "as long as the steps' greatest common divisor g is above 1". The first number bounds the passes; the theorem says that it is never met.
 unfoldable pub passes : ℕ → ℕ → ℕ → ℕ
-unfolding pass gcdOrOne
+unfolding pass gcd_or_one
 passes zero p s = s
 passes (suc more) p s =
-    elim (leb (gcdOrOne p s) 1) [ true ↦ s | false ↦ passes more p (pass (gcdOrOne p s) p s) ]
+    elim (leb (gcd_or_one p s) 1) [ true ↦ s | false ↦ passes more p (pass (gcd_or_one p s) p s) ]
 
 -- The secondary step that `coprime` ends with. The difference falls with each pass; only that of equal steps rises, to 1.
-unfoldable pub coprimeStep : ℕ → ℕ → ℕ
+unfoldable pub coprime_step : ℕ → ℕ → ℕ
 unfolding passes
-coprimeStep p s = passes (2 + distance p s) p s
+coprime_step p s = passes (2 + distance p s) p s
 
-abbrev pub coprimeOf : Mos → Mos
-coprimeOf m = mos (primaries m) (secondaries m) (primary m) (coprimeStep (primary m) (secondary m))
+abbrev pub coprime_of : Mos → Mos
+coprime_of m = mos (primaries m) (secondaries m) (primary m) (coprime_step (primary m) (secondary m))

@@ -4,9 +4,9 @@ use Rattle.std.specs.Prelude.{ℕ, ◌≡◌, Bool, true, false, List, [], ◌�
 use Rattle.std.proofs.Math.Option.{Option, none, some}
 use Rattle.answer.specs.Outcome.{Outcome, given, refused}
 use Rattle.mos.specs.declared.Mos.{Mos}
-use Rattle.mos.specs.Patterns.{mos, isPattern, genesis, childOf, parent_of, dualOf, mirrorOf, sharpnessOf, cyclesOf, reducedSizeOf, key_at}
-use Rattle.mos.specs.Walks.{children, parents, firstWith, genesisOf}
-use Rattle.mos.specs.Answers.{ofPattern, genesisOutcome, coprimeOutcome, listingOutcome}
+use Rattle.mos.specs.Patterns.{mos, is_pattern, genesis, child_of, parent_of, dual_of, mirror_of, sharpness_of, cycles_of, reduced_size_of, key_at}
+use Rattle.mos.specs.Walks.{children, parents, first_with, genesis_of}
+use Rattle.mos.specs.Answers.{of_pattern, genesis_outcome, coprime_outcome, listing_outcome}
 use Rattle.mos.specs.Scale.{interval, round, climbed}
 
 -- The pattern with as many steps as a chain has letters.
@@ -16,8 +16,8 @@ pub record SearchExample : Type 0 where
   pub letters : ℕ
   pub pattern : Option Mos
 
-abbrev pub searchExamples : List SearchExample
-searchExamples =
+abbrev pub search_examples : List SearchExample
+search_examples =
     -- 1 12 19: counts 5 and 2, steps 2 and 1
     record { period = 12; generator = 7; letters = 7; pattern = some (mos 5 2 2 1) }
     -- 1 31 49: steps 5 and 3
@@ -48,8 +48,8 @@ pub record FamilyExample : Type 0 where
   pub parent : Option Mos
   pub genesis : Mos
 
-abbrev pub familyExamples : List FamilyExample
-familyExamples =
+abbrev pub family_examples : List FamilyExample
+family_examples =
     record { pattern = mos 1 1 7 5; child = some (mos 1 2 2 5); parent = none; genesis = mos 1 1 7 5 }
     ∷ record { pattern = mos 1 2 2 5; child = some (mos 3 2 2 3); parent = some (mos 1 1 7 5); genesis = mos 1 1 7 5 }
     ∷ record { pattern = mos 5 2 2 1; child = some (mos 5 7 1 1); parent = some (mos 3 2 2 3); genesis = mos 1 1 7 5 }
@@ -68,8 +68,8 @@ pub record NumbersExample : Type 0 where
   pub cycles : ℕ
   pub reduced : ℕ
 
-abbrev pub numbersExamples : List NumbersExample
-numbersExamples =
+abbrev pub numbers_examples : List NumbersExample
+numbers_examples =
     record { pattern = mos 5 2 5 3; dual = mos 5 3 5 2; mirror = mos 2 5 3 5; sharpness = pos 2; cycles = 1; reduced = 31 }
     ∷ record { pattern = mos 2 5 4 6; dual = mos 4 6 2 5; mirror = mos 5 2 6 4; sharpness = negsuc 1; cycles = 2; reduced = 19 }
     ∷ record { pattern = mos 5 2 0 0; dual = mos 0 0 5 2; mirror = mos 2 5 0 0; sharpness = pos 0; cycles = 1; reduced = 0 }
@@ -80,8 +80,8 @@ pub record SizeExample : Type 0 where
   pub pattern : Mos
   pub fits : Bool
 
-abbrev pub sizeExamples : List SizeExample
-sizeExamples =
+abbrev pub size_examples : List SizeExample
+size_examples =
     record { pattern = mos 5 2 2 1; fits = true }
     ∷ record { pattern = mos 200 200 200 200; fits = false }
     ∷ record { pattern = mos 1 1 65535 0; fits = true }
@@ -94,8 +94,8 @@ pub record CoprimeExample : Type 0 where
   pub pattern : Mos
   pub outcome : Outcome Mos
 
-abbrev pub coprimeExamples : List CoprimeExample
-coprimeExamples =
+abbrev pub coprime_examples : List CoprimeExample
+coprime_examples =
     record { pattern = mos 5 2 3 2; outcome = given (mos 5 2 3 2) }
     ∷ record { pattern = mos 5 2 4 2; outcome = given (mos 5 2 4 3) }
     ∷ record { pattern = mos 2 5 2 4; outcome = given (mos 2 5 2 3) }
@@ -113,8 +113,8 @@ pub record KeyExample : Type 0 where
   pub s : ℤ
   pub key : ℤ
 
-abbrev pub keyExamples : List KeyExample
-keyExamples =
+abbrev pub key_examples : List KeyExample
+key_examples =
     record { p = negsuc 1; s = negsuc 1; key = negsuc 15 }
     ∷ record { p = negsuc 1; s = negsuc 0; key = negsuc 12 }
     ∷ record { p = negsuc 0; s = pos 0; key = negsuc 4 }
@@ -127,8 +127,8 @@ pub record ClassExample : Type 0 where
   pub steps : ℕ
   pub intervals : List ℕ
 
-abbrev pub classExamples : List ClassExample
-classExamples =
+abbrev pub class_examples : List ClassExample
+class_examples =
     -- seconds, thirds, fourths, fifths, sixths, sevenths
     record { steps = 1; intervals = 2 ∷ 2 ∷ 2 ∷ 2 ∷ 2 ∷ 1 ∷ 1 ∷ [] }
     ∷ record { steps = 2; intervals = 4 ∷ 4 ∷ 4 ∷ 3 ∷ 3 ∷ 3 ∷ 3 ∷ [] }
@@ -140,35 +140,35 @@ classExamples =
 
 -- Theorem: the definitions give what the examples say.
 pub record ExamplesHold : Type 0 where
-  pub searches : map (λ (e : SearchExample). firstWith e.letters (children (genesis e.period e.generator))) searchExamples
-      ≡ map (λ (e : SearchExample). e.pattern) searchExamples
-  pub child : map (λ (e : FamilyExample). childOf e.pattern) familyExamples ≡ map (λ (e : FamilyExample). e.child) familyExamples
-  pub parent : map (λ (e : FamilyExample). parent_of e.pattern) familyExamples ≡ map (λ (e : FamilyExample). e.parent) familyExamples
-  pub genesis-of : map (λ (e : FamilyExample). genesisOf e.pattern) familyExamples ≡ map (λ (e : FamilyExample). e.genesis) familyExamples
-  pub dual : map (λ (e : NumbersExample). dualOf e.pattern) numbersExamples ≡ map (λ (e : NumbersExample). e.dual) numbersExamples
-  pub mirror : map (λ (e : NumbersExample). mirrorOf e.pattern) numbersExamples ≡ map (λ (e : NumbersExample). e.mirror) numbersExamples
-  pub sharpness : map (λ (e : NumbersExample). sharpnessOf e.pattern) numbersExamples
-      ≡ map (λ (e : NumbersExample). e.sharpness) numbersExamples
-  pub cycles : map (λ (e : NumbersExample). cyclesOf e.pattern) numbersExamples ≡ map (λ (e : NumbersExample). e.cycles) numbersExamples
-  pub reduced : map (λ (e : NumbersExample). reducedSizeOf e.pattern) numbersExamples ≡ map (λ (e : NumbersExample). e.reduced) numbersExamples
-  pub fits : map (λ (e : SizeExample). isPattern e.pattern) sizeExamples ≡ map (λ (e : SizeExample). e.fits) sizeExamples
-  pub coprimes : map (λ (e : CoprimeExample). coprimeOutcome e.pattern) coprimeExamples
-      ≡ map (λ (e : CoprimeExample). e.outcome) coprimeExamples
-  pub keys : map (λ (e : KeyExample). key_at (mos 5 2 5 3) e.p e.s) keyExamples ≡ map (λ (e : KeyExample). e.key) keyExamples
+  pub searches : map (λ (e : SearchExample). first_with e.letters (children (genesis e.period e.generator))) search_examples
+      ≡ map (λ (e : SearchExample). e.pattern) search_examples
+  pub child : map (λ (e : FamilyExample). child_of e.pattern) family_examples ≡ map (λ (e : FamilyExample). e.child) family_examples
+  pub parent : map (λ (e : FamilyExample). parent_of e.pattern) family_examples ≡ map (λ (e : FamilyExample). e.parent) family_examples
+  pub genesis_of_lem : map (λ (e : FamilyExample). genesis_of e.pattern) family_examples ≡ map (λ (e : FamilyExample). e.genesis) family_examples
+  pub dual : map (λ (e : NumbersExample). dual_of e.pattern) numbers_examples ≡ map (λ (e : NumbersExample). e.dual) numbers_examples
+  pub mirror : map (λ (e : NumbersExample). mirror_of e.pattern) numbers_examples ≡ map (λ (e : NumbersExample). e.mirror) numbers_examples
+  pub sharpness : map (λ (e : NumbersExample). sharpness_of e.pattern) numbers_examples
+      ≡ map (λ (e : NumbersExample). e.sharpness) numbers_examples
+  pub cycles : map (λ (e : NumbersExample). cycles_of e.pattern) numbers_examples ≡ map (λ (e : NumbersExample). e.cycles) numbers_examples
+  pub reduced : map (λ (e : NumbersExample). reduced_size_of e.pattern) numbers_examples ≡ map (λ (e : NumbersExample). e.reduced) numbers_examples
+  pub fits : map (λ (e : SizeExample). is_pattern e.pattern) size_examples ≡ map (λ (e : SizeExample). e.fits) size_examples
+  pub coprimes : map (λ (e : CoprimeExample). coprime_outcome e.pattern) coprime_examples
+      ≡ map (λ (e : CoprimeExample). e.outcome) coprime_examples
+  pub keys : map (λ (e : KeyExample). key_at (mos 5 2 5 3) e.p e.s) key_examples ≡ map (λ (e : KeyExample). e.key) key_examples
   -- the whole walks of the fifth in 12 keys, and a listing that has no room for the last number
   pub walk : children (genesis 12 7) ≡ mos 1 1 7 5 ∷ mos 1 2 2 5 ∷ mos 3 2 2 3 ∷ mos 5 2 2 1 ∷ mos 5 7 1 1 ∷ []
-  pub walk-back : parents (mos 5 2 2 1) ≡ mos 5 2 2 1 ∷ mos 3 2 2 3 ∷ mos 1 2 2 5 ∷ mos 1 1 7 5 ∷ []
-  pub listing : listingOutcome (mos 3 2 2 3) (children (mos 3 2 2 3)) 12
+  pub walk_back : parents (mos 5 2 2 1) ≡ mos 5 2 2 1 ∷ mos 3 2 2 3 ∷ mos 1 2 2 5 ∷ mos 1 1 7 5 ∷ []
+  pub listing : listing_outcome (mos 3 2 2 3) (children (mos 3 2 2 3)) 12
       ≡ given (3 ∷ 2 ∷ 2 ∷ 3 ∷ 5 ∷ 2 ∷ 2 ∷ 1 ∷ 5 ∷ 7 ∷ 1 ∷ 1 ∷ [])
-  pub no_room : listingOutcome (mos 3 2 2 3) (children (mos 3 2 2 3)) 11 ≡ refused 10
+  pub no_room : listing_outcome (mos 3 2 2 3) (children (mos 3 2 2 3)) 11 ≡ refused 10
   -- questions 2 and 7
-  pub reduced-generator : genesisOutcome 12 19 ≡ given (mos 1 1 7 5)
-  pub no-period : genesisOutcome 0 7 ≡ refused 2
-  pub no-pattern : ofPattern (mos 256 0 256 0) (childOf (mos 256 0 256 0)) ≡ refused 7
+  pub reduced_generator : genesis_outcome 12 19 ≡ given (mos 1 1 7 5)
+  pub no_period : genesis_outcome 0 7 ≡ refused 2
+  pub no_pattern : of_pattern (mos 256 0 256 0) (child_of (mos 256 0 256 0)) ≡ refused 7
   -- the diatonic scale F C G D A E B, in order of pitch: F G A B C D E
   pub diatonic : map (round (mos 5 2 2 1)) (0 ∷ 1 ∷ 2 ∷ 3 ∷ 4 ∷ 5 ∷ 6 ∷ 7 ∷ []) ≡ 0 ∷ 2 ∷ 4 ∷ 6 ∷ 1 ∷ 3 ∷ 5 ∷ 0 ∷ []
   pub pitches : map (climbed (mos 5 2 2 1)) (0 ∷ 1 ∷ 2 ∷ 3 ∷ 4 ∷ 5 ∷ 6 ∷ 7 ∷ []) ≡ 0 ∷ 2 ∷ 4 ∷ 6 ∷ 7 ∷ 9 ∷ 11 ∷ 12 ∷ []
   -- its interval classes have two sizes each, and one where both steps are equal
-  pub classes : map (λ (e : ClassExample). map (λ (j : ℕ). interval (mos 5 2 2 1) j e.steps) (0 ∷ 1 ∷ 2 ∷ 3 ∷ 4 ∷ 5 ∷ 6 ∷ [])) classExamples
-      ≡ map (λ (e : ClassExample). e.intervals) classExamples
+  pub classes : map (λ (e : ClassExample). map (λ (j : ℕ). interval (mos 5 2 2 1) j e.steps) (0 ∷ 1 ∷ 2 ∷ 3 ∷ 4 ∷ 5 ∷ 6 ∷ [])) class_examples
+      ≡ map (λ (e : ClassExample). e.intervals) class_examples
   pub one_size : map (λ (j : ℕ). interval (mos 5 2 1 1) j 2) (0 ∷ 1 ∷ 2 ∷ 3 ∷ 4 ∷ 5 ∷ 6 ∷ []) ≡ 2 ∷ 2 ∷ 2 ∷ 2 ∷ 2 ∷ 2 ∷ 2 ∷ []

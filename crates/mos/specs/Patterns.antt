@@ -2,7 +2,7 @@
 use Rattle.std.specs.Prelude.{ℕ, ◌+◌, ◌*◌, ◌-◌, ◌/◌, ◌%◌, Bool, ◌&&◌, eqb, ltb, leb, ℤ, pos, ◌+ℤ◌, ◌-ℤ◌, ◌*ℤ◌}
 use Rattle.std.proofs.Math.Option.{Option, none, some, map}
 use Rattle.answer.specs.Choice.{pick}
-use Rattle.math.specs.Gcd.{gcdOrOne}
+use Rattle.math.specs.Gcd.{gcd_or_one}
 use Rattle.mos.specs.declared.Mos.{Mos}
 
 -- "A pattern has primary and secondary counts and steps": the counts a and b, the steps p and s.
@@ -34,9 +34,9 @@ unfoldable pub size_of : Mos → ℕ
 size_of m = primaries m * primary m + secondaries m * secondary m
 
 -- Question 7: "Are both products and the size of a given step pattern at most 65,535?"
-unfoldable pub isPattern : Mos → Bool
+unfoldable pub is_pattern : Mos → Bool
 unfolding size_of
-isPattern m =
+is_pattern m =
     leb (primaries m * primary m) 65535 && leb (secondaries m * secondary m) 65535 && leb (size_of m) 65535
 
 -- "The genesis has counts 1 and 1, primary step G mod P, secondary P less that."
@@ -49,8 +49,8 @@ collapsed large small = mos large small 1 0
 
 -- "The child adds both counts into the count of the shorter step and replaces the longer step by the difference.
 -- There is none if a step is 0 or both are equal."
-unfoldable pub childOf : Mos → Option Mos
-childOf m =
+unfoldable pub child_of : Mos → Option Mos
+child_of m =
     pick (eqb (primary m) 0) none
     (pick (eqb (secondary m) 0) none
     (pick (ltb (secondary m) (primary m)) (some (mos (primaries m) (count_of m) (primary m - secondary m) (secondary m)))
@@ -58,31 +58,31 @@ childOf m =
     none)))
 
 -- Counts and steps change places (`dual`).
-abbrev pub dualOf : Mos → Mos
-dualOf m = mos (primary m) (secondary m) (primaries m) (secondaries m)
+abbrev pub dual_of : Mos → Mos
+dual_of m = mos (primary m) (secondary m) (primaries m) (secondaries m)
 
 -- Primary and secondary change places (`mirror`).
-abbrev pub mirrorOf : Mos → Mos
-mirrorOf m = mos (secondaries m) (primaries m) (secondary m) (primary m)
+abbrev pub mirror_of : Mos → Mos
+mirror_of m = mos (secondaries m) (primaries m) (secondary m) (primary m)
 
 -- "Parent: swap counts with steps, child, swap back."
 unfoldable pub parent_of : Mos → Option Mos
-unfolding childOf
-parent_of m = map dualOf (childOf (dualOf m))
+unfolding child_of
+parent_of m = map dual_of (child_of (dual_of m))
 
 -- "Sharpness is primary minus secondary step, −65,535 to 65,535."
-abbrev pub sharpnessOf : Mos → ℤ
-sharpnessOf m = pos (primary m) -ℤ pos (secondary m)
+abbrev pub sharpness_of : Mos → ℤ
+sharpness_of m = pos (primary m) -ℤ pos (secondary m)
 
 -- The cycles (`num_cycles`): "the steps' greatest common divisor (1 where both are 0)".
-unfoldable pub cyclesOf : Mos → ℕ
-unfolding gcdOrOne
-cyclesOf m = gcdOrOne (primary m) (secondary m)
+unfoldable pub cycles_of : Mos → ℕ
+unfolding gcd_or_one
+cycles_of m = gcd_or_one (primary m) (secondary m)
 
 -- The reduced size (`reduced_size`).
-unfoldable pub reducedSizeOf : Mos → ℕ
-unfolding size_of cyclesOf
-reducedSizeOf m = size_of m / cyclesOf m
+unfoldable pub reduced_size_of : Mos → ℕ
+unfolding size_of cycles_of
+reduced_size_of m = size_of m / cycles_of m
 
 -- The key at a place of the keyboard (`get_key`): x primary and y secondary steps from the origin, each forward or, below 0, backward.
 abbrev pub key_at : Mos → ℤ → ℤ → ℤ

@@ -8,8 +8,8 @@ use Rattle.mos.specs.Patterns.{primaries, secondaries, primary, secondary, count
 use Rattle.mos.specs.Walks.{children}
 
 -- The chain of notes: place k lies k generators G up, brought back into the period P.
-abbrev pub keyOf : (P G k : ℕ) → ℕ
-keyOf P G k = (G * k) % P
+abbrev pub key_of : (P G k : ℕ) → ℕ
+key_of P G k = (G * k) % P
 
 -- A pattern with counts a and b has the a + b places from 0 on.
 -- The next note above place k is b places up the chain where k is below a, and a places down otherwise.
@@ -17,23 +17,23 @@ unfoldable pub above : Mos → ℕ → ℕ
 above m k = pick (ltb k (primaries m)) (k + secondaries m) (k - primaries m)
 
 -- It lies the primary step higher for the a places below a, and the secondary step for the b others.
-unfoldable pub stepAbove : Mos → ℕ → ℕ
-stepAbove m k = pick (ltb k (primaries m)) (primary m) (secondary m)
+unfoldable pub step_above : Mos → ℕ → ℕ
+step_above m k = pick (ltb k (primaries m)) (primary m) (secondary m)
 
 -- The place that k steps upward lead to from place j, and how far above it that is.
-unfoldable pub placeAbove : Mos → ℕ → ℕ → ℕ
+unfoldable pub place_above : Mos → ℕ → ℕ → ℕ
 unfolding above
-placeAbove m j zero = j
-placeAbove m j (suc k) = above m (placeAbove m j k)
+place_above m j zero = j
+place_above m j (suc k) = above m (place_above m j k)
 
 unfoldable pub interval : Mos → ℕ → ℕ → ℕ
-unfolding placeAbove stepAbove
+unfolding place_above step_above
 interval m j zero = 0
-interval m j (suc k) = interval m j k + stepAbove m (placeAbove m j k)
+interval m j (suc k) = interval m j k + step_above m (place_above m j k)
 
 -- The round: i steps upward from place 0.
 abbrev pub round : Mos → ℕ → ℕ
-round m i = placeAbove m 0 i
+round m i = place_above m 0 i
 
 abbrev pub climbed : Mos → ℕ → ℕ
 climbed m i = interval m 0 i
@@ -42,7 +42,7 @@ climbed m i = interval m 0 i
 pub record MomentOfSymmetry (P G : ℕ) (m : Mos) : Type 0 where
   -- above each place, at its step round the period, is a place of the chain
   pub inside : (k : ℕ) → k < count_of m → above m k < count_of m
-  pub apart : (k : ℕ) → k < count_of m → (keyOf P G k + stepAbove m k) % P ≡ keyOf P G (above m k)
+  pub apart : (k : ℕ) → k < count_of m → (key_of P G k + step_above m k) % P ≡ key_of P G (above m k)
   -- one round meets each place, and meets it once, and is back at place 0
   pub meets : (k : ℕ) → k < count_of m → (i : ℕ) × (i < count_of m) × (round m i ≡ k)
   pub once : (i j : ℕ) → i < count_of m → j < count_of m → round m i ≡ round m j → i ≡ j
@@ -52,9 +52,9 @@ pub record MomentOfSymmetry (P G : ℕ) (m : Mos) : Type 0 where
 
 -- Where the steps are above 0, the round takes the notes in order of pitch, and no note lies between one and the next.
 pub record InOrderOfPitch (P G : ℕ) (m : Mos) : Type 0 where
-  pub pitch : (i : ℕ) → i < count_of m → keyOf P G (round m i) ≡ climbed m i
+  pub pitch : (i : ℕ) → i < count_of m → key_of P G (round m i) ≡ climbed m i
   pub rises : (i : ℕ) → climbed m i < climbed m (suc i)
-  pub next : (j k : ℕ) → j < count_of m → k < count_of m → (j ≡ k → ⊥) → stepAbove m k ≤ (keyOf P G j + P - keyOf P G k) % P
+  pub next : (j k : ℕ) → j < count_of m → k < count_of m → (j ≡ k → ⊥) → step_above m k ≤ (key_of P G j + P - key_of P G k) % P
 
 -- Theorem: each pattern on the walk from the genesis of P and G is the scale of its first notes of the chain,
 -- in order of pitch unless the generator is a multiple of the period.

@@ -2,7 +2,7 @@
 use Rattle.std.specs.Prelude.{ℕ, zero, suc, true, false, List, [], ◌∷◌, ◌++◌, eqb}
 use Rattle.std.proofs.Math.Option.{Option, none, some}
 use Rattle.mos.specs.declared.Mos.{Mos}
-use Rattle.mos.specs.Patterns.{primaries, secondaries, primary, secondary, count_of, steps_of, childOf, parent_of}
+use Rattle.mos.specs.Patterns.{primaries, secondaries, primary, secondary, count_of, steps_of, child_of, parent_of}
 
 -- The rest of a walk, where there is a next pattern.
 abbrev pub onward : Option Mos → (Mos → List Mos) → List Mos
@@ -16,8 +16,8 @@ walk next (suc more) m = m ∷ onward (next m) (walk next more)
 
 -- The whole walk of children from m, m itself first: the sum of the steps falls with each.
 unfoldable pub children : Mos → List Mos
-unfolding walk childOf
-children m = walk childOf (steps_of m) m
+unfolding walk child_of
+children m = walk child_of (steps_of m) m
 
 -- The whole walk of parents from m, m itself first: the sum of the counts falls with each.
 unfoldable pub parents : Mos → List Mos
@@ -25,19 +25,19 @@ unfolding walk parent_of
 parents m = walk parent_of (count_of m) m
 
 -- The first pattern with n steps, if there is one ("does the walk meet one with as many steps as the chain has letters").
-abbrev pub firstWith : ℕ → List Mos → Option Mos
-firstWith n [] = none
-firstWith n (m ∷ ms) = elim (eqb (count_of m) n) [ true ↦ some m | false ↦ firstWith n ms ]
+abbrev pub first_with : ℕ → List Mos → Option Mos
+first_with n [] = none
+first_with n (m ∷ ms) = elim (eqb (count_of m) n) [ true ↦ some m | false ↦ first_with n ms ]
 
 -- The last pattern of a walk that begins at m.
-abbrev pub lastAfter : Mos → List Mos → Mos
-lastAfter m [] = m
-lastAfter m (n ∷ ms) = lastAfter n ms
+abbrev pub last_after : Mos → List Mos → Mos
+last_after m [] = m
+last_after m (n ∷ ms) = last_after n ms
 
 -- The genesis of a pattern (`Mos::genesis`): the last of its parents.
-unfoldable pub genesisOf : Mos → Mos
+unfoldable pub genesis_of : Mos → Mos
 unfolding parents
-genesisOf m = lastAfter m (parents m)
+genesis_of m = last_after m (parents m)
 
 -- A listing has four numbers a pattern: both counts, then both steps.
 abbrev pub fields : Mos → List ℕ

@@ -6,11 +6,13 @@
 // Every entry point answers any four numbers; what is no pattern is refused (7).
 // specs/: Patterns, Walks and Coprime define, Answers says what each call answers, here and in `mos_walks` and `mos_listings`, Theorems,
 // Scale and IntervalClasses state what holds of every pattern and every walk. Nothing is assumed.
+#![tactic(auto)]
+
 pub mod coprime;
 pub mod parts;
 
 ghost use Rattle.std.specs.Prelude.{◌≡◌};
-ghost use Rattle.answer.specs.Refusals.{numberOutcome};
+ghost use Rattle.answer.specs.Refusals.{number_outcome};
 ghost use Rattle.mos.specs.Patterns.{
   collapsed,
   primaries,
@@ -19,25 +21,25 @@ ghost use Rattle.mos.specs.Patterns.{
   secondary,
   count_of,
   size_of,
-  childOf,
+  child_of,
   parent_of,
-  dualOf,
-  mirrorOf,
-  sharpnessOf,
-  cyclesOf,
-  reducedSizeOf,
+  dual_of,
+  mirror_of,
+  sharpness_of,
+  cycles_of,
+  reduced_size_of,
   key_at,
 };
 ghost use Rattle.mos.specs.Answers.{
-  ofPattern,
-  newOutcome,
-  genesisOutcome,
-  coprimeOutcome,
-  mosOutcome,
-  walkOutcome,
-  totalOutcome,
-  sharpnessOutcome,
-  keyOutcome,
+  of_pattern,
+  new_outcome,
+  genesis_outcome,
+  coprime_outcome,
+  mos_outcome,
+  walk_outcome,
+  total_outcome,
+  sharpness_outcome,
+  key_outcome,
 };
 
 use answer::{NumberAnswer, Refusal};
@@ -91,7 +93,7 @@ impl Mos {
         primary_step: u16,
         secondary_step: u16,
     ) -> MosAnswer
-        ensures { mosOutcome result ≡ newOutcome num_primary_steps num_secondary_steps primary_step secondary_step }
+        ensures { mos_outcome result ≡ new_outcome num_primary_steps num_secondary_steps primary_step secondary_step }
     {
         let m = Mos {
             num_primary_steps,
@@ -107,7 +109,7 @@ impl Mos {
 
     // The pattern that a generator starts from: one step of its size, and one for the rest of the period (2).
     pub fn new_genesis(period: u16, generator: u16) -> MosAnswer
-        ensures { mosOutcome result ≡ genesisOutcome period generator }
+        ensures { mos_outcome result ≡ genesis_outcome period generator }
     {
         if period == 0 {
             return MosAnswer::Refused(Refusal::Period);
@@ -129,7 +131,7 @@ impl Mos {
 
     // The next finer pattern of the same generator, or none (7).
     pub fn child(self) -> WalkAnswer
-        ensures { walkOutcome result ≡ ofPattern self (childOf self) }
+        ensures { walk_outcome result ≡ of_pattern self (child_of self) }
     {
         if parts::is_pattern(self) {
             if parts::has_child(self) {
@@ -142,7 +144,7 @@ impl Mos {
 
     // The next coarser pattern of the same generator, or none (7).
     pub fn parent(self) -> WalkAnswer
-        ensures { walkOutcome result ≡ ofPattern self (parent_of self) }
+        ensures { walk_outcome result ≡ of_pattern self (parent_of self) }
     {
         if parts::is_pattern(self) {
             if parts::has_parent(self) {
@@ -155,7 +157,7 @@ impl Mos {
 
     // Counts and steps change places (7).
     pub fn dual(self) -> MosAnswer
-        ensures { mosOutcome result ≡ ofPattern self (dualOf self) }
+        ensures { mos_outcome result ≡ of_pattern self (dual_of self) }
     {
         if parts::is_pattern(self) {
             return MosAnswer::Given(parts::dual_of(self));
@@ -165,7 +167,7 @@ impl Mos {
 
     // Primary and secondary change places (7).
     pub fn mirror(self) -> MosAnswer
-        ensures { mosOutcome result ≡ ofPattern self (mirrorOf self) }
+        ensures { mos_outcome result ≡ of_pattern self (mirror_of self) }
     {
         if parts::is_pattern(self) {
             return MosAnswer::Given(Mos {
@@ -180,7 +182,7 @@ impl Mos {
 
     // The period: all steps together (7).
     pub fn size(self) -> NumberAnswer
-        ensures { numberOutcome result ≡ ofPattern self (size_of self) }
+        ensures { number_outcome result ≡ of_pattern self (size_of self) }
     {
         let size = parts::wide_size(self);
         if size <= 65535 {
@@ -191,7 +193,7 @@ impl Mos {
 
     // How many steps there are (7).
     pub fn num_steps(self) -> TotalAnswer
-        ensures { totalOutcome result ≡ ofPattern self (count_of self) }
+        ensures { total_outcome result ≡ of_pattern self (count_of self) }
     {
         if parts::is_pattern(self) {
             return TotalAnswer::Given(parts::count_of(self));
@@ -201,7 +203,7 @@ impl Mos {
 
     // How many primary steps there are (7).
     pub fn num_primary_steps(self) -> NumberAnswer
-        ensures { numberOutcome result ≡ ofPattern self (primaries self) }
+        ensures { number_outcome result ≡ of_pattern self (primaries self) }
     {
         if parts::is_pattern(self) {
             return NumberAnswer::Given(self.num_primary_steps);
@@ -211,7 +213,7 @@ impl Mos {
 
     // How many secondary steps there are (7).
     pub fn num_secondary_steps(self) -> NumberAnswer
-        ensures { numberOutcome result ≡ ofPattern self (secondaries self) }
+        ensures { number_outcome result ≡ of_pattern self (secondaries self) }
     {
         if parts::is_pattern(self) {
             return NumberAnswer::Given(self.num_secondary_steps);
@@ -221,7 +223,7 @@ impl Mos {
 
     // How large a primary step is (7).
     pub fn primary_step(self) -> NumberAnswer
-        ensures { numberOutcome result ≡ ofPattern self (primary self) }
+        ensures { number_outcome result ≡ of_pattern self (primary self) }
     {
         if parts::is_pattern(self) {
             return NumberAnswer::Given(self.primary_step);
@@ -231,7 +233,7 @@ impl Mos {
 
     // How large a secondary step is (7).
     pub fn secondary_step(self) -> NumberAnswer
-        ensures { numberOutcome result ≡ ofPattern self (secondary self) }
+        ensures { number_outcome result ≡ of_pattern self (secondary self) }
     {
         if parts::is_pattern(self) {
             return NumberAnswer::Given(self.secondary_step);
@@ -241,7 +243,7 @@ impl Mos {
 
     // By how much a sharp raises a note; below 0 it lowers it (7).
     pub fn sharpness(self) -> SharpnessAnswer
-        ensures { sharpnessOutcome result ≡ ofPattern self (sharpnessOf self) }
+        ensures { sharpness_outcome result ≡ of_pattern self (sharpness_of self) }
     {
         if parts::is_pattern(self) {
             return SharpnessAnswer::Given(
@@ -253,7 +255,7 @@ impl Mos {
 
     // How many chains of notes there are side by side: the steps' greatest common divisor (7).
     pub fn num_cycles(self) -> NumberAnswer
-        ensures { numberOutcome result ≡ ofPattern self (cyclesOf self) }
+        ensures { number_outcome result ≡ of_pattern self (cycles_of self) }
     {
         if parts::is_pattern(self) {
             return NumberAnswer::Given(math::gcd_u16(self.primary_step, self.secondary_step));
@@ -263,7 +265,7 @@ impl Mos {
 
     // The period of one of these chains (7).
     pub fn reduced_size(self) -> NumberAnswer
-        ensures { numberOutcome result ≡ ofPattern self (reducedSizeOf self) }
+        ensures { number_outcome result ≡ of_pattern self (reduced_size_of self) }
     {
         let size = parts::wide_size(self);
         if size <= 65535 {
@@ -275,7 +277,7 @@ impl Mos {
 
     // The pattern with a secondary step close by that reaches every key (7, 8).
     pub fn coprime(self) -> MosAnswer
-        ensures { mosOutcome result ≡ coprimeOutcome self }
+        ensures { mos_outcome result ≡ coprime_outcome self }
     {
         if parts::is_pattern(self) {
             let m = Mos {
@@ -294,7 +296,7 @@ impl Mos {
 
     // The key at a place of the keyboard: p primary and s secondary steps from the origin, backward where below 0 (7).
     pub fn get_key(self, p: i16, s: i16) -> KeyAnswer
-        ensures { keyOutcome result ≡ ofPattern self (key_at self p s) }
+        ensures { key_outcome result ≡ of_pattern self (key_at self p s) }
     {
         if parts::is_pattern(self) {
             return KeyAnswer::Given(

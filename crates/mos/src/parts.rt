@@ -4,7 +4,7 @@
 // answers that question.
 ghost use Rattle.std.specs.Prelude.{◌≡◌, true, ◌*◌, ◌≤◌, ◌<◌};
 ghost use Rattle.std.proofs.Math.Option.{some};
-ghost use Rattle.mos.specs.Patterns.{size_of, isPattern, count_of, genesis, dualOf, childOf, parent_of};
+ghost use Rattle.mos.specs.Patterns.{size_of, is_pattern, count_of, genesis, dual_of, child_of, parent_of};
 ghost use Rattle.mos.specs.Parts.{is_some};
 
 use crate::Mos;
@@ -24,7 +24,7 @@ pub fn wide_size(m: Mos) -> u64
 
 // Question 7. Both products fit where their sum does.
 pub fn is_pattern(m: Mos) -> bool
-    ensures { result ≡ isPattern m }
+    ensures { result ≡ is_pattern m }
 {
     wide_size(m) <= 65535
 }
@@ -52,7 +52,7 @@ pub fn genesis_of(period: u16, generator: u16) -> Mos
 
 // Counts and steps change places.
 pub fn dual_of(m: Mos) -> Mos
-    ensures { result ≡ dualOf m }
+    ensures { result ≡ dual_of m }
 {
     Mos {
         num_primary_steps: m.primary_step,
@@ -64,7 +64,7 @@ pub fn dual_of(m: Mos) -> Mos
 
 // Is there a child?
 pub fn has_child(m: Mos) -> bool
-    ensures { result ≡ is_some (childOf m) }
+    ensures { result ≡ is_some (child_of m) }
 {
     if m.primary_step == 0 {
         return false;
@@ -77,8 +77,8 @@ pub fn has_child(m: Mos) -> bool
 
 // The child of a pattern that has one.
 pub fn child_of(m: Mos) -> Mos
-    requires { (isPattern m ≡ true) × (is_some (childOf m) ≡ true) }
-    ensures { childOf m ≡ some result }
+    requires { (is_pattern m ≡ true) × (is_some (child_of m) ≡ true) }
+    ensures { child_of m ≡ some result }
 {
     let a = m.num_primary_steps;
     let b = m.num_secondary_steps;
@@ -109,7 +109,7 @@ pub fn has_parent(m: Mos) -> bool
 
 // The parent of a pattern that has one.
 pub fn parent_of(m: Mos) -> Mos
-    requires { (isPattern m ≡ true) × (is_some (parent_of m) ≡ true) }
+    requires { (is_pattern m ≡ true) × (is_some (parent_of m) ≡ true) }
     ensures { parent_of m ≡ some result }
 {
     dual_of(child_of(dual_of(m)))

@@ -22,13 +22,13 @@ use Rattle.mos.specs.Walks as whole-walk
 use Rattle.mos.proofs.Descent as whole-child
 use Rattle.mos.proofs.Sequences as whole-sequence
 use Rattle.mos_fractional.specs.declared.FractionalMos.{FractionalMos}
-use Rattle.mos_fractional.specs.Fractional.{fractional, primaries, secondaries, primary, secondary, count_of, nought, one, firstStep, genesis, childOf}
-use Rattle.mos_fractional.specs.Walk.{onward, children, childrenFrom}
+use Rattle.mos_fractional.specs.Fractional.{fractional, primaries, secondaries, primary, secondary, count_of, nought, one, first_step_of, genesis, child_of}
+use Rattle.mos_fractional.specs.Walk.{onward, children, children_from}
 use Rattle.mos_fractional.specs.WholeParts.{Parts, Same}
 use Rattle.mos_fractional.specs.Parts.{Growing}
-use Rattle.mos_fractional.proofs.Descent.{kept, no-primary, no-secondary, full, longer-primary, longer-secondary, none-longer}
-use Rattle.mos_fractional.proofs.Walking.{growing-genesis, children-follow, growing-child}
-use Rattle.mos_fractional.proofs.Rounding.{round-parts, parts-of, positive-parts, sub_parts, lt-parts}
+use Rattle.mos_fractional.proofs.Descent.{kept, no_primary, no_secondary, full, longer_primary, longer_secondary, none_longer}
+use Rattle.mos_fractional.proofs.Walking.{growing_genesis, children_follow, growing_child}
+use Rattle.mos_fractional.proofs.Rounding.{round_parts, parts_of, positive_parts, sub_parts, lt_parts}
 
 -- ---- zeros
 none_left : (m : ℕ) (e : ℤ) (k : ℕ) → m * up e * 65536 ≡ k * down e → k ≡ 0 → m * up e ≡ 0
@@ -38,22 +38,22 @@ none_left m e k h z =
 some_left : (m : ℕ) (e : ℤ) (k : ℕ) → m * up e * 65536 ≡ k * down e → 0 < k → 0 < m * up e
 some_left m e k h z = first_pos (m * up e) 65536 (subst (λ (x : ℕ). 0 < x) (sym h) (mul-pos z (down_pos e)))
 
-level-zero : (s : Bool) (a b : ℕ) → a ≡ 0 → b ≡ 0 → level s a false b ≡ true
-level-zero true a b h i = simp (h, i)
-level-zero false a b h i = simp (h, i)
+level_zero : (s : Bool) (a b : ℕ) → a ≡ 0 → b ≡ 0 → level s a false b ≡ true
+level_zero true a b h i = simp (h, i)
+level_zero false a b h i = simp (h, i)
 
-level-some : (s : Bool) (a b : ℕ) → 0 < a → b ≡ 0 → level s a false b ≡ false
-level-some s a b h i = simp (ne_eqb a b (λ q. omega arith))
+level_some : (s : Bool) (a b : ℕ) → 0 < a → b ≡ 0 → level s a false b ≡ false
+level_some s a b h i = simp (ne_eqb a b (λ q. omega arith))
 
 -- a step is 0 where the whole-number step is
-pub eq-parts : (x : Float) (k : ℕ) → Parts x k → eq x nought ≡ eqb k 0
+pub eq_parts : (x : Float) (k : ℕ) → Parts x k → eq x nought ≡ eqb k 0
 unfolding eq
-eq-parts nan k h = absurd h
-eq-parts (inf s) k h = absurd h
-eq-parts (fin s m e) zero h =
-    level-zero s (m * up e * 1) (0 * 1 * down e) (mul-one (m * up e) ∙ none_left m e 0 h.0 refl) (zero-mul (down e))
-eq-parts (fin s m e) (suc k) h =
-    level-some s (m * up e * 1) (0 * 1 * down e)
+eq_parts nan k h = absurd h
+eq_parts (inf s) k h = absurd h
+eq_parts (fin s m e) zero h =
+    level_zero s (m * up e * 1) (0 * 1 * down e) (mul-one (m * up e) ∙ none_left m e 0 h.0 refl) (zero-mul (down e))
+eq_parts (fin s m e) (suc k) h =
+    level_some s (m * up e * 1) (0 * 1 * down e)
     (lt_of_lt_of_le (some_left m e (suc k) h.0 (omega arith)) (le_of_eq (sym (mul-one (m * up e))))) (zero-mul (down e))
     ∙ sym (eqb-suc-zero k)
 
@@ -62,11 +62,11 @@ below_none true a b h z = le-ltb 0 (a + b) (let y : a ≡ 0 = z refl in omega ar
 below_none false a b h z = le-ltb a b (omega arith)
 
 -- no step is below 0
-pub not-below : (x : Float) (k : ℕ) → Parts x k → lt x nought ≡ false
+pub not_below : (x : Float) (k : ℕ) → Parts x k → lt x nought ≡ false
 unfolding lt
-not-below nan k h = absurd h
-not-below (inf s) k h = absurd h
-not-below (fin s m e) k h =
+not_below nan k h = absurd h
+not_below (inf s) k h = absurd h
+not_below (fin s m e) k h =
     below_none s (m * up e * 1) (0 * 1 * down e) (zero-mul (down e)) (λ q. mul-one (m * up e) ∙ none_left m e k h.0 (h.1 q))
 
 -- ---- the genesis
@@ -76,50 +76,50 @@ sign_of (inf s) = s
 sign_of (fin s m e) = s
 
 -- the remainder of what is below 1
-rem-small : (s : Bool) (m : ℕ) (e : ℤ) → m * up e < down e → rem binary64 (fin s m e) one ≡ round binary64 s (m * up e) (down e)
+rem_small : (s : Bool) (m : ℕ) (e : ℤ) → m * up e < down e → rem binary64 (fin s m e) one ≡ round binary64 s (m * up e) (down e)
 unfolding rem
-rem-small s m e h = simp (mul-one, one-mul, mod-eq_of_lt h)
+rem_small s m e h = simp (mul-one, one-mul, mod-eq_of_lt h)
 
 rem_parts : (x : Float) (k : ℕ) → Parts x k → k < 65536 → Parts (rem binary64 x one) k
 rem_parts nan k h l = absurd h
 rem_parts (inf s) k h l = absurd h
 rem_parts (fin s m e) k h l =
     let small : m * up e < down e = lt_of_mul-lt-mul_right 65536 (lt_of_le_of_lt (le_of_eq h.0) (lt_of_lt_of_le (mul-lt-mul_of_pos_right l (down_pos e)) (le_of_eq (mul_comm 65536 (down e))))) in
-    subst (λ (z : Float). Parts z k) (sym (rem-small s m e small))
-    (parts-of (round binary64 s (m * up e) (down e)) s k (round-parts s (m * up e) (down e) k (down_pos e) (le_of_lt l) h.0) h.1)
+    subst (λ (z : Float). Parts z k) (sym (rem_small s m e small))
+    (parts_of (round binary64 s (m * up e) (down e)) s k (round_parts s (m * up e) (down e) k (down_pos e) (le_of_lt l) h.0) h.1)
 
 -- 1 less a zero of either sign
 from_one : (m : ℕ) (e : ℤ) → m * up e ≡ 0 → sub binary64 one (fin true m e) ≡ round binary64 false (down e) (down e)
 unfolding sub add neg sum
 from_one m e h = simp (one-mul, mul-one, h, add-zero)
 
-rest-parts : (x : Float) (k : ℕ) → Parts x k → k < 65536 → Parts (sub binary64 one x) (65536 - k)
-rest-parts nan k h l = absurd h
-rest-parts (inf s) k h l = absurd h
-rest-parts (fin false m e) k h l =
-    parts-of (sub binary64 one (fin false m e)) false (65536 - k)
+rest_parts : (x : Float) (k : ℕ) → Parts x k → k < 65536 → Parts (sub binary64 one x) (65536 - k)
+rest_parts nan k h l = absurd h
+rest_parts (inf s) k h l = absurd h
+rest_parts (fin false m e) k h l =
+    parts_of (sub binary64 one (fin false m e)) false (65536 - k)
     (sub_parts one (fin false m e) 65536 k (refl, refl) (refl, h.0) (le_of_lt l) (le_of_eq refl))
     (λ q. absurd (let z : ◌≡◌ {A = ℕ} 0 1 = cc in omega arith))
-rest-parts (fin true m e) k h l =
+rest_parts (fin true m e) k h l =
     let z : k ≡ 0 = h.1 refl in
     subst (λ (y : Float). Parts y (65536 - k)) (sym (from_one m e (none_left m e k h.0 z)))
     (subst (λ (n : ℕ). Parts (round binary64 false (down e) (down e)) n) (let w : 65536 ≡ 65536 - k = omega arith in w)
-    (parts-of (round binary64 false (down e) (down e)) false 65536
-    (round-parts false (down e) (down e) 65536 (down_pos e) (le_of_eq refl) (mul_comm (down e) 65536))
+    (parts_of (round binary64 false (down e) (down e)) false 65536
+    (round_parts false (down e) (down e) 65536 (down_pos e) (le_of_eq refl) (mul_comm (down e) 65536))
     (λ q. absurd (let y : ◌≡◌ {A = ℕ} 0 1 = cc in omega arith))))
 
-pub genesis-same : (g : Float) (k : ℕ) → Parts g k → k < 65536 → Same (genesis g) (whole.genesis 65536 k)
+pub genesis_same : (g : Float) (k : ℕ) → Parts g k → k < 65536 → Same (genesis g) (whole.genesis 65536 k)
 unfolding genesis
-genesis-same g k h l =
+genesis_same g k h l =
     let r : Parts (rem binary64 g one) k = rem_parts g k h l in
-    let f : firstStep g ≡ rem binary64 g one = kept g (not-below (rem binary64 g one) k r) in
-    let a : Parts (firstStep g) k = subst (λ (z : Float). Parts z k) (sym f) r in
+    let f : first_step_of g ≡ rem binary64 g one = kept g (not_below (rem binary64 g one) k r) in
+    let a : Parts (first_step_of g) k = subst (λ (z : Float). Parts z k) (sym f) r in
     let e : k % 65536 ≡ k = mod-eq_of_lt l in
     record {
       first_count = refl;
-      second-count = refl;
-      first_step = subst (λ (n : ℕ). Parts (firstStep g) n) (sym e) a;
-      second-step = subst (λ (n : ℕ). Parts (sub binary64 one (firstStep g)) (65536 - n)) (sym e) (rest-parts (firstStep g) k a l);
+      second_count = refl;
+      first_step = subst (λ (n : ℕ). Parts (first_step_of g) n) (sym e) a;
+      second_step = subst (λ (n : ℕ). Parts (sub binary64 one (first_step_of g)) (65536 - n)) (sym e) (rest_parts (first_step_of g) k a l);
     }
 
 -- ---- the child
@@ -149,10 +149,10 @@ not_full m z p s a b d = go (ltb 65535 (whole.primaries m + whole.secondaries m)
             (arith, ltb-true 65535 (whole.primaries m + whole.secondaries m) q, le-mul_of_pos_right (whole.secondaries m) b, mul-le-mul_left (whole.primaries m) two))
 
 -- a step of a pattern of this size is at most 65,536
-step-bound : (m : Mos) → whole.size_of m ≡ 65536 → 0 < whole.primaries m → 0 < whole.secondaries m
+step_bound : (m : Mos) → whole.size_of m ≡ 65536 → 0 < whole.primaries m → 0 < whole.secondaries m
     → (whole.primary m ≤ 65536) × (whole.secondary m ≤ 65536)
 unfolding whole.size_of
-step-bound m z p s =
+step_bound m z p s =
     let a : whole.primary m ≤ whole.primaries m * whole.primary m = le_trans (le-mul_of_pos_right (whole.primary m) p) (le_of_eq (mul_comm (whole.primary m) (whole.primaries m))) in
     let b : whole.secondary m ≤ whole.secondaries m * whole.secondary m = le_trans (le-mul_of_pos_right (whole.secondary m) s) (le_of_eq (mul_comm (whole.secondary m) (whole.secondaries m))) in
     (omega arith, omega arith)
@@ -178,74 +178,74 @@ module _ (x : FractionalMos) (m : Mos) (along : Along x m) where
   s = whole.secondary m
 
   counts : (0 < whole.primaries m) × (0 < whole.secondaries m)
-  counts = (omega (arith, along.growing.0, along.same.first_count), omega (arith, along.growing.1, along.same.second-count))
+  counts = (omega (arith, along.growing.0, along.same.first_count), omega (arith, along.growing.1, along.same.second_count))
 
-  positive-primary : 0 < p → HasValue (primary x) false p 65536
-  positive-primary h = positive-parts (primary x) p along.same.first_step h
+  positive_primary : 0 < p → HasValue (primary x) false p 65536
+  positive_primary h = positive_parts (primary x) p along.same.first_step h
 
-  positive-secondary : 0 < s → HasValue (secondary x) false s 65536
-  positive-secondary h = positive-parts (secondary x) s along.same.second-step h
+  positive_secondary : 0 < s → HasValue (secondary x) false s 65536
+  positive_secondary h = positive_parts (secondary x) s along.same.second_step h
 
-  some-primary : 0 < p → eq (primary x) nought ≡ false
-  some-primary h = eq-parts (primary x) p along.same.first_step ∙ ne_eqb p 0 (λ q. omega arith)
+  some_primary : 0 < p → eq (primary x) nought ≡ false
+  some_primary h = eq_parts (primary x) p along.same.first_step ∙ ne_eqb p 0 (λ q. omega arith)
 
-  some-secondary : 0 < s → eq (secondary x) nought ≡ false
-  some-secondary h = eq-parts (secondary x) s along.same.second-step ∙ ne_eqb s 0 (λ q. omega arith)
+  some_secondary : 0 < s → eq (secondary x) nought ≡ false
+  some_secondary h = eq_parts (secondary x) s along.same.second_step ∙ ne_eqb s 0 (λ q. omega arith)
 
-  not-cut : 0 < p → 0 < s → (p ≡ s → ⊥) → count_of x ≤ 65535
-  not-cut a b d = omega (arith, not_full m along.size counts.0 counts.1 a b d, along.same.first_count, along.same.second-count)
+  not_cut : 0 < p → 0 < s → (p ≡ s → ⊥) → count_of x ≤ 65535
+  not_cut a b d = omega (arith, not_full m along.size counts.0 counts.1 a b d, along.same.first_count, along.same.second_count)
 
-  child-same : {o : Option Mos} → whole-child.Child m o → SameChild (childOf x) o
-  child-same (whole-child.longer-primary b l) =
+  child_same : {o : Option Mos} → whole-child.Child m o → SameChild (child_of x) o
+  child_same (whole-child.longer_primary b l) =
       let a : 0 < p = omega arith in
-      let A = positive-primary a in
-      let B = positive-secondary b in
+      let A = positive_primary a in
+      let B = positive_secondary b in
       subst (λ (o : Option FractionalMos). SameChild o (some (whole.mos (whole.primaries m) (whole.count_of m) (p - s) s)))
-      (longer-primary x (some-primary a) (some-secondary b) (not-cut a b (λ q. omega arith))
-      (lt-parts (secondary x) (primary x) s p B A ∙ lt-ltb s p l))
+      (longer_primary x (some_primary a) (some_secondary b) (not_cut a b (λ q. omega arith))
+      (lt_parts (secondary x) (primary x) s p B A ∙ lt-ltb s p l))
       (record {
         first_count = along.same.first_count;
-        second-count = omega (arith, along.same.first_count, along.same.second-count);
+        second_count = omega (arith, along.same.first_count, along.same.second_count);
         first_step =
-            parts-of (sub binary64 (primary x) (secondary x)) false (p - s)
-            (sub_parts (primary x) (secondary x) p s A B (le_of_lt l) (step-bound m along.size counts.0 counts.1).0)
+            parts_of (sub binary64 (primary x) (secondary x)) false (p - s)
+            (sub_parts (primary x) (secondary x) p s A B (le_of_lt l) (step_bound m along.size counts.0 counts.1).0)
             (λ q. absurd (let y : ◌≡◌ {A = ℕ} 0 1 = cc in omega arith));
-        second-step = along.same.second-step;
+        second_step = along.same.second_step;
       })
-  child-same (whole-child.longer-secondary a l) =
+  child_same (whole-child.longer_secondary a l) =
       let b : 0 < s = omega arith in
-      let A = positive-primary a in
-      let B = positive-secondary b in
+      let A = positive_primary a in
+      let B = positive_secondary b in
       subst (λ (o : Option FractionalMos). SameChild o (some (whole.mos (whole.count_of m) (whole.secondaries m) p (s - p))))
-      (longer-secondary x (some-primary a) (some-secondary b) (not-cut a b (λ q. omega arith))
-      (lt-parts (secondary x) (primary x) s p B A ∙ le-ltb s p (le_of_lt l))
-      (lt-parts (primary x) (secondary x) p s A B ∙ lt-ltb p s l))
+      (longer_secondary x (some_primary a) (some_secondary b) (not_cut a b (λ q. omega arith))
+      (lt_parts (secondary x) (primary x) s p B A ∙ le-ltb s p (le_of_lt l))
+      (lt_parts (primary x) (secondary x) p s A B ∙ lt-ltb p s l))
       (record {
-        first_count = omega (arith, along.same.first_count, along.same.second-count);
-        second-count = along.same.second-count;
+        first_count = omega (arith, along.same.first_count, along.same.second_count);
+        second_count = along.same.second_count;
         first_step = along.same.first_step;
-        second-step =
-            parts-of (sub binary64 (secondary x) (primary x)) false (s - p)
-            (sub_parts (secondary x) (primary x) s p B A (le_of_lt l) (step-bound m along.size counts.0 counts.1).1)
+        second_step =
+            parts_of (sub binary64 (secondary x) (primary x)) false (s - p)
+            (sub_parts (secondary x) (primary x) s p B A (le_of_lt l) (step_bound m along.size counts.0 counts.1).1)
             (λ q. absurd (let y : ◌≡◌ {A = ℕ} 0 1 = cc in omega arith));
       })
-  child-same (whole-child.no-child h) = subst (λ (o : Option FractionalMos). SameChild o none) (go (eqb p 0) refl (eqb s 0) refl) tt
+  child_same (whole-child.no_child h) = subst (λ (o : Option FractionalMos). SameChild o none) (go (eqb p 0) refl (eqb s 0) refl) tt
     where
-      go : (u : Bool) → eqb p 0 ≡ u → (v : Bool) → eqb s 0 ≡ v → none ≡ childOf x
-      go true e v f = no-primary x (eq-parts (primary x) p along.same.first_step ∙ e)
+      go : (u : Bool) → eqb p 0 ≡ u → (v : Bool) → eqb s 0 ≡ v → none ≡ child_of x
+      go true e v f = no_primary x (eq_parts (primary x) p along.same.first_step ∙ e)
       go false e true f =
-          no-secondary x (eq-parts (primary x) p along.same.first_step ∙ e) (eq-parts (secondary x) s along.same.second-step ∙ f)
+          no_secondary x (eq_parts (primary x) p along.same.first_step ∙ e) (eq_parts (secondary x) s along.same.second_step ∙ f)
       go false e false f = equal (pos_of_ne-zero (eqb-false _ _ e)) (pos_of_ne-zero (eqb-false _ _ f))
         where
-          equal : 0 < p → 0 < s → none ≡ childOf x
-          equal a b = full-or (ltb 65535 (count_of x)) refl
+          equal : 0 < p → 0 < s → none ≡ child_of x
+          equal a b = full_or (ltb 65535 (count_of x)) refl
             where
-              full-or : (t : Bool) → ltb 65535 (count_of x) ≡ t → none ≡ childOf x
-              full-or true w = full x (some-primary a) (some-secondary b) (ltb-true 65535 (count_of x) w)
-              full-or false w =
-                  none-longer x (some-primary a) (some-secondary b) (ltb-false 65535 (count_of x) w)
-                  (lt-parts (secondary x) (primary x) s p (positive-secondary b) (positive-primary a) ∙ le-ltb s p (le_of_eq (h a b)))
-                  (lt-parts (primary x) (secondary x) p s (positive-primary a) (positive-secondary b) ∙ le-ltb p s (le_of_eq (sym (h a b))))
+              full_or : (t : Bool) → ltb 65535 (count_of x) ≡ t → none ≡ child_of x
+              full_or true w = full x (some_primary a) (some_secondary b) (ltb-true 65535 (count_of x) w)
+              full_or false w =
+                  none_longer x (some_primary a) (some_secondary b) (ltb-false 65535 (count_of x) w)
+                  (lt_parts (secondary x) (primary x) s p (positive_secondary b) (positive_primary a) ∙ le-ltb s p (le_of_eq (h a b)))
+                  (lt_parts (primary x) (secondary x) p s (positive_primary a) (positive_secondary b) ∙ le-ltb p s (le_of_eq (sym (h a b))))
 
 -- ---- the walk
 
@@ -256,7 +256,7 @@ SameWalk [] (m ∷ ms) = ⊥
 SameWalk (x ∷ xs) [] = ⊥
 SameWalk (x ∷ xs) (m ∷ ms) = Same x m × SameWalk xs ms
 
-same_rest : (x : FractionalMos) (m : Mos) → Along x m → (o : Option FractionalMos) (w : Option Mos) → childOf x ≡ o → whole.childOf m ≡ w
+same_rest : (x : FractionalMos) (m : Mos) → Along x m → (o : Option FractionalMos) (w : Option Mos) → child_of x ≡ o → whole.child_of m ≡ w
     → SameChild o w
     → ((y : FractionalMos) (c : Mos) → Along y c → whole.steps_of c < whole.steps_of m → SameWalk (children y) (whole-walk.children c))
     → SameWalk (onward o children) (whole-walk.onward w whole-walk.children)
@@ -265,37 +265,37 @@ same_rest x m along none (some c) e f h ih = absurd h
 same_rest x m along (some y) none e f h ih = absurd h
 same_rest x m along (some y) (some c) e f h ih =
     ih y c
-    (record { same = h; size = whole-child.child-keeps-size (whole-child.child-at f) ∙ along.size; growing = growing-child x y along.growing e })
-    (whole-child.child-falls (whole-child.child-at f))
+    (record { same = h; size = whole-child.child_keeps_size (whole-child.child_at f) ∙ along.size; growing = growing_child x y along.growing e })
+    (whole-child.child_falls (whole-child.child_at f))
 
 -- by the fall of the whole-number steps
 walk_step : (x : FractionalMos) (m : Mos) → Along x m
     → ((y : FractionalMos) (c : Mos) → Along y c → whole.steps_of c < whole.steps_of m → SameWalk (children y) (whole-walk.children c))
     → SameWalk (children x) (whole-walk.children m)
 walk_step x m along ih =
-    subst (λ (xs : List FractionalMos). SameWalk xs (whole-walk.children m)) (sym (children-follow x along.growing))
-    (subst (λ (ms : List Mos). SameWalk (x ∷ onward (childOf x) children) ms) (sym (whole-sequence.children-follow m))
-    (along.same, same_rest x m along (childOf x) (whole.childOf m) refl refl (child-same x m along (whole-child.child-view m)) ih))
+    subst (λ (xs : List FractionalMos). SameWalk xs (whole-walk.children m)) (sym (children_follow x along.growing))
+    (subst (λ (ms : List Mos). SameWalk (x ∷ onward (child_of x) children) ms) (sym (whole-sequence.children_follow m))
+    (along.same, same_rest x m along (child_of x) (whole.child_of m) refl refl (child_same x m along (whole-child.child_view m)) ih))
 
-walk-within : (k : ℕ) (x : FractionalMos) (m : Mos) → Along x m → whole.steps_of m ≤ k → SameWalk (children x) (whole-walk.children m)
-walk-within zero x m along l = walk_step x m along (λ y c a f. absurd (let z : ⊥ = omega arith in z))
-walk-within (suc k) x m along l = walk_step x m along (λ y c a f. walk-within k y c a (omega arith))
+walk_within : (k : ℕ) (x : FractionalMos) (m : Mos) → Along x m → whole.steps_of m ≤ k → SameWalk (children x) (whole-walk.children m)
+walk_within zero x m along l = walk_step x m along (λ y c a f. absurd (let z : ⊥ = omega arith in z))
+walk_within (suc k) x m along l = walk_step x m along (λ y c a f. walk_within k y c a (omega arith))
 
-genesis-size : (k : ℕ) → whole.size_of (whole.genesis 65536 k) ≡ 65536
+genesis_size : (k : ℕ) → whole.size_of (whole.genesis 65536 k) ≡ 65536
 unfolding whole.size_of
-genesis-size k = omega arith
+genesis_size k = omega arith
 
-walk_same : (g : Float) (k : ℕ) → Parts g k → k < 65536 → SameWalk (childrenFrom g) (whole-walk.children (whole.genesis 65536 k))
+walk_same : (g : Float) (k : ℕ) → Parts g k → k < 65536 → SameWalk (children_from g) (whole-walk.children (whole.genesis 65536 k))
 walk_same g k h l =
-    walk-within _ (genesis g) (whole.genesis 65536 k)
-    (record { same = genesis-same g k h l; size = genesis-size k; growing = growing-genesis g }) (le_refl _)
+    walk_within _ (genesis g) (whole.genesis 65536 k)
+    (record { same = genesis_same g k h l; size = genesis_size k; growing = growing_genesis g }) (le_refl _)
 
 -- ---- what it says of the patterns
-length-same : (xs : List FractionalMos) (ms : List Mos) → SameWalk xs ms → length xs ≡ length ms
-length-same [] [] h = refl
-length-same [] (m ∷ ms) h = absurd h
-length-same (x ∷ xs) [] h = absurd h
-length-same (x ∷ xs) (m ∷ ms) h = ap suc (length-same xs ms h.1)
+length_same : (xs : List FractionalMos) (ms : List Mos) → SameWalk xs ms → length xs ≡ length ms
+length_same [] [] h = refl
+length_same [] (m ∷ ms) h = absurd h
+length_same (x ∷ xs) [] h = absurd h
+length_same (x ∷ xs) (m ∷ ms) h = ap suc (length_same xs ms h.1)
 
 at_same : (xs : List FractionalMos) (ms : List Mos) → SameWalk xs ms → (j : ℕ) (x : FractionalMos) (m : Mos) → get_elem? xs j ≡ some x
     → get_elem? ms j ≡ some m → Same x m
@@ -308,9 +308,9 @@ at_same (y ∷ xs) (c ∷ ms) h zero x m e f =
 at_same (y ∷ xs) (c ∷ ms) h (suc j) x m e f = at_same xs ms h.1 j x m e f
 
 module _ (g : Float) (k : ℕ) (h : Parts g k) (l : k < 65536) where
-  pub walks-equally-long : length (childrenFrom g) ≡ length (whole-walk.children (whole.genesis 65536 k))
-  walks-equally-long = length-same (childrenFrom g) (whole-walk.children (whole.genesis 65536 k)) (walk_same g k h l)
+  pub walks_equally_long : length (children_from g) ≡ length (whole-walk.children (whole.genesis 65536 k))
+  walks_equally_long = length_same (children_from g) (whole-walk.children (whole.genesis 65536 k)) (walk_same g k h l)
 
-  pub patterns-agree : (j : ℕ) (x : FractionalMos) (m : Mos) → get_elem? (childrenFrom g) j ≡ some x
+  pub patterns_agree : (j : ℕ) (x : FractionalMos) (m : Mos) → get_elem? (children_from g) j ≡ some x
       → get_elem? (whole-walk.children (whole.genesis 65536 k)) j ≡ some m → Same x m
-  patterns-agree = at_same (childrenFrom g) (whole-walk.children (whole.genesis 65536 k)) (walk_same g k h l)
+  patterns_agree = at_same (children_from g) (whole-walk.children (whole.genesis 65536 k)) (walk_same g k h l)

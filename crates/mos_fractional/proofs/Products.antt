@@ -14,7 +14,7 @@ use lib.Ieee.Fits.{down_pos, of_int-fits, mul-fits}
 use lib.Ieee.Back.{round_whole, whole_unique}
 use Rattle.mos_fractional.specs.WholeParts.{Parts}
 use Rattle.mos_fractional.specs.Theorems.{scale}
-use Rattle.mos_fractional.proofs.Rounding.{round-parts, parts-of, positive-parts}
+use Rattle.mos_fractional.proofs.Rounding.{round_parts, parts_of, positive_parts}
 
 div_parts : (x : Float) (k : ℕ) → HasValue x false k 1 → k ≤ 65536 → HasValue (div binary64 x scale) false k 65536
 unfolding div
@@ -22,17 +22,17 @@ div_parts nan k h l = absurd h
 div_parts (inf s) k h l = absurd h
 div_parts (fin true m e) k h l = absurd (let z : ◌≡◌ {A = ℕ} 0 1 = cc h.0 in omega arith)
 div_parts (fin false m e) k h l =
-    round-parts false (m * up e * 1) (1 * 65536 * down e) k (mul-pos (lit< {m = 0} {n = 65536} tt) (down_pos e)) l
+    round_parts false (m * up e * 1) (1 * 65536 * down e) k (mul-pos (lit< {m = 0} {n = 65536} tt) (down_pos e)) l
     (ap (λ (x : ℕ). x * 65536) h.1 ∙ mul_assoc k (down e) 65536 ∙ ap (λ (x : ℕ). k * x) (mul_comm (down e) 65536))
 
-of-int : (k : ℕ) → k ≤ 65536 → HasValue (of_int binary64 (pos k)) false k 1
+of_int : (k : ℕ) → k ≤ 65536 → HasValue (of_int binary64 (pos k)) false k 1
 unfolding of_int
-of-int k l = round_whole binary64 false k (le_trans l (lit≤ tt))
+of_int k l = round_whole binary64 false k (le_trans l (lit≤ tt))
 
-pub generator-of : (k : ℕ) → k < 65536 → Parts (div binary64 (of_int binary64 (pos k)) scale) k
-generator-of k l =
-    parts-of (div binary64 (of_int binary64 (pos k)) scale) false k
-    (div_parts (of_int binary64 (pos k)) k (of-int k (le_of_lt l)) (le_of_lt l)) (λ q. absurd (let z : ◌≡◌ {A = ℕ} 0 1 = cc in omega arith))
+pub generator_of_lem : (k : ℕ) → k < 65536 → Parts (div binary64 (of_int binary64 (pos k)) scale) k
+generator_of_lem k l =
+    parts_of (div binary64 (of_int binary64 (pos k)) scale) false k
+    (div_parts (of_int binary64 (pos k)) k (of_int k (le_of_lt l)) (le_of_lt l)) (λ q. absurd (let z : ◌≡◌ {A = ℕ} 0 1 = cc in omega arith))
 
 pub times : (x : Float) (k : ℕ) → HasValue x false k 65536 → mul binary64 x scale ≡ of_int binary64 (pos k)
 unfolding mul of_int

@@ -52,20 +52,20 @@ places s m e h =
     (and_r (eqb (suc m % 2) 1 && ltb (suc m) (2 ^ 53)) (leb (down e) (2 ^ 1074))
     (and_l (eqb (suc m % 2) 1 && ltb (suc m) (2 ^ 53) && leb (down e) (2 ^ 1074)) (ltb (suc m * up e) (2 ^ 1024 * down e)) h))
 
-zero-form : (s : Bool) (e : ℤ) → T (fits binary64 (fin s zero e)) → up e * down e ≡ 1
+zero_form : (s : Bool) (e : ℤ) → T (fits binary64 (fin s zero e)) → up e * down e ≡ 1
 unfolding fits
-zero-form s e h = eqb→eq (up e * down e) 1 h
+zero_form s e h = eqb→eq (up e * down e) 1 h
 
-pub rem-exact : (s : Bool) (m : ℕ) (e : ℤ) → T (fits binary64 (fin s m e))
+pub rem_exact : (s : Bool) (m : ℕ) (e : ℤ) → T (fits binary64 (fin s m e))
     → HasValue (rem binary64 (fin s m e) one) s (m * up e % down e) (down e)
-rem-exact s m (pos k) h =
+rem_exact s m (pos k) h =
     subst (λ (z : Float). HasValue z s (m * 2 ^ k % 1) 1) (sym (rem_is s m (pos k)))
     (small s (m * 2 ^ k % 1) 0 (lt_of_le_of_lt (let y : m * 2 ^ k % 1 ≤ 0 = omega arith in y) (lit< tt)) (lit≤ tt))
-rem-exact s zero (negsuc k) h =
+rem_exact s zero (negsuc k) h =
     subst (λ (z : Float). HasValue z s (0 * 1 % 2 ^ suc k) (2 ^ suc k)) (sym (rem_is s zero (negsuc k)))
     (small s (0 * 1 % 2 ^ suc k) (suc k) (lt_of_le_of_lt (mod-le (0 * 1) (2 ^ suc k)) (lit< tt))
-    (exponent (suc k) (le_trans (le_of_eq (sym (one-mul (2 ^ suc k)) ∙ zero-form s (negsuc k) h)) (pow_pos 1074))))
-rem-exact s (suc m) (negsuc k) h =
+    (exponent (suc k) (le_trans (le_of_eq (sym (one-mul (2 ^ suc k)) ∙ zero_form s (negsuc k) h)) (pow_pos 1074))))
+rem_exact s (suc m) (negsuc k) h =
     subst (λ (z : Float). HasValue z s (suc m * 1 % 2 ^ suc k) (2 ^ suc k)) (sym (rem_is s (suc m) (negsuc k)))
     (small s (suc m * 1 % 2 ^ suc k) (suc k)
     (lt_of_le_of_lt (mod-le (suc m * 1) (2 ^ suc k))

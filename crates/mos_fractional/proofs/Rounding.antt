@@ -30,23 +30,23 @@ rescale (fin t m e) s w l num den p h v = (
 )
 
 -- a fraction that is k 65,536ths is rounded to itself
-pub round-parts : (s : Bool) (num den k : ℕ) → 0 < den → k ≤ 65536 → num * 65536 ≡ k * den → HasValue (round binary64 s num den) s k 65536
-round-parts s num den k D K h =
+pub round_parts : (s : Bool) (num den k : ℕ) → 0 < den → k ≤ 65536 → num * 65536 ≡ k * den → HasValue (round binary64 s num den) s k 65536
+round_parts s num den k D K h =
     rescale (round binary64 s num den) s num den k 65536 D (sym h)
     (round_exact binary64 s num den k 1058 D (lt_of_le_of_lt K (lit< tt))
     (lt_of_le_of_lt (mul-le-mul_right (2 ^ 1058) K) (lit< tt))
     (sym (mul_assoc num 65536 (2 ^ 1058)) ∙ ap (λ (x : ℕ). x * 2 ^ 1058) h ∙ mul_right_comm k den (2 ^ 1058)))
 
-pub parts-of : (x : Float) (s : Bool) (k : ℕ) → HasValue x s k 65536 → (s ≡ true → k ≡ 0) → Parts x k
-parts-of nan s k h z = absurd h
-parts-of (inf t) s k h z = absurd h
-parts-of (fin t m e) s k h z = (h.1, λ q. z (sym h.0 ∙ q))
+pub parts_of : (x : Float) (s : Bool) (k : ℕ) → HasValue x s k 65536 → (s ≡ true → k ≡ 0) → Parts x k
+parts_of nan s k h z = absurd h
+parts_of (inf t) s k h z = absurd h
+parts_of (fin t m e) s k h z = (h.1, λ q. z (sym h.0 ∙ q))
 
-pub positive-parts : (x : Float) (k : ℕ) → Parts x k → 0 < k → HasValue x false k 65536
-positive-parts nan k h z = absurd h
-positive-parts (inf t) k h z = absurd h
-positive-parts (fin true m e) k h z = absurd (let n : k ≡ 0 = h.1 refl in omega arith)
-positive-parts (fin false m e) k h z = (refl, h.0)
+pub positive_parts : (x : Float) (k : ℕ) → Parts x k → 0 < k → HasValue x false k 65536
+positive_parts nan k h z = absurd h
+positive_parts (inf t) k h z = absurd h
+positive_parts (fin true m e) k h z = absurd (let n : k ≡ 0 = h.1 refl in omega arith)
+positive_parts (fin false m e) k h z = (refl, h.0)
 
 -- ---- two values at a common denominator
 module _ (m : ℕ) (e : ℤ) (n : ℕ) (d : ℤ) (a b : ℕ) (h : m * up e * 65536 ≡ a * down e) (i : n * up d * 65536 ≡ b * down d) where
@@ -61,12 +61,12 @@ module _ (m : ℕ) (e : ℤ) (n : ℕ) (d : ℤ) (a b : ℕ) (h : m * up e * 655
   common : 0 < down e * down d
   common = mul-pos (down_pos e) (down_pos d)
 
-  keeps-le : a ≤ b → m * up e * down d ≤ n * up d * down e
-  keeps-le k =
+  keeps_le : a ≤ b → m * up e * down d ≤ n * up d * down e
+  keeps_le k =
       le_of_mul-le-mul_right (le_trans (le_of_eq left) (le_trans (mul-le-mul_right (down e * down d) k) (le_of_eq (sym right)))) (lit< tt)
 
-  keeps-lt : a < b → m * up e * down d < n * up d * down e
-  keeps-lt k =
+  keeps_lt : a < b → m * up e * down d < n * up d * down e
+  keeps_lt k =
       lt_of_mul-lt-mul_right 65536
       (lt_of_le_of_lt (le_of_eq left) (lt_of_lt_of_le (mul-lt-mul_of_pos_right k common) (le_of_eq (sym right))))
 
@@ -83,9 +83,9 @@ module _ (m : ℕ) (e : ℤ) (n : ℕ) (d : ℤ) (a b : ℕ) (h : m * up e * 655
 
 -- ---- the operations
 -- a sum of unlike signs, the first no smaller
-take-off : (a b c : ℕ) → b ≤ a → sum binary64 false a true b c ≡ round binary64 false (a - b) c
+take_off : (a b c : ℕ) → b ≤ a → sum binary64 false a true b c ≡ round binary64 false (a - b) c
 unfolding sum
-take-off a b c h = simp (le-ltb a b h)
+take_off a b c h = simp (le-ltb a b h)
 
 pub sub_parts : (x y : Float) (a b : ℕ) → HasValue x false a 65536 → HasValue y false b 65536 → b ≤ a → a ≤ 65536
     → HasValue (sub binary64 x y) false (a - b) 65536
@@ -98,20 +98,20 @@ sub_parts (fin true m e) (fin t n d) a b h i l k = absurd (let z : ◌≡◌ {A 
 sub_parts (fin false m e) (fin true n d) a b h i l k = absurd (let z : ◌≡◌ {A = ℕ} 0 1 = cc i.0 in omega arith)
 sub_parts (fin false m e) (fin false n d) a b h i l k =
     subst (λ (z : Float). HasValue z false (a - b) 65536)
-    (sym (take-off (m * up e * down d) (n * up d * down e) (down e * down d) (keeps-le n d m e b a i.1 h.1 l)))
-    (round-parts false (m * up e * down d - n * up d * down e) (down e * down d) (a - b) (common m e n d a b h.1 i.1) (omega arith)
+    (sym (take_off (m * up e * down d) (n * up d * down e) (down e * down d) (keeps_le n d m e b a i.1 h.1 l)))
+    (round_parts false (m * up e * down d - n * up d * down e) (down e * down d) (a - b) (common m e n d a b h.1 i.1) (omega arith)
     (difference m e n d a b h.1 i.1))
 
-pub lt-parts : (x y : Float) (a b : ℕ) → HasValue x false a 65536 → HasValue y false b 65536 → lt x y ≡ ltb a b
+pub lt_parts : (x y : Float) (a b : ℕ) → HasValue x false a 65536 → HasValue y false b 65536 → lt x y ≡ ltb a b
 unfolding lt
-lt-parts nan y a b h i = absurd h
-lt-parts (inf s) y a b h i = absurd h
-lt-parts (fin s m e) nan a b h i = absurd i
-lt-parts (fin s m e) (inf t) a b h i = absurd i
-lt-parts (fin true m e) (fin t n d) a b h i = absurd (let z : ◌≡◌ {A = ℕ} 0 1 = cc h.0 in omega arith)
-lt-parts (fin false m e) (fin true n d) a b h i = absurd (let z : ◌≡◌ {A = ℕ} 0 1 = cc i.0 in omega arith)
-lt-parts (fin false m e) (fin false n d) a b h i = go (ltb a b) refl
+lt_parts nan y a b h i = absurd h
+lt_parts (inf s) y a b h i = absurd h
+lt_parts (fin s m e) nan a b h i = absurd i
+lt_parts (fin s m e) (inf t) a b h i = absurd i
+lt_parts (fin true m e) (fin t n d) a b h i = absurd (let z : ◌≡◌ {A = ℕ} 0 1 = cc h.0 in omega arith)
+lt_parts (fin false m e) (fin true n d) a b h i = absurd (let z : ◌≡◌ {A = ℕ} 0 1 = cc i.0 in omega arith)
+lt_parts (fin false m e) (fin false n d) a b h i = go (ltb a b) refl
   where
     go : (t : Bool) → ltb a b ≡ t → ltb (m * up e * down d) (n * up d * down e) ≡ t
-    go true q = lt-ltb (m * up e * down d) (n * up d * down e) (keeps-lt m e n d a b h.1 i.1 (ltb-true a b q))
-    go false q = le-ltb (m * up e * down d) (n * up d * down e) (keeps-le n d m e b a i.1 h.1 (ltb-false a b q))
+    go true q = lt-ltb (m * up e * down d) (n * up d * down e) (keeps_lt m e n d a b h.1 i.1 (ltb-true a b q))
+    go false q = le-ltb (m * up e * down d) (n * up d * down e) (keeps_le n d m e b a i.1 h.1 (ltb-false a b q))

@@ -13,173 +13,173 @@ use lib.ListN.{length, drop, set}
 use borrow.Author.Tests.{leb-true, lt-ltb, le-ltb}
 use Rattle.answer.specs.Choice.{pick}
 use Rattle.answer.specs.Outcome.{Outcome, given, refused, ask}
-use Rattle.answer.specs.Lent.{heldIn, Filled}
-use Rattle.answer.proofs.Lent.{held, not-held}
+use Rattle.answer.specs.Lent.{held_in, Filled}
+use Rattle.answer.proofs.Lent.{held, not_held}
 use Rattle.mos_fractional.specs.declared.FractionalMos.{FractionalMos}
 use Rattle.mos_fractional.specs.declared.walks.Turn.{Turn}
-use Rattle.mos_fractional.specs.Fractional.{is_finite, genesis, childOf}
-use Rattle.mos_fractional.specs.Walk.{children, childrenFrom}
-use Rattle.mos_fractional.specs.Answers.{genesisOutcome, listingOutcome}
-use Rattle.mos_fractional.specs.Parts.{Growing, stores, ends, turnTo, nextTurn, Turns, ended, turned, storedOf, answeredOf}
-use Rattle.mos_fractional.proofs.Descent.{told-genesis, told-finite, same-refusal}
-use Rattle.mos_fractional.proofs.Walking.{left, growing-child, fewer-left, growing-genesis, children-next, children-end, length_some}
+use Rattle.mos_fractional.specs.Fractional.{is_finite, genesis, child_of}
+use Rattle.mos_fractional.specs.Walk.{children, children_from}
+use Rattle.mos_fractional.specs.Answers.{genesis_outcome, listing_outcome}
+use Rattle.mos_fractional.specs.Parts.{Growing, stores, ends, turn_to, next_turn, Turns, ended, turned, stored_of, answered_of}
+use Rattle.mos_fractional.proofs.Descent.{told_genesis, told_finite, same_refusal}
+use Rattle.mos_fractional.proofs.Walking.{left, growing_child, fewer_left, growing_genesis, children_next, children_end, length_some}
 
 -- ---- one turn after the other
 
-pub nth-turn : ℕ → Turn → Turn
-nth-turn zero t = t
-nth-turn (suc i) t = nth-turn i (nextTurn t.pattern)
+pub nth_turn : ℕ → Turn → Turn
+nth_turn zero t = t
+nth_turn (suc i) t = nth_turn i (next_turn t.pattern)
 
-nth-turn-suc : (i : ℕ) (t : Turn) → nextTurn (nth-turn i t).pattern ≡ nth-turn (suc i) t
-unfolding nth-turn
-nth-turn-suc zero t = refl
-nth-turn-suc (suc i) t = nth-turn-suc i (nextTurn t.pattern)
+nth_turn_suc : (i : ℕ) (t : Turn) → next_turn (nth_turn i t).pattern ≡ nth_turn (suc i) t
+unfolding nth_turn
+nth_turn_suc zero t = refl
+nth_turn_suc (suc i) t = nth_turn_suc i (next_turn t.pattern)
 
-pub nth-turn-none : (t : Turn) → t ≡ nth-turn 0 t
-unfolding nth-turn
-nth-turn-none t = refl
+pub nth_turn_none : (t : Turn) → t ≡ nth_turn 0 t
+unfolding nth_turn
+nth_turn_none t = refl
 
-pub nth-turn-more : (i : ℕ) (t : Turn) → nextTurn (nth-turn i t).pattern ≡ nth-turn (i + 1) t
-nth-turn-more i t = nth-turn-suc i t ∙ ap (λ (k : ℕ). nth-turn k t) (let e : suc i ≡ i + 1 = omega arith in e)
+pub nth_turn_more : (i : ℕ) (t : Turn) → next_turn (nth_turn i t).pattern ≡ nth_turn (i + 1) t
+nth_turn_more i t = nth_turn_suc i t ∙ ap (λ (k : ℕ). nth_turn k t) (let e : suc i ≡ i + 1 = omega arith in e)
 
 -- a slice after so many turns
 pub stored : ℕ → Turn → List FractionalMos → List FractionalMos
 stored zero t slice = slice
 stored (suc i) t [] = []
-stored (suc i) t (x ∷ slice) = t.pattern ∷ stored i (nextTurn t.pattern) slice
+stored (suc i) t (x ∷ slice) = t.pattern ∷ stored i (next_turn t.pattern) slice
 
-pub stored-length : (i : ℕ) (t : Turn) (xs : List FractionalMos) → length (stored i t xs) ≡ length xs
+pub stored_length : (i : ℕ) (t : Turn) (xs : List FractionalMos) → length (stored i t xs) ≡ length xs
 unfolding stored
-stored-length zero t xs = refl
-stored-length (suc i) t [] = refl
-stored-length (suc i) t (x ∷ xs) = ap suc (stored-length i (nextTurn t.pattern) xs)
+stored_length zero t xs = refl
+stored_length (suc i) t [] = refl
+stored_length (suc i) t (x ∷ xs) = ap suc (stored_length i (next_turn t.pattern) xs)
 
-pub stored-none : (t : Turn) (xs : List FractionalMos) → stored 0 t xs ≡ xs
+pub stored_none : (t : Turn) (xs : List FractionalMos) → stored 0 t xs ≡ xs
 unfolding stored
-stored-none t xs = refl
+stored_none t xs = refl
 
-stored-suc : (i : ℕ) (t : Turn) (xs : List FractionalMos) → i < length xs
-    → set (stored i t xs) i (nth-turn i t).pattern ≡ stored (suc i) t xs
-unfolding stored nth-turn
-stored-suc zero t [] h = absurd (let z : ⊥ = omega arith in z)
-stored-suc zero t (x ∷ xs) h = refl
-stored-suc (suc i) t [] h = absurd (let z : ⊥ = omega arith in z)
-stored-suc (suc i) t (x ∷ xs) h = ap (λ (l : List FractionalMos). t.pattern ∷ l) (stored-suc i (nextTurn t.pattern) xs (omega arith))
+stored_suc : (i : ℕ) (t : Turn) (xs : List FractionalMos) → i < length xs
+    → set (stored i t xs) i (nth_turn i t).pattern ≡ stored (suc i) t xs
+unfolding stored nth_turn
+stored_suc zero t [] h = absurd (let z : ⊥ = omega arith in z)
+stored_suc zero t (x ∷ xs) h = refl
+stored_suc (suc i) t [] h = absurd (let z : ⊥ = omega arith in z)
+stored_suc (suc i) t (x ∷ xs) h = ap (λ (l : List FractionalMos). t.pattern ∷ l) (stored_suc i (next_turn t.pattern) xs (omega arith))
 
 pub stored_more : (i : ℕ) (t : Turn) (xs : List FractionalMos) → i < length xs
-    → set (stored i t xs) i (nth-turn i t).pattern ≡ stored (i + 1) t xs
-stored_more i t xs h = stored-suc i t xs h ∙ ap (λ (k : ℕ). stored k t xs) (let e : suc i ≡ i + 1 = omega arith in e)
+    → set (stored i t xs) i (nth_turn i t).pattern ≡ stored (i + 1) t xs
+stored_more i t xs h = stored_suc i t xs h ∙ ap (λ (k : ℕ). stored k t xs) (let e : suc i ≡ i + 1 = omega arith in e)
 
 -- ---- the turns that store a list: what the loop's test tells, and what is stored at the end
 
-pub still-stores : {t : Turn} {ms : List FractionalMos} → Turns t ms → (i : ℕ) → i ≤ length ms → (nth-turn i t).stores ≡ true → i < length ms
-unfolding nth-turn
-still-stores (ended m) zero h e = absurd (let z : ◌≡◌ {A = ℕ} 0 1 = cc in omega arith)
-still-stores (ended m) (suc i) h e = absurd (let z : ⊥ = omega arith in z)
-still-stores (turned m ms t) zero h e = omega arith
-still-stores (turned m ms t) (suc i) h e = let l : i < length ms = still-stores t i (omega arith) e in omega (arith, l)
+pub still_stores : {t : Turn} {ms : List FractionalMos} → Turns t ms → (i : ℕ) → i ≤ length ms → (nth_turn i t).stores ≡ true → i < length ms
+unfolding nth_turn
+still_stores (ended m) zero h e = absurd (let z : ◌≡◌ {A = ℕ} 0 1 = cc in omega arith)
+still_stores (ended m) (suc i) h e = absurd (let z : ⊥ = omega arith in z)
+still_stores (turned m ms t) zero h e = omega arith
+still_stores (turned m ms t) (suc i) h e = let l : i < length ms = still_stores t i (omega arith) e in omega (arith, l)
 
-pub no-more-stored : {t : Turn} {ms : List FractionalMos} → Turns t ms → (i : ℕ) → i ≤ length ms → (nth-turn i t).stores ≡ false → i ≡ length ms
-unfolding nth-turn
-no-more-stored (ended m) zero h e = refl
-no-more-stored (ended m) (suc i) h e = absurd (let z : ⊥ = omega arith in z)
-no-more-stored (turned m ms t) zero h e = absurd (let z : ◌≡◌ {A = ℕ} 0 1 = cc in omega arith)
-no-more-stored (turned m ms t) (suc i) h e = ap suc (no-more-stored t i (omega arith) e)
+pub no_more_stored : {t : Turn} {ms : List FractionalMos} → Turns t ms → (i : ℕ) → i ≤ length ms → (nth_turn i t).stores ≡ false → i ≡ length ms
+unfolding nth_turn
+no_more_stored (ended m) zero h e = refl
+no_more_stored (ended m) (suc i) h e = absurd (let z : ⊥ = omega arith in z)
+no_more_stored (turned m ms t) zero h e = absurd (let z : ◌≡◌ {A = ℕ} 0 1 = cc in omega arith)
+no_more_stored (turned m ms t) (suc i) h e = ap suc (no_more_stored t i (omega arith) e)
 
-stored-all : {t : Turn} {ms : List FractionalMos} → Turns t ms → (xs : List FractionalMos) → length ms ≤ length xs
+stored_all : {t : Turn} {ms : List FractionalMos} → Turns t ms → (xs : List FractionalMos) → length ms ≤ length xs
     → stored (length ms) t xs ≡ ms ++ drop (length ms) xs
 unfolding stored
-stored-all (ended m) xs h = refl
-stored-all (turned m ms t) [] h = absurd (let z : ⊥ = omega arith in z)
-stored-all (turned m ms t) (x ∷ xs) h = ap (λ (l : List FractionalMos). m ∷ l) (stored-all t xs (omega arith))
+stored_all (ended m) xs h = refl
+stored_all (turned m ms t) [] h = absurd (let z : ⊥ = omega arith in z)
+stored_all (turned m ms t) (x ∷ xs) h = ap (λ (l : List FractionalMos). m ∷ l) (stored_all t xs (omega arith))
 
 -- ---- the turns of a walk
 
 walk_step : (m : FractionalMos) → Growing m → ((c : FractionalMos) → Growing c → left c < left m → Turns (stores c) (children c))
-    → (o : Option FractionalMos) → childOf m ≡ o → Turns (stores m) (children m)
+    → (o : Option FractionalMos) → child_of m ≡ o → Turns (stores m) (children m)
 walk_step m u ih none e =
-    subst (Turns (stores m)) (sym (children-end m u e)) (turned m [] (subst (λ (o : Option FractionalMos). Turns (turnTo m o) []) (sym e) (ended m)))
+    subst (Turns (stores m)) (sym (children_end m u e)) (turned m [] (subst (λ (o : Option FractionalMos). Turns (turn_to m o) []) (sym e) (ended m)))
 walk_step m u ih (some c) e =
-    subst (Turns (stores m)) (sym (children-next m u c e))
+    subst (Turns (stores m)) (sym (children_next m u c e))
     (turned m (children c)
-    (subst (λ (o : Option FractionalMos). Turns (turnTo m o) (children c)) (sym e) (ih c (growing-child m c u e) (fewer-left m c u e))))
+    (subst (λ (o : Option FractionalMos). Turns (turn_to m o) (children c)) (sym e) (ih c (growing_child m c u e) (fewer_left m c u e))))
 
-walk-within : (k : ℕ) (m : FractionalMos) → Growing m → left m ≤ k → Turns (stores m) (children m)
-walk-within zero m u l = walk_step m u (λ c v f. absurd (let z : ⊥ = omega arith in z)) (childOf m) refl
-walk-within (suc k) m u l = walk_step m u (λ c v f. walk-within k c v (omega arith)) (childOf m) refl
+walk_within : (k : ℕ) (m : FractionalMos) → Growing m → left m ≤ k → Turns (stores m) (children m)
+walk_within zero m u l = walk_step m u (λ c v f. absurd (let z : ⊥ = omega arith in z)) (child_of m) refl
+walk_within (suc k) m u l = walk_step m u (λ c v f. walk_within k c v (omega arith)) (child_of m) refl
 
 -- ---- a listing begins, by what the code tests
 
 abbrev pub listed : Float → ℕ → List FractionalMos
-listed g room = storedOf (listingOutcome g room)
+listed g room = stored_of (listing_outcome g room)
 
 module _ (g : Float) (room : ℕ) where
-  no-turns : (m : FractionalMos) (n : ℕ) → listingOutcome g room ≡ refused n → Turns (ends m) (listed g room)
-  no-turns m n e = subst (λ (o : Outcome (List FractionalMos)). Turns (ends m) (storedOf o)) (sym e) (ended m)
+  no_turns : (m : FractionalMos) (n : ℕ) → listing_outcome g room ≡ refused n → Turns (ends m) (listed g room)
+  no_turns m n e = subst (λ (o : Outcome (List FractionalMos)). Turns (ends m) (stored_of o)) (sym e) (ended m)
 
   -- no number
-  pub begins-refused : {n : ℕ} (m : FractionalMos) → refused n ≡ genesisOutcome g → Turns (ends m) (listed g room)
-  begins-refused {n} m e = no-turns m n (sym (same-refusal g (heldIn room (childrenFrom g)) e))
+  pub begins_refused : {n : ℕ} (m : FractionalMos) → refused n ≡ genesis_outcome g → Turns (ends m) (listed g room)
+  begins_refused {n} m e = no_turns m n (sym (same_refusal g (held_in room (children_from g)) e))
 
-  module _ (m : FractionalMos) (e : given m ≡ genesisOutcome g) where
-    same_length : length (children m) ≡ length (childrenFrom g)
-    same_length = ap (λ (x : FractionalMos). length (children x)) (told-genesis g e)
+  module _ (m : FractionalMos) (e : given m ≡ genesis_outcome g) where
+    same_length : length (children m) ≡ length (children_from g)
+    same_length = ap (λ (x : FractionalMos). length (children x)) (told_genesis g e)
 
     -- too short
-    pub begins-short : room < length (children m) → Turns (ends m) (listed g room)
-    begins-short l =
-        let short : heldIn room (childrenFrom g) ≡ refused 10 = not-held room (childrenFrom g) (omega (arith, same_length, l)) in
-        no-turns m 10 (simp (told-finite g e) short)
+    pub begins_short : room < length (children m) → Turns (ends m) (listed g room)
+    begins_short l =
+        let short : held_in room (children_from g) ≡ refused 10 = not_held room (children_from g) (omega (arith, same_length, l)) in
+        no_turns m 10 (simp (told_finite g e) short)
 
     -- all of them
-    pub begins-whole : length (childrenFrom g) ≤ room → Turns (stores m) (listed g room)
-    begins-whole l =
-        let o : listingOutcome g room ≡ given (childrenFrom g) = simp (told-finite g e) (held room (childrenFrom g) l) in
-        subst (λ (p : Outcome (List FractionalMos)). Turns (stores m) (storedOf p)) (sym o)
-        (subst (λ (x : FractionalMos). Turns (stores x) (childrenFrom g)) (sym (told-genesis g e))
-        (walk-within (left (genesis g)) (genesis g) (growing-genesis g) (le_refl _)))
+    pub begins_whole : length (children_from g) ≤ room → Turns (stores m) (listed g room)
+    begins_whole l =
+        let o : listing_outcome g room ≡ given (children_from g) = simp (told_finite g e) (held room (children_from g) l) in
+        subst (λ (p : Outcome (List FractionalMos)). Turns (stores m) (stored_of p)) (sym o)
+        (subst (λ (x : FractionalMos). Turns (stores x) (children_from g)) (sym (told_genesis g e))
+        (walk_within (left (genesis g)) (genesis g) (growing_genesis g) (le_refl _)))
 
-    pub begins-counted : length (children m) ≤ room → Turns (stores m) (listed g room)
-    begins-counted l = begins-whole (omega (arith, same_length, l))
+    pub begins_counted : length (children m) ≤ room → Turns (stores m) (listed g room)
+    begins_counted l = begins_whole (omega (arith, same_length, l))
 
 -- ---- a listing has ended: by the answers to its two questions
 
 abbrev outcome : Bool → Bool → List FractionalMos → Outcome (List FractionalMos)
 outcome finite fits ms = ask 22 finite (ask 10 fits (given ms))
 
-fits_by : (room : ℕ) (ms : List FractionalMos) (x y : Bool) → leb (length ms) room ≡ y → length (storedOf (outcome x y ms)) ≤ room
+fits_by : (room : ℕ) (ms : List FractionalMos) (x y : Bool) → leb (length ms) room ≡ y → length (stored_of (outcome x y ms)) ≤ room
 fits_by room ms false y e = zero-le
 fits_by room ms true false e = zero-le
 fits_by room ms true true e = leb-true (length ms) room e
 
-pub listed-fits : (g : Float) (room : ℕ) → length (listed g room) ≤ room
-listed-fits g room = fits_by room (childrenFrom g) (is_finite g) (leb (length (childrenFrom g)) room) refl
+pub listed_fits : (g : Float) (room : ℕ) → length (listed g room) ≤ room
+listed_fits g room = fits_by room (children_from g) (is_finite g) (leb (length (children_from g)) room) refl
 
-filled-by : (ms xs : List FractionalMos) (x y : Bool) → leb (length ms) (length xs) ≡ y → 0 < length ms → (t : Turn)
-    → Turns t (storedOf (outcome x y ms))
+filled_by : (ms xs : List FractionalMos) (x y : Bool) → leb (length ms) (length xs) ≡ y → 0 < length ms → (t : Turn)
+    → Turns t (stored_of (outcome x y ms))
     → Filled (outcome x y ms)
-    (pick (ltb 0 (length (storedOf (outcome x y ms)))) (given (length (storedOf (outcome x y ms)))) (ask 22 x (refused 10))) xs
-    (stored (length (storedOf (outcome x y ms))) t xs)
-filled-by ms xs false y e p t u = record { answered = refl; content = stored-none t xs }
-filled-by ms xs true false e p t u = record { answered = refl; content = stored-none t xs }
-filled-by ms xs true true e p t u =
-    record { answered = simp (lt-ltb 0 (length ms) p); content = stored-all u xs (leb-true (length ms) (length xs) e) }
+    (pick (ltb 0 (length (stored_of (outcome x y ms)))) (given (length (stored_of (outcome x y ms)))) (ask 22 x (refused 10))) xs
+    (stored (length (stored_of (outcome x y ms))) t xs)
+filled_by ms xs false y e p t u = record { answered = refl; content = stored_none t xs }
+filled_by ms xs true false e p t u = record { answered = refl; content = stored_none t xs }
+filled_by ms xs true true e p t u =
+    record { answered = simp (lt-ltb 0 (length ms) p); content = stored_all u xs (leb-true (length ms) (length xs) e) }
 
-pub listing-filled : (g : Float) (xs : List FractionalMos) (t : Turn) → Turns t (listed g (length xs))
-    → Filled (listingOutcome g (length xs)) (answeredOf g (length (listed g (length xs)))) xs (stored (length (listed g (length xs))) t xs)
-listing-filled g xs t u =
-    filled-by (childrenFrom g) xs (is_finite g) (leb (length (childrenFrom g)) (length xs)) refl
-    (length_some (genesis g) (growing-genesis g)) t u
+pub listing_filled : (g : Float) (xs : List FractionalMos) (t : Turn) → Turns t (listed g (length xs))
+    → Filled (listing_outcome g (length xs)) (answered_of g (length (listed g (length xs)))) xs (stored (length (listed g (length xs))) t xs)
+listing_filled g xs t u =
+    filled_by (children_from g) xs (is_finite g) (leb (length (children_from g)) (length xs)) refl
+    (length_some (genesis g) (growing_genesis g)) t u
 
 -- ---- the answer, by what the code tests
 
 module _ (g : Float) where
-  pub answered-stored : (count : ℕ) → 0 < count → given count ≡ answeredOf g count
-  answered-stored count h = sym (simp (lt-ltb 0 count h))
+  pub answered_stored : (count : ℕ) → 0 < count → given count ≡ answered_of g count
+  answered_stored count h = sym (simp (lt-ltb 0 count h))
 
   module _ (count : ℕ) (h : count ≤ 0) where
-    pub answered-refused : {n : ℕ} → refused n ≡ genesisOutcome g → refused n ≡ answeredOf g count
-    answered-refused e = same-refusal g (refused 10) e ∙ sym (simp (le-ltb 0 count h))
+    pub answered_refused : {n : ℕ} → refused n ≡ genesis_outcome g → refused n ≡ answered_of g count
+    answered_refused e = same_refusal g (refused 10) e ∙ sym (simp (le-ltb 0 count h))
 
-    pub answered-short : (m : FractionalMos) → given m ≡ genesisOutcome g → refused 10 ≡ answeredOf g count
-    answered-short m e = sym (simp (le-ltb 0 count h, told-finite g e))
+    pub answered_short : (m : FractionalMos) → given m ≡ genesis_outcome g → refused 10 ≡ answered_of g count
+    answered_short m e = sym (simp (le-ltb 0 count h, told_finite g e))

@@ -3,7 +3,7 @@ use Rattle.std.specs.Prelude.{ℕ, List, length, Float}
 use Rattle.std.proofs.Math.Option.{Option, none, some}
 use Rattle.std.proofs.Math.ListN.{get_elem?}
 use Rattle.answer.specs.Outcome.{Outcome, given, refused, ask}
-use Rattle.answer.specs.Lent.{heldIn}
+use Rattle.answer.specs.Lent.{held_in}
 use Rattle.answer.specs.Refusals.{number_of}
 use Rattle.mos_fractional.specs.declared.FractionalMos.{FractionalMos}
 use Rattle.mos_fractional.specs.declared.FractionalAnswer.{FractionalAnswer}
@@ -13,37 +13,37 @@ use Rattle.mos_fractional.specs.declared.ChildAnswer.TheVariants as Offspring
 use Rattle.mos_fractional.specs.declared.FractionalWalkAnswer.{FractionalWalkAnswer}
 use Rattle.mos_fractional.specs.declared.FractionalWalkAnswer.TheVariants as Walked
 use Rattle.mos_fractional.specs.Fractional.{is_finite, genesis}
-use Rattle.mos_fractional.specs.Walk.{childrenFrom}
+use Rattle.mos_fractional.specs.Walk.{children_from}
 
 -- "22 when the generator is infinite or not a number, first of all", then a fact of it.
-abbrev pub ofGenerator : {A : Type 0} → Float → A → Outcome A
-ofGenerator generator fact = ask 22 (is_finite generator) (given fact)
+abbrev pub of_generator : {A : Type 0} → Float → A → Outcome A
+of_generator generator fact = ask 22 (is_finite generator) (given fact)
 
 -- The genesis, the k-th pattern of the walk from 0 on if there is one, and how many there are.
-abbrev pub genesisOutcome : Float → Outcome FractionalMos
-genesisOutcome generator = ofGenerator generator (genesis generator)
+abbrev pub genesis_outcome : Float → Outcome FractionalMos
+genesis_outcome generator = of_generator generator (genesis generator)
 
-abbrev pub nthOutcome : Float → ℕ → Outcome (Option FractionalMos)
-nthOutcome generator k = ofGenerator generator (get_elem? (childrenFrom generator) k)
+abbrev pub nth_outcome : Float → ℕ → Outcome (Option FractionalMos)
+nth_outcome generator k = of_generator generator (get_elem? (children_from generator) k)
 
-abbrev pub lengthOutcome : Float → Outcome ℕ
-lengthOutcome generator = ofGenerator generator (length (childrenFrom generator))
+abbrev pub length_outcome : Float → Outcome ℕ
+length_outcome generator = of_generator generator (length (children_from generator))
 
 -- Question 22, then question 10, for a listing of the walk.
-abbrev pub listingOutcome : Float → ℕ → Outcome (List FractionalMos)
-listingOutcome generator room = ask 22 (is_finite generator) (heldIn room (childrenFrom generator))
+abbrev pub listing_outcome : Float → ℕ → Outcome (List FractionalMos)
+listing_outcome generator room = ask 22 (is_finite generator) (held_in room (children_from generator))
 
 -- What each answer means.
-abbrev pub fractionalOutcome : FractionalAnswer → Outcome FractionalMos
-fractionalOutcome (Made.Given m) = given m
-fractionalOutcome (Made.Refused q) = refused (number_of q)
+abbrev pub fractional_outcome : FractionalAnswer → Outcome FractionalMos
+fractional_outcome (Made.Given m) = given m
+fractional_outcome (Made.Refused q) = refused (number_of q)
 
 -- "No child" is an ordinary answer.
-abbrev pub childIn : ChildAnswer → Option FractionalMos
-childIn (Offspring.Child m) = some m
-childIn Offspring.Nothing = none
+abbrev pub child_in : ChildAnswer → Option FractionalMos
+child_in (Offspring.Child m) = some m
+child_in Offspring.Nothing = none
 
-abbrev pub walkOutcome : FractionalWalkAnswer → Outcome (Option FractionalMos)
-walkOutcome (Walked.Found m) = given (some m)
-walkOutcome Walked.Nothing = given none
-walkOutcome (Walked.Refused q) = refused (number_of q)
+abbrev pub walk_outcome : FractionalWalkAnswer → Outcome (Option FractionalMos)
+walk_outcome (Walked.Found m) = given (some m)
+walk_outcome Walked.Nothing = given none
+walk_outcome (Walked.Refused q) = refused (number_of q)

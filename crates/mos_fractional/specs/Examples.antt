@@ -9,16 +9,16 @@ use Rattle.std.specs.Float.Ieee.{of_bits}
 use Rattle.answer.specs.Outcome.{Outcome, given, refused}
 use Rattle.answer.specs.Lent.{counted, written}
 use Rattle.mos_fractional.specs.declared.FractionalMos.{FractionalMos}
-use Rattle.mos_fractional.specs.Fractional.{fractional, primaries, secondaries, nought, one, genesis, childOf}
-use Rattle.mos_fractional.specs.Walk.{childrenFrom}
-use Rattle.mos_fractional.specs.Answers.{genesisOutcome, listingOutcome}
+use Rattle.mos_fractional.specs.Fractional.{fractional, primaries, secondaries, nought, one, genesis, child_of}
+use Rattle.mos_fractional.specs.Walk.{children_from}
+use Rattle.mos_fractional.specs.Answers.{genesis_outcome, listing_outcome}
 
 -- 5/8, 3/8, 1/4 and 1/8, as doubles have them.
-abbrev pub fiveEighths : Float
-fiveEighths = fin false 5 (negsuc 2)
+abbrev pub five_eighths : Float
+five_eighths = fin false 5 (negsuc 2)
 
-abbrev pub threeEighths : Float
-threeEighths = fin false 3 (negsuc 2)
+abbrev pub three_eighths : Float
+three_eighths = fin false 3 (negsuc 2)
 
 abbrev pub quarter : Float
 quarter = fin false 1 (negsuc 1)
@@ -38,12 +38,12 @@ pub record GenesisExample : Type 0 where
   pub generator : Float
   pub genesis : Outcome FractionalMos
 
-abbrev pub genesisExamples : List GenesisExample
-genesisExamples =
-    record { generator = fiveEighths; genesis = given (fractional 1 1 fiveEighths threeEighths) }
+abbrev pub genesis_examples : List GenesisExample
+genesis_examples =
+    record { generator = five_eighths; genesis = given (fractional 1 1 five_eighths three_eighths) }
     -- 13/8, an octave higher, and −3/8, an octave lower
-    ∷ record { generator = fin false 13 (negsuc 2); genesis = given (fractional 1 1 fiveEighths threeEighths) }
-    ∷ record { generator = fin true 3 (negsuc 2); genesis = given (fractional 1 1 fiveEighths threeEighths) }
+    ∷ record { generator = fin false 13 (negsuc 2); genesis = given (fractional 1 1 five_eighths three_eighths) }
+    ∷ record { generator = fin true 3 (negsuc 2); genesis = given (fractional 1 1 five_eighths three_eighths) }
     -- 0 and 1 leave +0, −1 leaves −0, which is not below 0
     ∷ record { generator = nought; genesis = given (fractional 1 1 nought one) }
     ∷ record { generator = one; genesis = given (fractional 1 1 nought one) }
@@ -63,10 +63,10 @@ pub record ChildExample : Type 0 where
   pub pattern : FractionalMos
   pub child : Option FractionalMos
 
-abbrev pub childExamples : List ChildExample
-childExamples =
-    record { pattern = fractional 1 1 fiveEighths threeEighths; child = some (fractional 1 2 quarter threeEighths) }
-    ∷ record { pattern = fractional 1 2 quarter threeEighths; child = some (fractional 3 2 quarter eighth) }
+abbrev pub child_examples : List ChildExample
+child_examples =
+    record { pattern = fractional 1 1 five_eighths three_eighths; child = some (fractional 1 2 quarter three_eighths) }
+    ∷ record { pattern = fractional 1 2 quarter three_eighths; child = some (fractional 3 2 quarter eighth) }
     -- equal steps, and a step of 0 of either sign
     ∷ record { pattern = fractional 3 5 one one; child = none }
     ∷ record { pattern = fractional 1 1 nought one; child = none }
@@ -81,32 +81,32 @@ childExamples =
     ∷ []
 
 -- The walk of 5/8.
-abbrev pub walkOfFiveEighths : List FractionalMos
-walkOfFiveEighths =
-    fractional 1 1 fiveEighths threeEighths
-    ∷ fractional 1 2 quarter threeEighths
+abbrev pub walk_of_five_eighths : List FractionalMos
+walk_of_five_eighths =
+    fractional 1 1 five_eighths three_eighths
+    ∷ fractional 1 2 quarter three_eighths
     ∷ fractional 3 2 quarter eighth
     ∷ fractional 3 5 eighth eighth
     ∷ []
 
 -- Theorem.
 pub record ExamplesHold : Type 0 where
-  pub geneses : map (λ (e : GenesisExample). genesisOutcome e.generator) genesisExamples
-      ≡ map (λ (e : GenesisExample). e.genesis) genesisExamples
-  pub kids : map (λ (e : ChildExample). childOf e.pattern) childExamples ≡ map (λ (e : ChildExample). e.child) childExamples
-  pub walk : childrenFrom fiveEighths ≡ walkOfFiveEighths
+  pub geneses : map (λ (e : GenesisExample). genesis_outcome e.generator) genesis_examples
+      ≡ map (λ (e : GenesisExample). e.genesis) genesis_examples
+  pub kids : map (λ (e : ChildExample). child_of e.pattern) child_examples ≡ map (λ (e : ChildExample). e.child) child_examples
+  pub walk : children_from five_eighths ≡ walk_of_five_eighths
   -- the fifth's patterns: 2, 3, 5, 7, 12 and 17 notes
-  pub fifths : map (λ (k : ℕ). Option.map counts (get_elem? (childrenFrom fifth) k)) (0 ∷ 1 ∷ 2 ∷ 3 ∷ 4 ∷ 5 ∷ [])
+  pub fifths : map (λ (k : ℕ). Option.map counts (get_elem? (children_from fifth) k)) (0 ∷ 1 ∷ 2 ∷ 3 ∷ 4 ∷ 5 ∷ [])
       ≡ some (1 ∷ 1 ∷ []) ∷ some (1 ∷ 2 ∷ []) ∷ some (3 ∷ 2 ∷ []) ∷ some (5 ∷ 2 ∷ []) ∷ some (5 ∷ 7 ∷ []) ∷ some (5 ∷ 12 ∷ []) ∷ []
   -- a listing with one pattern of room to spare, with just enough, with one too few, and of no number, however short the slice
-  pub spare : written (listingOutcome fiveEighths 5) (genesis one ∷ genesis one ∷ genesis one ∷ genesis one ∷ fractional 7 8 one one ∷ [])
-      ≡ fractional 1 1 fiveEighths threeEighths
-      ∷ fractional 1 2 quarter threeEighths
+  pub spare : written (listing_outcome five_eighths 5) (genesis one ∷ genesis one ∷ genesis one ∷ genesis one ∷ fractional 7 8 one one ∷ [])
+      ≡ fractional 1 1 five_eighths three_eighths
+      ∷ fractional 1 2 quarter three_eighths
       ∷ fractional 3 2 quarter eighth
       ∷ fractional 3 5 eighth eighth
       ∷ fractional 7 8 one one
       ∷ []
-  pub rooms : map (λ (room : ℕ). counted (listingOutcome fiveEighths room)) (5 ∷ 4 ∷ 3 ∷ 0 ∷ [])
+  pub rooms : map (λ (room : ℕ). counted (listing_outcome five_eighths room)) (5 ∷ 4 ∷ 3 ∷ 0 ∷ [])
       ≡ given 4 ∷ given 4 ∷ refused 10 ∷ refused 10 ∷ []
-  pub short : written (listingOutcome fiveEighths 1) (fractional 7 8 one one ∷ []) ≡ fractional 7 8 one one ∷ []
-  pub no_number : listingOutcome nan 0 ≡ refused 22
+  pub short : written (listing_outcome five_eighths 1) (fractional 7 8 one one ∷ []) ≡ fractional 7 8 one one ∷ []
+  pub no_number : listing_outcome nan 0 ≡ refused 22

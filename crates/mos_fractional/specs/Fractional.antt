@@ -41,28 +41,28 @@ is_finite (inf s) = false
 is_finite (fin s m e) = true
 
 -- "The first step is the generator's remainder by 1, with 1 added where that is below 0". The remainder has the generator's sign.
-unfoldable pub firstStep : Float → Float
-firstStep g = pick (lt (rem binary64 g one) nought) (add binary64 (rem binary64 g one) one) (rem binary64 g one)
+unfoldable pub first_step_of : Float → Float
+first_step_of g = pick (lt (rem binary64 g one) nought) (add binary64 (rem binary64 g one) one) (rem binary64 g one)
 
 -- "the second is 1 minus it"; counts 1 and 1, as of every genesis.
 unfoldable pub genesis : Float → FractionalMos
-unfolding firstStep
-genesis g = fractional 1 1 (firstStep g) (sub binary64 one (firstStep g))
+unfolding first_step_of
+genesis g = fractional 1 1 (first_step_of g) (sub binary64 one (first_step_of g))
 
 -- Document 01's child "adds both counts into the count of the shorter step and replaces the longer step by the difference": where the
 -- primary step is the longer, and where the secondary is.
-abbrev pub offPrimary : FractionalMos → FractionalMos
-offPrimary m = fractional (primaries m) (count_of m) (sub binary64 (primary m) (secondary m)) (secondary m)
+abbrev pub off_primary : FractionalMos → FractionalMos
+off_primary m = fractional (primaries m) (count_of m) (sub binary64 (primary m) (secondary m)) (secondary m)
 
-abbrev pub offSecondary : FractionalMos → FractionalMos
-offSecondary m = fractional (count_of m) (secondaries m) (primary m) (sub binary64 (secondary m) (primary m))
+abbrev pub off_secondary : FractionalMos → FractionalMos
+off_secondary m = fractional (count_of m) (secondaries m) (primary m) (sub binary64 (secondary m) (primary m))
 
 -- "There is none if a step is 0 or both are equal." And there is none "where a count would pass 65,535". Where a step is not a number,
 -- neither is the shorter, and there is none.
-unfoldable pub childOf : FractionalMos → Option FractionalMos
-childOf m =
+unfoldable pub child_of : FractionalMos → Option FractionalMos
+child_of m =
     pick (eq (primary m) nought) none
     (pick (eq (secondary m) nought) none
     (pick (ltb 65535 (count_of m)) none
-    (pick (lt (secondary m) (primary m)) (some (offPrimary m))
-    (pick (lt (primary m) (secondary m)) (some (offSecondary m)) none))))
+    (pick (lt (secondary m) (primary m)) (some (off_primary m))
+    (pick (lt (primary m) (secondary m)) (some (off_secondary m)) none))))

@@ -9,23 +9,23 @@ use Rattle.mos.specs.declared.Mos.{Mos}
 use Rattle.mos.specs.Patterns as whole
 use Rattle.mos.specs.Walks as whole-walk
 use Rattle.mos_fractional.specs.declared.FractionalMos.{FractionalMos}
-use Rattle.mos_fractional.specs.Fractional.{primaries, secondaries, count_of, one, genesis, childOf}
-use Rattle.mos_fractional.specs.Walk.{onward, children, childrenFrom}
+use Rattle.mos_fractional.specs.Fractional.{primaries, secondaries, count_of, one, genesis, child_of}
+use Rattle.mos_fractional.specs.Walk.{onward, children, children_from}
 use Rattle.mos_fractional.specs.WholeParts.{Parts, Same}
 
 -- Theorem: the walk is the genesis, its child, and so on until there is none, so the bound in the definition of `children` is never met;
 -- it ends for every generator, after 65,535 patterns at most.
 pub record WalkIsWhole : Type 0 where
-  pub follows : (m : FractionalMos) → 0 < primaries m → 0 < secondaries m → children m ≡ m ∷ onward (childOf m) children
-  pub counts : (g : Float) (k : ℕ) (m : FractionalMos) → get_elem? (childrenFrom g) k ≡ some m → (0 < primaries m) × (0 < secondaries m)
-  pub ends : (g : Float) → length (childrenFrom g) ≤ 65535
+  pub follows : (m : FractionalMos) → 0 < primaries m → 0 < secondaries m → children m ≡ m ∷ onward (child_of m) children
+  pub counts : (g : Float) (k : ℕ) (m : FractionalMos) → get_elem? (children_from g) k ≡ some m → (0 < primaries m) × (0 < secondaries m)
+  pub ends : (g : Float) → length (children_from g) ≤ 65535
 
 -- Theorem: counts only grow, from any record to its child; with each child of a walk their sum does; and "two counts up to 65,535" they
 -- stay.
 pub record FractionalCountsGrow : Type 0 where
-  pub never-fall : (m c : FractionalMos) → childOf m ≡ some c → (primaries m ≤ primaries c) × (secondaries m ≤ secondaries c)
-  pub grow : (m c : FractionalMos) → 0 < primaries m → 0 < secondaries m → childOf m ≡ some c → count_of m < count_of c
-  pub fit : (g : Float) (k : ℕ) (m : FractionalMos) → get_elem? (childrenFrom g) k ≡ some m → (primaries m ≤ 65535) × (secondaries m ≤ 65535)
+  pub never_fall : (m c : FractionalMos) → child_of m ≡ some c → (primaries m ≤ primaries c) × (secondaries m ≤ secondaries c)
+  pub grow : (m c : FractionalMos) → 0 < primaries m → 0 < secondaries m → child_of m ≡ some c → count_of m < count_of c
+  pub fit : (g : Float) (k : ℕ) (m : FractionalMos) → get_elem? (children_from g) k ≡ some m → (primaries m ≤ 65535) × (secondaries m ≤ 65535)
 
 -- 65,536 as a double.
 abbrev pub scale : Float
@@ -35,9 +35,9 @@ scale = fin false 1 (pos 16)
 -- generator k by document 01's rules, pattern by pattern, and is as long. So no subtraction loses anything there, and no count is cut off.
 pub record WholePartsAreExact : Type 0 where
   pub same_length : (g : Float) (k : ℕ) → Parts g k → k < 65536
-      → length (childrenFrom g) ≡ length (whole-walk.children (whole.genesis 65536 k))
-  pub same-patterns : (g : Float) (k : ℕ) → Parts g k → k < 65536 → (j : ℕ) (x : FractionalMos) (m : Mos)
-      → get_elem? (childrenFrom g) j ≡ some x → get_elem? (whole-walk.children (whole.genesis 65536 k)) j ≡ some m → Same x m
+      → length (children_from g) ≡ length (whole-walk.children (whole.genesis 65536 k))
+  pub same_patterns : (g : Float) (k : ℕ) → Parts g k → k < 65536 → (j : ℕ) (x : FractionalMos) (m : Mos)
+      → get_elem? (children_from g) j ≡ some x → get_elem? (whole-walk.children (whole.genesis 65536 k)) j ≡ some m → Same x m
   -- each k has such a generator: k as a double, divided by 65,536
   pub generator : (k : ℕ) → k < 65536 → Parts (div binary64 (of_int binary64 (pos k)) scale) k
   -- and a step above 0 that is k 65,536ths, multiplied by 65,536 in double precision, is k as a double

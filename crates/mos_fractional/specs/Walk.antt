@@ -2,7 +2,7 @@
 use Rattle.std.specs.Prelude.{ℕ, zero, suc, ◌-◌, List, [], ◌∷◌, Float}
 use Rattle.std.proofs.Math.Option.{Option, none, some}
 use Rattle.mos_fractional.specs.declared.FractionalMos.{FractionalMos}
-use Rattle.mos_fractional.specs.Fractional.{count_of, genesis, childOf}
+use Rattle.mos_fractional.specs.Fractional.{count_of, genesis, child_of}
 
 -- The rest of a walk, where there is a next pattern.
 abbrev pub onward : Option FractionalMos → (FractionalMos → List FractionalMos) → List FractionalMos
@@ -11,9 +11,9 @@ onward (some m) rest = rest m
 
 -- A pattern, its child, and so on to the end. The number bounds the walk's length; `WalkIsWhole` says that it is never met.
 unfoldable pub walk : ℕ → FractionalMos → List FractionalMos
-unfolding childOf
+unfolding child_of
 walk zero m = m ∷ []
-walk (suc more) m = m ∷ onward (childOf m) (walk more)
+walk (suc more) m = m ∷ onward (child_of m) (walk more)
 
 -- The whole walk of children from a pattern with counts above 0, itself first: the sum of the counts grows with each, and above 65,535
 -- there is no child.
@@ -22,5 +22,5 @@ unfolding walk
 children m = walk (65536 - count_of m) m
 
 -- The whole walk of a generator, the genesis first.
-abbrev pub childrenFrom : Float → List FractionalMos
-childrenFrom generator = children (genesis generator)
+abbrev pub children_from : Float → List FractionalMos
+children_from generator = children (genesis generator)

@@ -17,6 +17,6 @@ Parts (fin s m e) k = (m * up e * 65536 ≡ k * down e) × (s ≡ true → k ≡
 -- The same counts, and "every step times 65,536 is exactly the whole-number step".
 pub record Same (x : FractionalMos) (m : Mos) : Type 0 where
   pub first_count : primaries x ≡ whole.primaries m
-  pub second-count : secondaries x ≡ whole.secondaries m
+  pub second_count : secondaries x ≡ whole.secondaries m
   pub first_step : Parts (primary x) (whole.primary m)
-  pub second-step : Parts (secondary x) (whole.secondary m)
+  pub second_step : Parts (secondary x) (whole.secondary m)

@@ -6,13 +6,15 @@
 // answered. Steps are IEEE 754's doubles, and each sum and subtraction rounds once. A walk ends where a step is 0, where both are equal, or
 // where a count would pass 65,535.
 // specs/: Fractional and Walk define, Answers says what each call answers, Theorems states what holds of every walk. Nothing is assumed.
+#![tactic(auto)]
+
 mod walks;
 
 ghost use Rattle.std.specs.Prelude.{◌≡◌, length};
 ghost use Rattle.answer.specs.Lent.{Filled};
-ghost use Rattle.answer.specs.Refusals.{countOutcome};
-ghost use Rattle.mos_fractional.specs.Fractional.{childOf};
-ghost use Rattle.mos_fractional.specs.Answers.{genesisOutcome, nthOutcome, lengthOutcome, listingOutcome, fractionalOutcome, childIn, walkOutcome};
+ghost use Rattle.answer.specs.Refusals.{count_outcome};
+ghost use Rattle.mos_fractional.specs.Fractional.{child_of};
+ghost use Rattle.mos_fractional.specs.Answers.{genesis_outcome, nth_outcome, length_outcome, listing_outcome, fractional_outcome, child_in, walk_outcome};
 
 use answer::{CountAnswer, Refusal};
 
@@ -51,7 +53,7 @@ pub enum FractionalWalkAnswer {
 impl FractionalMos {
     // The pattern that a generator's walk begins with: one primary step, the generator within the octave, and one secondary, the rest (22).
     pub fn new_genesis(generator: f64) -> FractionalAnswer
-        ensures { fractionalOutcome result ≡ genesisOutcome generator }
+        ensures { fractional_outcome result ≡ genesis_outcome generator }
     {
         let infinity = 1.0 / 0.0;
         if generator < infinity {
@@ -80,7 +82,7 @@ impl FractionalMos {
     // The next pattern: as many steps more as the longer step has, which are split off it. Any record is answered; infinite steps, and
     // steps that are not numbers, by IEEE 754's comparisons.
     pub fn child(self) -> ChildAnswer
-        ensures { childIn result ≡ childOf self }
+        ensures { child_in result ≡ child_of self }
     {
         let a = self.num_primary_steps;
         let b = self.num_secondary_steps;
@@ -117,7 +119,7 @@ impl FractionalMos {
 
 // The k-th pattern of a generator's walk, the genesis for 0 (22).
 pub fn nth_child(generator: f64, k: u32) -> FractionalWalkAnswer
-    ensures { walkOutcome result ≡ nthOutcome generator k }
+    ensures { walk_outcome result ≡ nth_outcome generator k }
 {
     let genesis = FractionalMos::new_genesis(generator);
     match genesis {
@@ -134,7 +136,7 @@ pub fn nth_child(generator: f64, k: u32) -> FractionalWalkAnswer
 
 // How many patterns a generator's walk has, and `children` writes: 65,535 at most (22).
 pub fn children_len(generator: f64) -> CountAnswer
-    ensures { countOutcome result ≡ lengthOutcome generator }
+    ensures { count_outcome result ≡ length_outcome generator }
 {
     let genesis = FractionalMos::new_genesis(generator);
     match genesis {
@@ -145,7 +147,7 @@ pub fn children_len(generator: f64) -> CountAnswer
 
 // All patterns of a generator's walk, the genesis first (22, 10).
 pub fn children(generator: f64, out: &mut [FractionalMos]) -> CountAnswer
-    ensures { Filled (listingOutcome generator (length out.old)) (countOutcome result) out.old out.new }
+    ensures { Filled (listing_outcome generator (length out.old)) (count_outcome result) out.old out.new }
 {
     let mut turn = walks::first(generator, out.len());
     let mut i: usize = 0;

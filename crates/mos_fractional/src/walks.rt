@@ -3,10 +3,10 @@
 // Parts, and no entry points: those with a `requires` ask for counts above 0, without which a walk might not end.
 ghost use Rattle.std.specs.Prelude.{◌≡◌, length};
 ghost use Rattle.std.proofs.Math.ListN.{get_elem?};
-ghost use Rattle.answer.specs.Refusals.{countOutcome};
+ghost use Rattle.answer.specs.Refusals.{count_outcome};
 ghost use Rattle.mos_fractional.specs.Walk.{children};
-ghost use Rattle.mos_fractional.specs.Answers.{childIn, listingOutcome};
-ghost use Rattle.mos_fractional.specs.Parts.{Growing, Turns, nextTurn, storedOf, answeredOf};
+ghost use Rattle.mos_fractional.specs.Answers.{child_in, listing_outcome};
+ghost use Rattle.mos_fractional.specs.Parts.{Growing, Turns, next_turn, stored_of, answered_of};
 
 use crate::{ChildAnswer, FractionalAnswer, FractionalMos};
 use answer::{CountAnswer, Refusal};
@@ -14,7 +14,7 @@ use answer::{CountAnswer, Refusal};
 // The k-th pattern of the walk from m, m itself for 0.
 pub(crate) fn nth_from(m: FractionalMos, k: u32) -> ChildAnswer
     requires { Growing m }
-    ensures { childIn result ≡ get_elem? (children m) k }
+    ensures { child_in result ≡ get_elem? (children m) k }
 {
     let mut here = m;
     let mut left = k;
@@ -66,7 +66,7 @@ pub(crate) struct Turn {
 // The first turn of a listing into a slice of `room` patterns (22, 10). Patterns are counted only where a walk could be too long for the
 // slice: none has more than 65,535.
 pub(crate) fn first(generator: f64, room: usize) -> Turn
-    ensures { Turns result (storedOf (listingOutcome generator room)) }
+    ensures { Turns result (stored_of (listing_outcome generator room)) }
 {
     let genesis = FractionalMos::new_genesis(generator);
     match genesis {
@@ -103,7 +103,7 @@ pub(crate) fn first(generator: f64, room: usize) -> Turn
 
 // The turn after that of `m`: its child is stored, or there is none and the listing ends.
 pub(crate) fn next(m: FractionalMos) -> Turn
-    ensures { result ≡ nextTurn m }
+    ensures { result ≡ next_turn m }
 {
     let answer = m.child();
     match answer {
@@ -121,7 +121,7 @@ pub(crate) fn next(m: FractionalMos) -> Turn
 // What a listing that stored `count` patterns answers. No walk is empty: where nothing was stored the generator is no number (22), or the
 // slice too short (10).
 pub(crate) fn answer(generator: f64, count: usize) -> CountAnswer
-    ensures { countOutcome result ≡ answeredOf generator count }
+    ensures { count_outcome result ≡ answered_of generator count }
 {
     if 0 < count {
         return CountAnswer::Given(count);

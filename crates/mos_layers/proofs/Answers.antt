@@ -9,85 +9,85 @@ use lib.ListN.{length}
 use Rattle.answer.specs.Outcome.{given, refused}
 use Rattle.answer.specs.Lent.{Filled}
 use Rattle.text.specs.Writing.{Wrote}
-use Rattle.answer.proofs.Lent.{held, not-held, filled-refused}
-use Rattle.text.proofs.Writing.{wrote_as, filled-given}
-use Rattle.math.specs.Gcd.{gcdOrOne}
+use Rattle.answer.proofs.Lent.{held, not_held, filled_refused}
+use Rattle.text.proofs.Writing.{wrote_as, filled_given}
+use Rattle.math.specs.Gcd.{gcd_or_one}
 use Rattle.mos.specs.declared.Mos.{Mos}
-use Rattle.mos.specs.Patterns.{primaries, secondaries, primary, secondary, size_of, isPattern, cyclesOf, reducedSizeOf}
-use Rattle.mos.proofs.Sizes.{pattern-fits}
+use Rattle.mos.specs.Patterns.{primaries, secondaries, primary, secondary, size_of, is_pattern, cycles_of, reduced_size_of}
+use Rattle.mos.proofs.Sizes.{pattern_fits}
 use Rattle.mos_layers.specs.declared.Runs.{Runs}
-use Rattle.mos_layers.specs.Layers.{allSizes, dropEmpty, numbered, layerSizes, layersOf}
-use Rattle.mos_layers.specs.Answers.{layerSizesOutcome, layersOutcome}
+use Rattle.mos_layers.specs.Layers.{all_sizes, drop_empty, numbered, layer_sizes, layers_of}
+use Rattle.mos_layers.specs.Answers.{layer_sizes_outcome, layers_outcome}
 use Rattle.mos_layers.specs.Theorems.{sum}
-use Rattle.mos_layers.specs.Parts.{runSizes}
-use Rattle.mos_layers.proofs.Plans.{all-sum}
-use Rattle.mos_layers.proofs.Theorems.{reduced-is, layers-fill-the-reduced-size}
+use Rattle.mos_layers.specs.Parts.{run_sizes}
+use Rattle.mos_layers.proofs.Plans.{all_sum}
+use Rattle.mos_layers.proofs.Theorems.{reduced_is, layers_fill_the_reduced_size}
 
-module _ (m : Mos) (xs : List ℕ) {test : Bool} (e : test ≡ isPattern m) (f : test ≡ false) where
-  pub sizes-no-pattern : Filled (layerSizesOutcome m (length xs)) (refused 7) xs xs
-  unfolding layerSizesOutcome
-  sizes-no-pattern = filled-refused 7 xs (simp (sym e ∙ f)) refl
+module _ (m : Mos) (xs : List ℕ) {test : Bool} (e : test ≡ is_pattern m) (f : test ≡ false) where
+  pub sizes_no_pattern : Filled (layer_sizes_outcome m (length xs)) (refused 7) xs xs
+  unfolding layer_sizes_outcome
+  sizes_no_pattern = filled_refused 7 xs (simp (sym e ∙ f)) refl
 
-  pub layers-no-pattern : Filled (layersOutcome m (length xs)) (refused 7) xs xs
-  unfolding layersOutcome
-  layers-no-pattern = filled-refused 7 xs (simp (sym e ∙ f)) refl
+  pub layers_no_pattern : Filled (layers_outcome m (length xs)) (refused 7) xs xs
+  unfolding layers_outcome
+  layers_no_pattern = filled_refused 7 xs (simp (sym e ∙ f)) refl
 
-reduced-fits : (m : Mos) → isPattern m ≡ true → reducedSizeOf m ≤ 65535
-unfolding reducedSizeOf
-reduced-fits m e = omega (arith, div-le_self (size_of m) (cyclesOf m), pattern-fits m e)
+reduced_fits : (m : Mos) → is_pattern m ≡ true → reduced_size_of m ≤ 65535
+unfolding reduced_size_of
+reduced_fits m e = omega (arith, div-le_self (size_of m) (cycles_of m), pattern_fits m e)
 
 -- the runs are the pattern's
 abbrev pub RunsOf : Mos → Runs → Type 0
-RunsOf m runs = runSizes runs ≡ allSizes (primaries m) (secondaries m) (primary m / cyclesOf m) (secondary m / cyclesOf m)
+RunsOf m runs = run_sizes runs ≡ all_sizes (primaries m) (secondaries m) (primary m / cycles_of m) (secondary m / cycles_of m)
 
 module _ (m : Mos) (runs : Runs) (is : RunsOf m runs) where
-  pub runs-sizes : dropEmpty (runSizes runs) ≡ layerSizes m
-  unfolding layerSizes
-  runs-sizes = ap dropEmpty is
+  pub runs_sizes : drop_empty (run_sizes runs) ≡ layer_sizes m
+  unfolding layer_sizes
+  runs_sizes = ap drop_empty is
 
-  runs-layers : numbered 0 (dropEmpty (runSizes runs)) ≡ layersOf m
-  unfolding layersOf
-  runs-layers = ap (numbered 0) runs-sizes
+  runs_layers : numbered 0 (drop_empty (run_sizes runs)) ≡ layers_of m
+  unfolding layers_of
+  runs_layers = ap (numbered 0) runs_sizes
 
-  runs-sum : sum (runSizes runs) ≡ reducedSizeOf m
-  runs-sum = ap sum is ∙ all-sum (primaries m) (secondaries m) (primary m / cyclesOf m) (secondary m / cyclesOf m) ∙ sym (reduced-is m)
+  runs_sum : sum (run_sizes runs) ≡ reduced_size_of m
+  runs_sum = ap sum is ∙ all_sum (primaries m) (secondaries m) (primary m / cycles_of m) (secondary m / cycles_of m) ∙ sym (reduced_is m)
 
-  module _ (xs : List ℕ) {test : Bool} (e : test ≡ isPattern m) (f : test ≡ true) where
-    module _ {n : ℕ} (counted : n ≡ length (dropEmpty (runSizes runs))) where
-      sizes-len : n ≡ length (layerSizes m)
-      sizes-len = counted ∙ ap length runs-sizes
+  module _ (xs : List ℕ) {test : Bool} (e : test ≡ is_pattern m) (f : test ≡ true) where
+    module _ {n : ℕ} (counted : n ≡ length (drop_empty (run_sizes runs))) where
+      sizes_len : n ≡ length (layer_sizes m)
+      sizes_len = counted ∙ ap length runs_sizes
 
-      pub sizes-no-room : length xs < n → Filled (layerSizesOutcome m (length xs)) (refused 10) xs xs
-      unfolding layerSizesOutcome
-      sizes-no-room h =
-          filled-refused 10 xs (simp (sym e ∙ f) (not-held (length xs) (layerSizes m) (omega (arith, sizes-len)))) refl
+      pub sizes_no_room : length xs < n → Filled (layer_sizes_outcome m (length xs)) (refused 10) xs xs
+      unfolding layer_sizes_outcome
+      sizes_no_room h =
+          filled_refused 10 xs (simp (sym e ∙ f) (not_held (length xs) (layer_sizes m) (omega (arith, sizes_len)))) refl
 
-      pub sizes-given : n ≤ length xs → {ys : List ℕ} {next : ℕ} → Wrote xs 0 (dropEmpty (runSizes runs)) ys next
-          → Filled (layerSizesOutcome m (length xs)) (given n) xs ys
-      unfolding layerSizesOutcome
-      sizes-given h w =
-          filled-given (simp (sym e ∙ f) (held (length xs) (layerSizes m) (omega (arith, sizes-len)))) (ap given sizes-len) (omega (arith, sizes-len)) (wrote_as runs-sizes w)
+      pub sizes_given : n ≤ length xs → {ys : List ℕ} {next : ℕ} → Wrote xs 0 (drop_empty (run_sizes runs)) ys next
+          → Filled (layer_sizes_outcome m (length xs)) (given n) xs ys
+      unfolding layer_sizes_outcome
+      sizes_given h w =
+          filled_given (simp (sym e ∙ f) (held (length xs) (layer_sizes m) (omega (arith, sizes_len)))) (ap given sizes_len) (omega (arith, sizes_len)) (wrote_as runs_sizes w)
 
-    pub layers-given : {n : ℕ} → n ≡ reducedSizeOf m → n ≤ length xs → {ys : List ℕ} {next : ℕ} → Wrote xs 0 (numbered 0 (dropEmpty (runSizes runs))) ys next
-        → Filled (layersOutcome m (length xs)) (given n) xs ys
-    unfolding layersOutcome
-    layers-given {n} reduced h w =
-        let len : n ≡ length (layersOf m) = reduced ∙ sym (layers-fill-the-reduced-size m) in
-        filled-given (simp (sym e ∙ f) (held (length xs) (layersOf m) (omega arith))) (ap given len) (omega arith) (wrote_as runs-layers w)
+    pub layers_given : {n : ℕ} → n ≡ reduced_size_of m → n ≤ length xs → {ys : List ℕ} {next : ℕ} → Wrote xs 0 (numbered 0 (drop_empty (run_sizes runs))) ys next
+        → Filled (layers_outcome m (length xs)) (given n) xs ys
+    unfolding layers_outcome
+    layers_given {n} reduced h w =
+        let len : n ≡ length (layers_of m) = reduced ∙ sym (layers_fill_the_reduced_size m) in
+        filled_given (simp (sym e ∙ f) (held (length xs) (layers_of m) (omega arith))) (ap given len) (omega arith) (wrote_as runs_layers w)
 
     -- there is room for what the code writes
-    pub layers-room : {n : ℕ} → n ≡ reducedSizeOf m → n ≤ length xs → (sum (runSizes runs) ≤ 65535) × (sum (runSizes runs) ≤ length xs)
-    layers-room reduced h =
-        (omega (arith, runs-sum, reduced-fits m (sym e ∙ f)), omega (arith, runs-sum))
+    pub layers_room : {n : ℕ} → n ≡ reduced_size_of m → n ≤ length xs → (sum (run_sizes runs) ≤ 65535) × (sum (run_sizes runs) ≤ length xs)
+    layers_room reduced h =
+        (omega (arith, runs_sum, reduced_fits m (sym e ∙ f)), omega (arith, runs_sum))
 
-module _ (m : Mos) (xs : List ℕ) {test : Bool} (e : test ≡ isPattern m) (f : test ≡ true) where
-  pub layers-no-room : {n : ℕ} → n ≡ reducedSizeOf m → length xs < n → Filled (layersOutcome m (length xs)) (refused 10) xs xs
-  unfolding layersOutcome
-  layers-no-room {n} reduced h =
-      let len : n ≡ length (layersOf m) = reduced ∙ sym (layers-fill-the-reduced-size m) in
-      filled-refused 10 xs (simp (sym e ∙ f) (not-held (length xs) (layersOf m) (omega arith))) refl
+module _ (m : Mos) (xs : List ℕ) {test : Bool} (e : test ≡ is_pattern m) (f : test ≡ true) where
+  pub layers_no_room : {n : ℕ} → n ≡ reduced_size_of m → length xs < n → Filled (layers_outcome m (length xs)) (refused 10) xs xs
+  unfolding layers_outcome
+  layers_no_room {n} reduced h =
+      let len : n ≡ length (layers_of m) = reduced ∙ sym (layers_fill_the_reduced_size m) in
+      filled_refused 10 xs (simp (sym e ∙ f) (not_held (length xs) (layers_of m) (omega arith))) refl
 
 -- the reduced size as the code divides it
-pub code-reduced : (m : Mos) {size g : ℕ} → size ≡ size_of m → g ≡ gcdOrOne (primary m) (secondary m) → size / g ≡ reducedSizeOf m
-unfolding reducedSizeOf cyclesOf
-code-reduced m e f = ap₂ (λ (x y : ℕ). x / y) e f
+pub code_reduced : (m : Mos) {size g : ℕ} → size ≡ size_of m → g ≡ gcd_or_one (primary m) (secondary m) → size / g ≡ reduced_size_of m
+unfolding reduced_size_of cycles_of
+code_reduced m e f = ap₂ (λ (x y : ℕ). x / y) e f

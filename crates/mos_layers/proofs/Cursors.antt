@@ -6,13 +6,13 @@ use native.Mathlib.Nat.{add-zero, add_assoc, suc-mul, mul-le-mul_right}
 use native.Mathlib.Omega.{arith}
 use lib.ListN.{length, replicate, length-append, length-replicate}
 use Rattle.text.specs.Writing.{Room, Wrote, joined}
-use Rattle.text.proofs.Writing.{then, wrote_as, wrote_none, wrote-length}
-use Rattle.text.proofs.Joined.{joined-none, joined-more}
+use Rattle.text.proofs.Writing.{then, wrote_as, wrote_none, wrote_length}
+use Rattle.text.proofs.Joined.{joined_none, joined_more}
 use Rattle.mos_layers.specs.declared.Cursor.{Cursor}
-use Rattle.mos_layers.specs.Layers.{dropEmpty, numbered}
+use Rattle.mos_layers.specs.Layers.{drop_empty, numbered}
 use Rattle.mos_layers.specs.Theorems.{sum}
 use Rattle.mos_layers.specs.Parts.{Laid, Space}
-use Rattle.mos_layers.proofs.Sizes.{sum-replicate, sum_drop, drop-append, drop-none, few, numbered-append, length-numbered, replicate_more, sum-joined-more, sum-joined-le}
+use Rattle.mos_layers.proofs.Sizes.{sum_replicate, sum_drop, drop_append, drop_none, few, numbered_append, length_numbered, replicate_more, sum_joined_more, sum_joined_le}
 
 pub laid_as : {xs ys : List ℕ} {c d : Cursor} {before after : List ℕ} → xs ≡ ys → Laid xs c d before after → Laid ys c d before after
 laid_as {xs} {ys} {c} {d} {before} {after} e l = subst (λ (zs : List ℕ). Laid zs c d before after) e l
@@ -20,11 +20,11 @@ laid_as {xs} {ys} {c} {d} {before} {after} e l = subst (λ (zs : List ℕ). Laid
 pub laid_none : (c : Cursor) (out : List ℕ) → Laid [] c c out out
 laid_none c out = record { wrote = wrote_none out c.at; next = sym (add-zero _) }
 
-pub laid-empty : (times size : ℕ) (c : Cursor) (out : List ℕ) → size ≡ 0 → Laid (replicate times size) c c out out
-laid-empty times size c out e =
+pub laid_empty : (times size : ℕ) (c : Cursor) (out : List ℕ) → size ≡ 0 → Laid (replicate times size) c c out out
+laid_empty times size c out e =
     record {
-      wrote = wrote_as (ap (numbered c.number) (sym (drop-none times size e))) (wrote_none out c.at);
-      next = sym (ap (λ (l : List ℕ). c.number + length l) (drop-none times size e) ∙ add-zero _);
+      wrote = wrote_as (ap (numbered c.number) (sym (drop_none times size e))) (wrote_none out c.at);
+      next = sym (ap (λ (l : List ℕ). c.number + length l) (drop_none times size e) ∙ add-zero _);
     }
 
 pub laid_one : {c : Cursor} {before after : List ℕ} {end : ℕ} (size : ℕ) → (size ≡ 0 → ⊥) → Wrote before c.at (replicate size c.number) after end
@@ -37,38 +37,38 @@ pub laid_then : {xs ys : List ℕ} {c d r : Cursor} {o₁ o₂ o₃ : List ℕ} 
 laid_then {xs} {ys} {c} {d} {r} {o₁} {o₂} {o₃} u v =
     record {
       wrote = wrote_as
-          (sym (ap (numbered c.number) (drop-append xs ys) ∙ numbered-append c.number (dropEmpty xs) (dropEmpty ys)))
-          (then u.wrote (wrote_as (ap (λ (j : ℕ). numbered j (dropEmpty ys)) u.next) v.wrote));
+          (sym (ap (numbered c.number) (drop_append xs ys) ∙ numbered_append c.number (drop_empty xs) (drop_empty ys)))
+          (then u.wrote (wrote_as (ap (λ (j : ℕ). numbered j (drop_empty ys)) u.next) v.wrote));
       next = v.next
-          ∙ ap (λ (j : ℕ). j + length (dropEmpty ys)) u.next
-          ∙ add_assoc c.number (length (dropEmpty xs)) (length (dropEmpty ys))
-          ∙ ap (λ (j : ℕ). c.number + j) (sym (ap length (drop-append xs ys) ∙ length-append (dropEmpty xs) (dropEmpty ys)));
+          ∙ ap (λ (j : ℕ). j + length (drop_empty ys)) u.next
+          ∙ add_assoc c.number (length (drop_empty xs)) (length (drop_empty ys))
+          ∙ ap (λ (j : ℕ). c.number + j) (sym (ap length (drop_append xs ys) ∙ length-append (drop_empty xs) (drop_empty ys)));
     }
 
-pub laid-length : {zs : List ℕ} {c d : Cursor} {before after : List ℕ} → Laid zs c d before after → length after ≡ length before
-laid-length l = wrote-length l.wrote
+pub laid_length : {zs : List ℕ} {c d : Cursor} {before after : List ℕ} → Laid zs c d before after → length after ≡ length before
+laid_length l = wrote_length l.wrote
 
 -- the cursor has gone on by the sum of the sizes
-pub laid-place : {zs : List ℕ} {c d : Cursor} {before after : List ℕ} → Laid zs c d before after → d.at ≡ c.at + sum zs
-laid-place {zs} {c} l =
-    l.wrote.end ∙ ap (λ (n : ℕ). c.at + n) (length-numbered c.number (dropEmpty zs) ∙ sum_drop zs)
+pub laid_place : {zs : List ℕ} {c d : Cursor} {before after : List ℕ} → Laid zs c d before after → d.at ≡ c.at + sum zs
+laid_place {zs} {c} l =
+    l.wrote.end ∙ ap (λ (n : ℕ). c.at + n) (length_numbered c.number (drop_empty zs) ∙ sum_drop zs)
 
 -- room for what is still to come
-pub space-after : {zs : List ℕ} {c d : Cursor} {before after : List ℕ} (total n : ℕ) → Space total c before → Laid zs c d before after → sum zs + n ≤ total → Space n d after
-space-after {zs} total n s l h =
+pub space_after : {zs : List ℕ} {c d : Cursor} {before after : List ℕ} (total n : ℕ) → Space total c before → Laid zs c d before after → sum zs + n ≤ total → Space n d after
+space_after {zs} total n s l h =
     record {
-      fits = omega (arith, s.fits, laid-place l, laid-length l);
-      small = omega (arith, s.small, laid-place l);
-      low = omega (arith, s.low, laid-place l, l.next, few zs);
+      fits = omega (arith, s.fits, laid_place l, laid_length l);
+      small = omega (arith, s.small, laid_place l);
+      low = omega (arith, s.low, laid_place l, l.next, few zs);
     }
 
-pub space-run : {size : ℕ} {c : Cursor} {out : List ℕ} → Space size c out → Room out c.at (replicate size c.number)
-space-run {size} {c} s = omega (arith, s.fits, length-replicate size c.number)
+pub space_run : {size : ℕ} {c : Cursor} {out : List ℕ} → Space size c out → Room out c.at (replicate size c.number)
+space_run {size} {c} s = omega (arith, s.fits, length-replicate size c.number)
 
 -- ---- a run of layers
 
 pub one_more : (i times size : ℕ) → i < times → sum (replicate i size) + size ≤ times * size
-one_more i times size h = omega (arith, sum-replicate i size, suc-mul i size, mul-le-mul_right size h)
+one_more i times size h = omega (arith, sum_replicate i size, suc-mul i size, mul-le-mul_right size h)
 
 pub laid_more : (i size : ℕ) {c d r : Cursor} {o₁ o₂ o₃ : List ℕ} → Laid (replicate i size) c d o₁ o₂ → Laid (size ∷ []) d r o₂ o₃
     → Laid (replicate (i + 1) size) c r o₁ o₃
@@ -78,12 +78,12 @@ laid_more i size u v = laid_as (sym (replicate_more i size)) (laid_then u v)
 
 module _ (f : ℕ → List ℕ) where
   pub all_start : (c : Cursor) (out : List ℕ) → Laid (joined f 0) c c out out
-  all_start c out = laid_as (sym (joined-none f)) (laid_none c out)
+  all_start c out = laid_as (sym (joined_none f)) (laid_none c out)
 
   pub all_more : (i : ℕ) {c d r : Cursor} {o₁ o₂ o₃ : List ℕ} → Laid (joined f i) c d o₁ o₂ → Laid (f i) d r o₂ o₃ → Laid (joined f (i + 1)) c r o₁ o₃
-  all_more i u v = laid_as (sym (joined-more f i)) (laid_then u v)
+  all_more i u v = laid_as (sym (joined_more f i)) (laid_then u v)
 
-  pub all-space : (i n : ℕ) → i < n → (run : ℕ) → sum (f i) ≡ run → {c d : Cursor} {before after : List ℕ} → Space (sum (joined f n)) c before → Laid (joined f i) c d before after
+  pub all_space : (i n : ℕ) → i < n → (run : ℕ) → sum (f i) ≡ run → {c d : Cursor} {before after : List ℕ} → Space (sum (joined f n)) c before → Laid (joined f i) c d before after
       → Space run d after
-  all-space i n h run e s l =
-      space-after (sum (joined f n)) run s l (omega (arith, sum-joined-more f i, sum-joined-le f (i + 1) n (omega arith)))
+  all_space i n h run e s l =
+      space_after (sum (joined f n)) run s l (omega (arith, sum_joined_more f i, sum_joined_le f (i + 1) n (omega arith)))

@@ -3,14 +3,14 @@
 use Rattle.std.specs.Prelude.{ℕ, ◌≡◌, List, [], ◌∷◌, map}
 use Rattle.mos.specs.declared.Mos.{Mos}
 use Rattle.mos.specs.Patterns.{mos}
-use Rattle.mos_layers.specs.Layers.{layerSizes, layersOf}
+use Rattle.mos_layers.specs.Layers.{layer_sizes, layers_of}
 
 pub record SizesExample : Type 0 where
   pub pattern : Mos
   pub sizes : List ℕ
 
-abbrev pub sizesExamples : List SizesExample
-sizesExamples =
+abbrev pub sizes_examples : List SizesExample
+sizes_examples =
     record { pattern = mos 5 2 5 3; sizes = 7 ∷ 7 ∷ 5 ∷ 5 ∷ 7 ∷ [] }
     ∷ record { pattern = mos 5 2 3 2; sizes = 7 ∷ 5 ∷ 2 ∷ 5 ∷ [] }
     ∷ record { pattern = mos 5 2 4 2; sizes = 7 ∷ 5 ∷ [] }
@@ -28,8 +28,8 @@ pub record LayersExample : Type 0 where
   pub pattern : Mos
   pub layers : List ℕ
 
-abbrev pub layersExamples : List LayersExample
-layersExamples =
+abbrev pub layers_examples : List LayersExample
+layers_examples =
     record {
       pattern = mos 5 2 5 3;
       layers =
@@ -48,6 +48,6 @@ layersExamples =
 
 -- Theorem: the definitions give what the examples say.
 pub record ExamplesHold : Type 0 where
-  pub sizes : map (λ (e : SizesExample). layerSizes e.pattern) sizesExamples ≡ map (λ (e : SizesExample). e.sizes) sizesExamples
-  pub layers : map (λ (e : LayersExample). layersOf e.pattern) layersExamples
-      ≡ map (λ (e : LayersExample). e.layers) layersExamples
+  pub sizes : map (λ (e : SizesExample). layer_sizes e.pattern) sizes_examples ≡ map (λ (e : SizesExample). e.sizes) sizes_examples
+  pub layers : map (λ (e : LayersExample). layers_of e.pattern) layers_examples
+      ≡ map (λ (e : LayersExample). e.layers) layers_examples

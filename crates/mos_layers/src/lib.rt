@@ -5,14 +5,16 @@
 // the runs that they are written by. Counts that no layer uses are never added.
 // Every entry point answers any four numbers; what is no pattern is refused (7), and so is a slice that is too short (10).
 // specs/: Layers defines, Answers says what each call answers, Theorems and Examples state what holds. Nothing is assumed.
+#![tactic(auto)]
+
 pub mod parts;
 
 ghost use Rattle.std.specs.Prelude.{◌≡◌, length};
 ghost use Rattle.answer.specs.Lent.{Filled};
-ghost use Rattle.answer.specs.Refusals.{countOutcome};
-ghost use Rattle.mos.specs.Answers.{ofPattern};
-ghost use Rattle.mos_layers.specs.Layers.{layerSizes, layersOf};
-ghost use Rattle.mos_layers.specs.Answers.{layerSizesOutcome, layersOutcome};
+ghost use Rattle.answer.specs.Refusals.{count_outcome};
+ghost use Rattle.mos.specs.Answers.{of_pattern};
+ghost use Rattle.mos_layers.specs.Layers.{layer_sizes, layers_of};
+ghost use Rattle.mos_layers.specs.Answers.{layer_sizes_outcome, layers_outcome};
 
 use answer::{CountAnswer, Refusal};
 use mos::Mos;
@@ -33,7 +35,7 @@ pub struct Cursor {
 
 // The size of each layer, in the order of the chain: natural, sharp, enharmonic, flat (7, 10).
 pub fn layer_sizes(mos: Mos, out: &mut [u16]) -> CountAnswer
-    ensures { Filled (layerSizesOutcome mos (length out.old)) (countOutcome result) out.old out.new }
+    ensures { Filled (layer_sizes_outcome mos (length out.old)) (count_outcome result) out.old out.new }
 {
     if mos::parts::is_pattern(mos) {
         let runs = parts::runs_in(mos);
@@ -49,7 +51,7 @@ pub fn layer_sizes(mos: Mos, out: &mut [u16]) -> CountAnswer
 
 // How many numbers `layer_sizes` writes (7).
 pub fn layer_sizes_len(mos: Mos) -> CountAnswer
-    ensures { countOutcome result ≡ ofPattern mos (length (layerSizes mos)) }
+    ensures { count_outcome result ≡ of_pattern mos (length (layer_sizes mos)) }
 {
     if mos::parts::is_pattern(mos) {
         return CountAnswer::Given(parts::count_sizes(parts::runs_in(mos)) as usize);
@@ -59,7 +61,7 @@ pub fn layer_sizes_len(mos: Mos) -> CountAnswer
 
 // Each layer's number as often as its size: the layer of each note of the chain, as many as `Mos::reduced_size` says (7, 10).
 pub fn get_layers(mos: Mos, out: &mut [u16]) -> CountAnswer
-    ensures { Filled (layersOutcome mos (length out.old)) (countOutcome result) out.old out.new }
+    ensures { Filled (layers_outcome mos (length out.old)) (count_outcome result) out.old out.new }
 {
     if mos::parts::is_pattern(mos) {
         let cycles = math::gcd_u16(mos.primary_step, mos.secondary_step);

@@ -3,10 +3,10 @@
 // Parts, and no entry points: they ask for a pattern, and for room. An entry point first answers questions 7 and 10.
 ghost use Rattle.std.specs.Prelude.{◌≡◌, true, min, ◌+◌, ◌*◌, ◌-◌, ◌/◌, ◌≤◌, ◌<◌, length, replicate};
 ghost use Rattle.text.specs.Writing.{Room, Wrote};
-ghost use Rattle.mos.specs.Patterns.{isPattern, primaries, secondaries, primary, secondary, cyclesOf};
-ghost use Rattle.mos_layers.specs.Layers.{holding, allSizes, dropEmpty, numbered};
+ghost use Rattle.mos.specs.Patterns.{is_pattern, primaries, secondaries, primary, secondary, cycles_of};
+ghost use Rattle.mos_layers.specs.Layers.{holding, all_sizes, drop_empty, numbered};
 ghost use Rattle.mos_layers.specs.Theorems.{sum};
-ghost use Rattle.mos_layers.specs.Parts.{runSizes, Laid, Space};
+ghost use Rattle.mos_layers.specs.Parts.{run_sizes, Laid, Space};
 
 use crate::{Cursor, Runs};
 use mos::Mos;
@@ -38,7 +38,7 @@ fn held(a: u16, b: u16, x: u16, y: u16) -> u16
 // The layers of counts a and b and divided steps x and y: natural; sharp, full ones first; enharmonic; sharp in reverse.
 fn runs_of(a: u16, b: u16, x: u16, y: u16) -> Runs
     requires { a * x + b * y ≤ 65535 }
-    ensures { runSizes result ≡ allSizes a b x y }
+    ensures { run_sizes result ≡ all_sizes a b x y }
 {
     let e = less(x, 1);
     let f = less(y, 1);
@@ -67,8 +67,8 @@ pub fn divided(x: u16, cycles: u16) -> u16
 
 // The layers of a pattern whose steps have the greatest common divisor `cycles`.
 pub fn runs_over(m: Mos, cycles: u16) -> Runs
-    requires { (isPattern m ≡ true) × (cycles ≡ cyclesOf m) }
-    ensures { runSizes result ≡ allSizes (primaries m) (secondaries m) (primary m / cyclesOf m) (secondary m / cyclesOf m) }
+    requires { (is_pattern m ≡ true) × (cycles ≡ cycles_of m) }
+    ensures { run_sizes result ≡ all_sizes (primaries m) (secondaries m) (primary m / cycles_of m) (secondary m / cycles_of m) }
 {
     let x = divided(m.primary_step, cycles);
     let y = divided(m.secondary_step, cycles);
@@ -77,8 +77,8 @@ pub fn runs_over(m: Mos, cycles: u16) -> Runs
 
 // The layers of a pattern.
 pub(crate) fn runs_in(m: Mos) -> Runs
-    requires { isPattern m ≡ true }
-    ensures { runSizes result ≡ allSizes (primaries m) (secondaries m) (primary m / cyclesOf m) (secondary m / cyclesOf m) }
+    requires { is_pattern m ≡ true }
+    ensures { run_sizes result ≡ all_sizes (primaries m) (secondaries m) (primary m / cycles_of m) (secondary m / cycles_of m) }
 {
     runs_over(m, math::gcd_u16(m.primary_step, m.secondary_step))
 }
@@ -123,8 +123,8 @@ fn put_layers(out: &mut [u16], c: Cursor, size: u16, times: u16) -> Cursor
 
 // The list of layer numbers.
 pub(crate) fn put_all_layers(out: &mut [u16], runs: Runs)
-    requires { (sum (runSizes runs) ≤ 65535) × (sum (runSizes runs) ≤ length out.old) }
-    ensures { Wrote out.old 0 (numbered 0 (dropEmpty (runSizes runs))) out.new (sum (runSizes runs)) }
+    requires { (sum (run_sizes runs) ≤ 65535) × (sum (run_sizes runs) ≤ length out.old) }
+    ensures { Wrote out.old 0 (numbered 0 (drop_empty (run_sizes runs))) out.new (sum (run_sizes runs)) }
 {
     let sizes = runs.sizes;
     let times = runs.times;
@@ -138,7 +138,7 @@ pub(crate) fn put_all_layers(out: &mut [u16], runs: Runs)
 
 // How many layers a run has; none where they are empty.
 fn count_run(size: u16, times: u16) -> u32
-    ensures { (result ≡ length (dropEmpty (replicate times size))) × (result ≤ 65535) }
+    ensures { (result ≡ length (drop_empty (replicate times size))) × (result ≤ 65535) }
 {
     if size == 0 {
         return 0;
@@ -148,7 +148,7 @@ fn count_run(size: u16, times: u16) -> u32
 
 // How many layers there are, empty ones dropped.
 pub fn count_sizes(runs: Runs) -> u32
-    ensures { result ≡ length (dropEmpty (runSizes runs)) }
+    ensures { result ≡ length (drop_empty (run_sizes runs)) }
 {
     let sizes = runs.sizes;
     let times = runs.times;
@@ -163,8 +163,8 @@ pub fn count_sizes(runs: Runs) -> u32
 
 // The sizes of one run's layers; none where they are empty.
 fn put_sizes(out: &mut [u16], at: usize, size: u16, times: u16) -> usize
-    requires { Room out.old at (dropEmpty (replicate times size)) }
-    ensures { Wrote out.old at (dropEmpty (replicate times size)) out.new result }
+    requires { Room out.old at (drop_empty (replicate times size)) }
+    ensures { Wrote out.old at (drop_empty (replicate times size)) out.new result }
 {
     if size == 0 {
         return at;
@@ -174,8 +174,8 @@ fn put_sizes(out: &mut [u16], at: usize, size: u16, times: u16) -> usize
 
 // The list of layer sizes.
 pub(crate) fn put_all_sizes(out: &mut [u16], runs: Runs)
-    requires { Room out.old 0 (dropEmpty (runSizes runs)) }
-    ensures { Wrote out.old 0 (dropEmpty (runSizes runs)) out.new (length (dropEmpty (runSizes runs))) }
+    requires { Room out.old 0 (drop_empty (run_sizes runs)) }
+    ensures { Wrote out.old 0 (drop_empty (run_sizes runs)) out.new (length (drop_empty (run_sizes runs))) }
 {
     let sizes = runs.sizes;
     let times = runs.times;

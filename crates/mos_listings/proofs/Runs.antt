@@ -8,13 +8,13 @@ use native.Mathlib.Nat.{le_refl}
 use native.Mathlib.Omega.{arith}
 use lib.ListN.{length, length-append}
 use Rattle.text.specs.Writing.{Room, Wrote}
-use Rattle.text.proofs.Writing.{then, wrote_as, wrote_none, wrote-length}
+use Rattle.text.proofs.Writing.{then, wrote_as, wrote_none, wrote_length}
 use Rattle.mos.specs.declared.Mos.{Mos}
-use Rattle.mos.specs.Patterns.{isPattern, childOf, dualOf, parent_of}
+use Rattle.mos.specs.Patterns.{is_pattern, child_of, dual_of, parent_of}
 use Rattle.mos.specs.Walks.{onward, parents, fields, listed}
-use Rattle.mos_listings.specs.Parts.{Listing, dualParents}
-use Rattle.mos.proofs.Descent.{child-at, child-falls, child-keeps-pattern}
-use Rattle.mos.proofs.Sequences.{parents-follow}
+use Rattle.mos_listings.specs.Parts.{Listing, dual_parents}
+use Rattle.mos.proofs.Descent.{child_at, child_falls, child_keeps_pattern}
+use Rattle.mos.proofs.Sequences.{parents_follow}
 
 -- a run's test tells that there is a next pattern
 pub both_left : (x y : Bool) {test : Bool} → test ≡ (x && y) → test ≡ true → x ≡ true
@@ -22,36 +22,36 @@ both_left true y e f = refl
 both_left false y e f = absurd (let z : ◌≡◌ {A = ℕ} 0 1 = cc in omega arith)
 
 -- the walk of parents goes on with the child of the dual
-pub dual-follow : (d : Mos) → dualParents d ≡ dualOf d ∷ onward (childOf d) dualParents
+pub dual_follow : (d : Mos) → dual_parents d ≡ dual_of d ∷ onward (child_of d) dual_parents
 unfolding parent_of
-dual-follow d = parents-follow (dualOf d) ∙ ap (λ (rest : List Mos). dualOf d ∷ rest) (go (childOf d))
+dual_follow d = parents_follow (dual_of d) ∙ ap (λ (rest : List Mos). dual_of d ∷ rest) (go (child_of d))
   where
-    go : (o : Option Mos) → onward (map dualOf o) parents ≡ onward o dualParents
+    go : (o : Option Mos) → onward (map dual_of o) parents ≡ onward o dual_parents
     go none = refl
     go (some c) = refl
 
 -- any walk that goes on with the child, with what it shows of each pattern: the pattern, or its dual
-module _ (walk : Mos → List Mos) (shown : Mos → Mos) (follow : (m : Mos) → walk m ≡ shown m ∷ onward (childOf m) walk) where
-  pub listing_start : (m : Mos) (xs : List ℕ) (at : ℕ) → isPattern m ≡ true → Listing walk m xs at m xs at
+module _ (walk : Mos → List Mos) (shown : Mos → Mos) (follow : (m : Mos) → walk m ≡ shown m ∷ onward (child_of m) walk) where
+  pub listing_start : (m : Mos) (xs : List ℕ) (at : ℕ) → is_pattern m ≡ true → Listing walk m xs at m xs at
   listing_start m xs at p = record { part = []; wrote = wrote_none xs at; whole = refl; pattern = p; falls = le_refl _ }
 
   module _ (m : Mos) {xs ys : List ℕ} {at place : ℕ} (q : Mos) (l : Listing walk m xs at q ys place) where
     -- room for the next pattern, where there is room for the whole walk
-    pub listing-room : Room xs at (listed (walk m)) → Room ys place (fields (shown q))
-    listing-room r =
+    pub listing_room : Room xs at (listed (walk m)) → Room ys place (fields (shown q))
+    listing_room r =
         omega (
           arith,
-          wrote-length l.wrote,
+          wrote_length l.wrote,
           l.wrote.end,
           ap length l.whole,
           length-append l.part (listed (walk q)),
           ap (λ (ms : List Mos). length (listed ms)) (follow q),
-          length-append (fields (shown q)) (listed (onward (childOf q) walk)),
+          length-append (fields (shown q)) (listed (onward (child_of q) walk)),
         )
 
     -- one pattern more
-    pub listing-more : (c : Mos) → childOf q ≡ some c → {zs : List ℕ} {end : ℕ} → Wrote ys place (fields (shown q)) zs end → Listing walk m xs at c zs end
-    listing-more c e w = record {
+    pub listing_more : (c : Mos) → child_of q ≡ some c → {zs : List ℕ} {end : ℕ} → Wrote ys place (fields (shown q)) zs end → Listing walk m xs at c zs end
+    listing_more c e w = record {
       part = l.part ++ fields (shown q);
       wrote = then l.wrote w;
       whole =
@@ -59,22 +59,22 @@ module _ (walk : Mos → List Mos) (shown : Mos → Mos) (follow : (m : Mos) →
           ∙ ap (λ (rest : List ℕ). l.part ++ rest)
           (sym (ap listed (follow q ∙ ap (λ (o : Option Mos). shown q ∷ onward o walk) e)))
           ∙ l.whole;
-      pattern = child-keeps-pattern (child-at e) l.pattern;
-      falls = omega (arith, l.falls, child-falls (child-at e));
+      pattern = child_keeps_pattern (child_at e) l.pattern;
+      falls = omega (arith, l.falls, child_falls (child_at e));
     }
 
     -- the last pattern
-    pub listing-end : childOf q ≡ none → {zs : List ℕ} {end : ℕ} → Wrote ys place (fields (shown q)) zs end → Wrote xs at (listed (walk m)) zs end
-    listing-end e w =
+    pub listing_end : child_of q ≡ none → {zs : List ℕ} {end : ℕ} → Wrote ys place (fields (shown q)) zs end → Wrote xs at (listed (walk m)) zs end
+    listing_end e w =
         wrote_as
         (ap (λ (rest : List ℕ). l.part ++ rest) (sym (ap listed (follow q ∙ ap (λ (o : Option Mos). shown q ∷ onward o walk) e)))
         ∙ l.whole)
         (then l.wrote w)
 
     -- room for the rest of the walk, and the rest listed
-    pub listing-rest : Room xs at (listed (walk m)) → Room ys place (listed (walk q))
-    listing-rest r =
-        omega (arith, wrote-length l.wrote, l.wrote.end, ap length l.whole, length-append l.part (listed (walk q)))
+    pub listing_rest : Room xs at (listed (walk m)) → Room ys place (listed (walk q))
+    listing_rest r =
+        omega (arith, wrote_length l.wrote, l.wrote.end, ap length l.whole, length-append l.part (listed (walk q)))
 
-    pub listing-whole : {zs : List ℕ} {end : ℕ} → Wrote ys place (listed (walk q)) zs end → Wrote xs at (listed (walk m)) zs end
-    listing-whole w = wrote_as l.whole (then l.wrote w)
+    pub listing_whole : {zs : List ℕ} {end : ℕ} → Wrote ys place (listed (walk q)) zs end → Wrote xs at (listed (walk m)) zs end
+    listing_whole w = wrote_as l.whole (then l.wrote w)

@@ -5,10 +5,10 @@
 ghost use Rattle.std.specs.Prelude.{◌≡◌, true, ◌&&◌, length, ltb, leb};
 ghost use Rattle.answer.specs.Choice.{pick};
 ghost use Rattle.text.specs.Writing.{Room, Wrote};
-ghost use Rattle.mos.specs.Patterns.{primary, secondary, isPattern, childOf};
+ghost use Rattle.mos.specs.Patterns.{primary, secondary, is_pattern, child_of};
 ghost use Rattle.mos.specs.Parts.{is_some};
 ghost use Rattle.mos.specs.Walks.{children, parents, fields, listed};
-ghost use Rattle.mos_listings.specs.Parts.{Leaps, Listing, dualParents};
+ghost use Rattle.mos_listings.specs.Parts.{Leaps, Listing, dual_parents};
 
 use mos::Mos;
 
@@ -21,7 +21,7 @@ struct Leap {
 
 // Over all children that shorten the same step.
 fn leap_from(m: Mos) -> Leap
-    requires { (isPattern m ≡ true) × (is_some (childOf m) ≡ true) }
+    requires { (is_pattern m ≡ true) × (is_some (child_of m) ≡ true) }
     ensures { Leaps m result.turns result.to }
 {
     let a = m.num_primary_steps;
@@ -54,7 +54,7 @@ fn leap_from(m: Mos) -> Leap
 
 // How many patterns the walk of children has, m included. A self call leaps over all children that shorten the same step.
 pub(crate) fn count_children(m: Mos) -> u32
-    requires { isPattern m ≡ true }
+    requires { is_pattern m ≡ true }
     ensures { result ≡ length (children m) }
 {
     if mos::parts::has_child(m) {
@@ -67,7 +67,7 @@ pub(crate) fn count_children(m: Mos) -> u32
 
 // How many patterns the walk of parents has, m included: as many as the dual has children.
 pub(crate) fn count_parents(m: Mos) -> u32
-    requires { isPattern m ≡ true }
+    requires { is_pattern m ≡ true }
     ensures { result ≡ length (parents m) }
 {
     count_children(mos::parts::dual_of(m))
@@ -75,7 +75,7 @@ pub(crate) fn count_parents(m: Mos) -> u32
 
 // Do so many numbers hold the walk of children? There are no more children than the steps' sum, so a long slice needs no count.
 pub fn children_fit(m: Mos, room: usize) -> bool
-    requires { isPattern m ≡ true }
+    requires { is_pattern m ≡ true }
     ensures { result ≡ leb (length (listed (children m))) room }
 {
     let most = (m.primary_step as usize + m.secondary_step as usize + 1) * 4;
@@ -87,7 +87,7 @@ pub fn children_fit(m: Mos, room: usize) -> bool
 
 // Do so many numbers hold the walk of parents? They do where they hold the children of the dual.
 pub(crate) fn parents_fit(m: Mos, room: usize) -> bool
-    requires { isPattern m ≡ true }
+    requires { is_pattern m ≡ true }
     ensures { result ≡ leb (length (listed (parents m))) room }
 {
     children_fit(mos::parts::dual_of(m), room)
@@ -115,7 +115,7 @@ struct Reached {
 // Is there a child, and does it shorten the primary step (else the secondary)? It does where that step is the longer one and the
 // other is not 0.
 fn shortens(m: Mos, of_primary: bool) -> bool
-    ensures { result ≡ (is_some (childOf m) && pick of_primary (ltb (secondary m) (primary m)) (leb (primary m) (secondary m))) }
+    ensures { result ≡ (is_some (child_of m) && pick of_primary (ltb (secondary m) (primary m)) (leb (primary m) (secondary m))) }
 {
     if of_primary {
         if m.secondary_step == 0 {
@@ -131,7 +131,7 @@ fn shortens(m: Mos, of_primary: bool) -> bool
 
 // The patterns from m on whose children shorten the same step, from a place on.
 fn list_child_run(m: Mos, out: &mut [u16], at: usize) -> Reached
-    requires { (isPattern m ≡ true) × Room out.old at (listed (children m)) }
+    requires { (is_pattern m ≡ true) × Room out.old at (listed (children m)) }
     ensures { Listing children m out.old at result.next out.new result.at }
 {
     let primary = m.secondary_step < m.primary_step;
@@ -147,8 +147,8 @@ fn list_child_run(m: Mos, out: &mut [u16], at: usize) -> Reached
 // The patterns from one on whose parents take from the same count, from a place on. It is the dual that is walked: counts and
 // steps change places only as they are written.
 fn list_parent_run(dual: Mos, out: &mut [u16], at: usize) -> Reached
-    requires { (isPattern «dual» ≡ true) × Room out.old at (listed (dualParents «dual»)) }
-    ensures { Listing dualParents «dual» out.old at result.next out.new result.at }
+    requires { (is_pattern «dual» ≡ true) × Room out.old at (listed (dual_parents «dual»)) }
+    ensures { Listing dual_parents «dual» out.old at result.next out.new result.at }
 {
     let primary = dual.secondary_step < dual.primary_step;
     let mut next = dual;
@@ -163,7 +163,7 @@ fn list_parent_run(dual: Mos, out: &mut [u16], at: usize) -> Reached
 // The walk of children from a place on; the place after it. Each self call lists one run: a self call that is lent a slice keeps
 // a frame, and there are few runs.
 pub(crate) fn list_children(m: Mos, out: &mut [u16], at: usize) -> usize
-    requires { (isPattern m ≡ true) × Room out.old at (listed (children m)) }
+    requires { (is_pattern m ≡ true) × Room out.old at (listed (children m)) }
     ensures { Wrote out.old at (listed (children m)) out.new result }
 {
     let run = list_child_run(m, out, at);
@@ -177,8 +177,8 @@ pub(crate) fn list_children(m: Mos, out: &mut [u16], at: usize) -> usize
 
 // The walk of parents from a place on, in the same way, given the dual of its first pattern.
 fn list_dual_parents(dual: Mos, out: &mut [u16], at: usize) -> usize
-    requires { (isPattern «dual» ≡ true) × Room out.old at (listed (dualParents «dual»)) }
-    ensures { Wrote out.old at (listed (dualParents «dual»)) out.new result }
+    requires { (is_pattern «dual» ≡ true) × Room out.old at (listed (dual_parents «dual»)) }
+    ensures { Wrote out.old at (listed (dual_parents «dual»)) out.new result }
 {
     let run = list_parent_run(dual, out, at);
     let last = run.next;
@@ -191,7 +191,7 @@ fn list_dual_parents(dual: Mos, out: &mut [u16], at: usize) -> usize
 
 // The walk of parents from a place on; the place after it.
 pub(crate) fn list_parents(m: Mos, out: &mut [u16], at: usize) -> usize
-    requires { (isPattern m ≡ true) × Room out.old at (listed (parents m)) }
+    requires { (is_pattern m ≡ true) × Room out.old at (listed (parents m)) }
     ensures { Wrote out.old at (listed (parents m)) out.new result }
 {
     list_dual_parents(mos::parts::dual_of(m), out, at)

@@ -11,129 +11,129 @@ use lib.IntN.{ℤ}
 use lib.ListN.{length, get_elem?}
 use borrow.Author.Tests.{leb-true, leb-false}
 use Rattle.answer.specs.Outcome.{Outcome, given, refused}
-use Rattle.answer.specs.Lent.{inRoom, Filled}
-use Rattle.answer.proofs.Lent.{filled-refused, filled-short}
-use Rattle.answer.proofs.Questions.{ask-none, ask-some}
+use Rattle.answer.specs.Lent.{in_room, Filled}
+use Rattle.answer.proofs.Lent.{filled_refused, filled_short}
+use Rattle.answer.proofs.Questions.{ask_none, ask_some}
 use Rattle.text.specs.Writing.{Wrote}
-use Rattle.text.proofs.Writing.{filled-whole}
+use Rattle.text.proofs.Writing.{filled_whole}
 use Rattle.mos.specs.declared.Mos.{Mos}
-use Rattle.mos.specs.Answers.{genesisOutcome}
-use Rattle.mos.specs.Patterns.{isPattern, genesis, childOf}
+use Rattle.mos.specs.Answers.{genesis_outcome}
+use Rattle.mos.specs.Patterns.{is_pattern, genesis, child_of}
 use Rattle.mos.specs.Walks.{children, listed}
 use Rattle.mos.specs.Parts.{is_some}
-use Rattle.mos.proofs.Sequences.{child-here, child-later, child-never}
-use Rattle.mos.proofs.Theorems.{made-patterns}
-use Rattle.mos_moves.specs.Moves.{Table, childMoves, genesisMoves, movesAlong, walkMoves, listedMoves}
-use Rattle.mos_moves.specs.Answers.{tableAfter, Tabled, genesisTable, nthOutcome, nthTable, getWalkMoves}
-use Rattle.mos_moves.proofs.Going.{Going, going-genesis, going-child}
-use Rattle.mos_moves.proofs.Walking.{moves-here, moves-later, moves-never, walk-starts, as_long}
+use Rattle.mos.proofs.Sequences.{child_here, child_later, child_never}
+use Rattle.mos.proofs.Theorems.{made_patterns}
+use Rattle.mos_moves.specs.Moves.{Table, child_moves, genesis_moves, moves_along, walk_moves, listed_moves}
+use Rattle.mos_moves.specs.Answers.{table_after, Tabled, genesis_table, nth_outcome, nth_table, get_walk_moves}
+use Rattle.mos_moves.proofs.Going.{Going, going_genesis, going_child}
+use Rattle.mos_moves.proofs.Walking.{moves_here, moves_later, moves_never, walk_starts, as_long}
 
 -- ---- lent tables
 
 module _ {A : Type 0} {answer outcome : Outcome A} {table : Outcome (Option (Table ℤ))} {before : Table ℤ} where
   -- a refusal, and an answer without moves, with the table untouched
-  pub tabled-refused : (n : ℕ) → answer ≡ outcome → table ≡ refused n → Tabled answer outcome table before before
-  tabled-refused n e f = record { answered = e; content = sym (ap (λ (o : Outcome (Option (Table ℤ))). tableAfter o before) f) }
+  pub tabled_refused : (n : ℕ) → answer ≡ outcome → table ≡ refused n → Tabled answer outcome table before before
+  tabled_refused n e f = record { answered = e; content = sym (ap (λ (o : Outcome (Option (Table ℤ))). table_after o before) f) }
 
-  pub tabled-none : answer ≡ outcome → table ≡ given none → Tabled answer outcome table before before
-  tabled-none e f = record { answered = e; content = sym (ap (λ (o : Outcome (Option (Table ℤ))). tableAfter o before) f) }
+  pub tabled_none : answer ≡ outcome → table ≡ given none → Tabled answer outcome table before before
+  tabled_none e f = record { answered = e; content = sym (ap (λ (o : Outcome (Option (Table ℤ))). table_after o before) f) }
 
-  pub tabled-moves : (t : Table ℤ) → answer ≡ outcome → table ≡ given (some t) → Tabled answer outcome table before t
-  tabled-moves t e f = record { answered = e; content = sym (ap (λ (o : Outcome (Option (Table ℤ))). tableAfter o before) f) }
+  pub tabled_moves : (t : Table ℤ) → answer ≡ outcome → table ≡ given (some t) → Tabled answer outcome table before t
+  tabled_moves t e f = record { answered = e; content = sym (ap (λ (o : Outcome (Option (Table ℤ))). table_after o before) f) }
 
 -- ---- the genesis
 
-pub genesis-refused : (P G : ℕ) → P ≡ 0 → (before : Table ℤ) → Tabled (refused 2) (genesisOutcome P G) (genesisTable P G) before before
-unfolding genesisOutcome genesisTable
-genesis-refused P G e before = tabled-refused 2 (sym (ask-none 2 P _ e)) (ask-none 2 P _ e)
+pub genesis_refused : (P G : ℕ) → P ≡ 0 → (before : Table ℤ) → Tabled (refused 2) (genesis_outcome P G) (genesis_table P G) before before
+unfolding genesis_outcome genesis_table
+genesis_refused P G e before = tabled_refused 2 (sym (ask_none 2 P _ e)) (ask_none 2 P _ e)
 
-pub genesis-tabled : (P G : ℕ) → (P ≡ 0 → ⊥) → (m : Mos) (t before : Table ℤ) → m ≡ genesis P G → t ≡ genesisMoves P G
-    → Tabled (given m) (genesisOutcome P G) (genesisTable P G) before t
-unfolding genesisOutcome genesisTable
-genesis-tabled P G h m t before e f =
-    tabled-moves t (ap given e ∙ sym (ask-some 2 P _ h)) (ask-some 2 P _ h ∙ ap (λ (u : Table ℤ). given (some u)) (sym f))
+pub genesis_tabled : (P G : ℕ) → (P ≡ 0 → ⊥) → (m : Mos) (t before : Table ℤ) → m ≡ genesis P G → t ≡ genesis_moves P G
+    → Tabled (given m) (genesis_outcome P G) (genesis_table P G) before t
+unfolding genesis_outcome genesis_table
+genesis_tabled P G h m t before e f =
+    tabled_moves t (ap given e ∙ sym (ask_some 2 P _ h)) (ask_some 2 P _ h ∙ ap (λ (u : Table ℤ). given (some u)) (sym f))
 
 -- ---- the k-th pattern: what is left of the walk from here is what is left of it from the genesis
 
 pub record Descending (P G k : ℕ) (m : Mos) (t : Table ℤ) (left : ℕ) : Type 0 where
   pub positive : 1 ≤ P
   pub going : Going P G m t
-  pub pattern-left : get_elem? (children m) left ≡ get_elem? (children (genesis P G)) k
-  pub moves-left : get_elem? (movesAlong (children m) t) left ≡ get_elem? (walkMoves P G) k
+  pub pattern_left : get_elem? (children m) left ≡ get_elem? (children (genesis P G)) k
+  pub moves_left : get_elem? (moves_along (children m) t) left ≡ get_elem? (walk_moves P G) k
 
-pub nth-start : (P G k : ℕ) → 1 ≤ P → (m : Mos) (t : Table ℤ) → m ≡ genesis P G → t ≡ genesisMoves P G → Descending P G k m t k
-nth-start P G k h m t e f =
+pub nth_start : (P G k : ℕ) → 1 ≤ P → (m : Mos) (t : Table ℤ) → m ≡ genesis P G → t ≡ genesis_moves P G → Descending P G k m t k
+nth_start P G k h m t e f =
     subst (λ (n : Mos). Descending P G k n t k) (sym e)
     (subst (λ (u : Table ℤ). Descending P G k (genesis P G) u k) (sym f)
     (record {
       positive = h;
-      going = going-genesis P G h;
-      pattern-left = refl;
-      moves-left = ap (λ (l : List (Table ℤ)). get_elem? l k) (walk-starts P G);
+      going = going_genesis P G h;
+      pattern_left = refl;
+      moves_left = ap (λ (l : List (Table ℤ)). get_elem? l k) (walk_starts P G);
     }))
 
-pub nth-refused : (P G k : ℕ) → P ≡ 0 → (before : Table ℤ) → Tabled (refused 2) (nthOutcome P G k) (nthTable P G k) before before
-unfolding nthOutcome nthTable
-nth-refused P G k e before = tabled-refused 2 (sym (ask-none 2 P _ e)) (ask-none 2 P _ e)
+pub nth_refused : (P G k : ℕ) → P ≡ 0 → (before : Table ℤ) → Tabled (refused 2) (nth_outcome P G k) (nth_table P G k) before before
+unfolding nth_outcome nth_table
+nth_refused P G k e before = tabled_refused 2 (sym (ask_none 2 P _ e)) (ask_none 2 P _ e)
 
 module _ {P G k : ℕ} {m : Mos} {t : Table ℤ} {left : ℕ} (d : Descending P G k m t left) where
-  pub nth-next : (left ≡ 0 → ⊥) → {c : Mos} → childOf m ≡ some c → {u : Table ℤ} → u ≡ childMoves m t → Descending P G k c u (left - 1)
-  nth-next h {c} e f =
+  pub nth_next : (left ≡ 0 → ⊥) → {c : Mos} → child_of m ≡ some c → {u : Table ℤ} → u ≡ child_moves m t → Descending P G k c u (left - 1)
+  nth_next h {c} e f =
       subst (λ (x : Table ℤ). Descending P G k c x (left - 1)) (sym f)
       (record {
         positive = d.positive;
-        going = going-child P G m c t e d.going;
-        pattern-left = child-later m left c h e ∙ d.pattern-left;
-        moves-left = moves-later m t left c h e ∙ d.moves-left;
+        going = going_child P G m c t e d.going;
+        pattern_left = child_later m left c h e ∙ d.pattern_left;
+        moves_left = moves_later m t left c h e ∙ d.moves_left;
       })
 
-  some-period : P ≡ 0 → ⊥
-  some-period z = omega (arith, d.positive)
+  some_period : P ≡ 0 → ⊥
+  some_period z = omega (arith, d.positive)
 
-  pattern-asked : (o : Option Mos) → o ≡ get_elem? (children m) left → given o ≡ nthOutcome P G k
-  unfolding nthOutcome
-  pattern-asked o e = ap given (e ∙ d.pattern-left) ∙ sym (ask-some 2 P _ some-period)
+  pattern_asked : (o : Option Mos) → o ≡ get_elem? (children m) left → given o ≡ nth_outcome P G k
+  unfolding nth_outcome
+  pattern_asked o e = ap given (e ∙ d.pattern_left) ∙ sym (ask_some 2 P _ some_period)
 
-  moves-asked : (o : Option (Table ℤ)) → o ≡ get_elem? (movesAlong (children m) t) left → nthTable P G k ≡ given o
-  unfolding nthTable
-  moves-asked o e = ask-some 2 P _ some-period ∙ ap given (sym (e ∙ d.moves-left))
+  moves_asked : (o : Option (Table ℤ)) → o ≡ get_elem? (moves_along (children m) t) left → nth_table P G k ≡ given o
+  unfolding nth_table
+  moves_asked o e = ask_some 2 P _ some_period ∙ ap given (sym (e ∙ d.moves_left))
 
-  pub nth_here : left ≡ 0 → (before : Table ℤ) → Tabled (given (some m)) (nthOutcome P G k) (nthTable P G k) before t
+  pub nth_here : left ≡ 0 → (before : Table ℤ) → Tabled (given (some m)) (nth_outcome P G k) (nth_table P G k) before t
   nth_here e before =
-      tabled-moves t (pattern-asked (some m) (child-here m left e)) (moves-asked (some t) (moves-here m t left e))
+      tabled_moves t (pattern_asked (some m) (child_here m left e)) (moves_asked (some t) (moves_here m t left e))
 
-  pub nth-none : (left ≡ 0 → ⊥) → is_some (childOf m) ≡ false → (before : Table ℤ)
-      → Tabled (given none) (nthOutcome P G k) (nthTable P G k) before before
-  nth-none h e before =
-      tabled-none (pattern-asked none (child-never m left h e)) (moves-asked none (moves-never m t left h e))
+  pub nth_none : (left ≡ 0 → ⊥) → is_some (child_of m) ≡ false → (before : Table ℤ)
+      → Tabled (given none) (nth_outcome P G k) (nth_table P G k) before before
+  nth_none h e before =
+      tabled_none (pattern_asked none (child_never m left h e)) (moves_asked none (moves_never m t left h e))
 
 -- ---- the listing
 
-pub genesis-pattern : (P G : ℕ) → (P ≡ 0 → ⊥) → P ≤ 65535 → {m : Mos} → m ≡ genesis P G → isPattern m ≡ true
-genesis-pattern P G h l e = subst (λ (x : Mos). isPattern x ≡ true) (sym e) (made-patterns.of-genesis P G (pos_of_ne-zero h) l)
+pub genesis_pattern : (P G : ℕ) → (P ≡ 0 → ⊥) → P ≤ 65535 → {m : Mos} → m ≡ genesis P G → is_pattern m ≡ true
+genesis_pattern P G h l e = subst (λ (x : Mos). is_pattern x ≡ true) (sym e) (made_patterns.of_genesis P G (pos_of_ne-zero h) l)
 
-pub walk_refused : (P G : ℕ) → P ≡ 0 → (xs : List ℤ) → Filled (inRoom (length xs) (getWalkMoves P G)) (refused 2) xs xs
-unfolding getWalkMoves
-walk_refused P G e xs = filled-refused 2 xs (ap (inRoom (length xs)) (ask-none 2 P _ e)) refl
+pub walk_refused : (P G : ℕ) → P ≡ 0 → (xs : List ℤ) → Filled (in_room (length xs) (get_walk_moves P G)) (refused 2) xs xs
+unfolding get_walk_moves
+walk_refused P G e xs = filled_refused 2 xs (ap (in_room (length xs)) (ask_none 2 P _ e)) refl
 
 module _ (P G : ℕ) (h : P ≡ 0 → ⊥) (xs : List ℤ) {m : Mos} (is : m ≡ genesis P G) {fit : Bool} (f : fit ≡ leb (length (listed (children m))) (length xs)) where
-  asked : getWalkMoves P G ≡ given (listedMoves (walkMoves P G))
-  unfolding getWalkMoves
-  asked = ask-some 2 P _ h
+  asked : get_walk_moves P G ≡ given (listed_moves (walk_moves P G))
+  unfolding get_walk_moves
+  asked = ask_some 2 P _ h
 
   -- as many numbers as for the patterns
-  fits : fit ≡ leb (length (listedMoves (walkMoves P G))) (length xs)
+  fits : fit ≡ leb (length (listed_moves (walk_moves P G))) (length xs)
   fits =
       f
       ∙ ap (λ (n : Mos). leb (length (listed (children n))) (length xs)) is
       ∙ ap (λ (n : ℕ). leb n (length xs)) (sym (as_long P G))
 
-  pub walk-room : fit ≡ true → length (listedMoves (walkMoves P G)) ≤ length xs
-  walk-room e = leb-true (length (listedMoves (walkMoves P G))) (length xs) (sym fits ∙ e)
+  pub walk_room : fit ≡ true → length (listed_moves (walk_moves P G)) ≤ length xs
+  walk_room e = leb-true (length (listed_moves (walk_moves P G))) (length xs) (sym fits ∙ e)
 
-  pub walk-short : fit ≡ false → Filled (inRoom (length xs) (getWalkMoves P G)) (refused 10) xs xs
-  walk-short e = filled-short xs (listedMoves (walkMoves P G)) asked (leb-false (length (listedMoves (walkMoves P G))) (length xs) (sym fits ∙ e))
+  pub walk_short : fit ≡ false → Filled (in_room (length xs) (get_walk_moves P G)) (refused 10) xs xs
+  walk_short e = filled_short xs (listed_moves (walk_moves P G)) asked (leb-false (length (listed_moves (walk_moves P G))) (length xs) (sym fits ∙ e))
 
-  pub walk-listed : fit ≡ true → {ys : List ℤ} {next : ℕ} → Wrote xs 0 (listedMoves (walkMoves P G)) ys next
-      → Filled (inRoom (length xs) (getWalkMoves P G)) (given next) xs ys
-  walk-listed e w = filled-whole asked (walk-room e) w
+  pub walk_listed : fit ≡ true → {ys : List ℤ} {next : ℕ} → Wrote xs 0 (listed_moves (walk_moves P G)) ys next
+      → Filled (in_room (length xs) (get_walk_moves P G)) (given next) xs ys
+  walk_listed e w = filled_whole asked (walk_room e) w

@@ -5,23 +5,23 @@ use mathlib.Core.Path.{◌≡◌, sym, ap, ap₂, ◌∙◌, subst}
 use lib.IntN.{ℤ, pos, neg_ℤ, ◌+ℤ◌, ◌*ℤ◌, *ℤ_comm, *ℤ-negsuc, *ℤ-zero}
 use native.Mathlib.Nat.{mul-add, add-mul, mul_assoc, mul_left_comm, one-mul, zero-mul}
 use native.Mathlib.Omega.{arith}
-use Rattle.math.proofs.Integers.{up, down, Rep, rep-self, rep_neg, rep_add, rep_mul, rep-agree}
+use Rattle.math.proofs.Integers.{up, down, Rep, rep_self, rep_neg, rep_add, rep_mul, rep_agree}
 use Rattle.mos.specs.declared.Mos.{Mos}
 use Rattle.mos.specs.Patterns.{primaries, secondaries, primary, secondary}
 use Rattle.mos_moves.specs.Moves.{Table}
 use Rattle.mos_moves.specs.Theorems.{ReachedInOneWay, MovesReachAll}
 use Rattle.mos_moves.proofs.Going.{Going, shape}
-use Rattle.mos_moves.proofs.Walking.{going-at}
+use Rattle.mos_moves.proofs.Walking.{going_at}
 
 -- ---- products of an integer with a natural, and with one below 0
 
-times-pos : (u : ℕ) {z : ℤ} {a b : ℕ} → Rep z a b → Rep (z *ℤ pos u) (u * a) (u * b)
-times-pos u {z} {a} {b} r = subst (λ (y : ℤ). Rep y (u * a) (u * b)) (*ℤ_comm (pos u) z) (rep_mul u r)
+times_pos : (u : ℕ) {z : ℤ} {a b : ℕ} → Rep z a b → Rep (z *ℤ pos u) (u * a) (u * b)
+times_pos u {z} {a} {b} r = subst (λ (y : ℤ). Rep y (u * a) (u * b)) (*ℤ_comm (pos u) z) (rep_mul u r)
 
-times-neg : (u : ℕ) {z : ℤ} {a b : ℕ} → Rep z a b → Rep (z *ℤ neg_ℤ (pos u)) (u * b) (u * a)
-times-neg zero {z} {a} {b} r =
+times_neg : (u : ℕ) {z : ℤ} {a b : ℕ} → Rep z a b → Rep (z *ℤ neg_ℤ (pos u)) (u * b) (u * a)
+times_neg zero {z} {a} {b} r =
     subst (λ (y : ℤ). Rep y (0 * b) (0 * a)) (sym (*ℤ-zero z)) (record { eq = omega (arith, zero-mul a, zero-mul b) })
-times-neg (suc u) {z} {a} {b} r = subst (λ (y : ℤ). Rep y (suc u * b) (suc u * a)) (sym (*ℤ-negsuc z u)) (rep_neg (times-pos (suc u) r))
+times_neg (suc u) {z} {a} {b} r = subst (λ (y : ℤ). Rep y (suc u * b) (suc u * a)) (sym (*ℤ-negsuc z u)) (rep_neg (times_pos (suc u) r))
 
 -- ---- over naturals
 
@@ -47,26 +47,26 @@ module _ (u v a b : ℕ) (unit : v * b ≡ u * a + 1) where
   -- ---- over whole numbers
 
   module _ (x y : ℤ) where
-    abbrev primaryMoves : ℤ
-    primaryMoves = pos v *ℤ y +ℤ pos a *ℤ x
+    abbrev primary_moves : ℤ
+    primary_moves = pos v *ℤ y +ℤ pos a *ℤ x
 
-    abbrev secondaryMoves : ℤ
-    secondaryMoves = pos b *ℤ x +ℤ pos u *ℤ y
+    abbrev secondary_moves : ℤ
+    secondary_moves = pos b *ℤ x +ℤ pos u *ℤ y
 
-    primary-rep : Rep primaryMoves (v * up y + a * up x) (v * down y + a * down x)
-    primary-rep = rep_add (rep_mul v (rep-self y)) (rep_mul a (rep-self x))
+    primary_rep : Rep primary_moves (v * up y + a * up x) (v * down y + a * down x)
+    primary_rep = rep_add (rep_mul v (rep_self y)) (rep_mul a (rep_self x))
 
-    secondary-rep : Rep secondaryMoves (b * up x + u * up y) (b * down x + u * down y)
-    secondary-rep = rep_add (rep_mul b (rep-self x)) (rep_mul u (rep-self y))
+    secondary_rep : Rep secondary_moves (b * up x + u * up y) (b * down x + u * down y)
+    secondary_rep = rep_add (rep_mul b (rep_self x)) (rep_mul u (rep_self y))
 
-    octaves-made : primaryMoves *ℤ neg_ℤ (pos u) +ℤ secondaryMoves *ℤ pos v ≡ x
-    octaves-made =
-        rep-agree (rep_add (times-neg u primary-rep) (times-pos v secondary-rep)) (rep-self x)
+    octaves_made : primary_moves *ℤ neg_ℤ (pos u) +ℤ secondary_moves *ℤ pos v ≡ x
+    octaves_made =
+        rep_agree (rep_add (times_neg u primary_rep) (times_pos v secondary_rep)) (rep_self x)
         (omega (arith, across (up y) (up x), across (down y) (down x)))
 
-    generators-made : primaryMoves *ℤ pos b +ℤ secondaryMoves *ℤ neg_ℤ (pos a) ≡ y
-    generators-made =
-        rep-agree (rep_add (times-pos b primary-rep) (times-neg a secondary-rep)) (rep-self y)
+    generators_made : primary_moves *ℤ pos b +ℤ secondary_moves *ℤ neg_ℤ (pos a) ≡ y
+    generators_made =
+        rep_agree (rep_add (times_pos b primary_rep) (times_neg a secondary_rep)) (rep_self y)
         (omega (arith, along (up y) (up x), along (down y) (down x)))
 
     -- the key: with p = b G − u P and s = v P − a G
@@ -91,29 +91,29 @@ module _ (u v a b : ℕ) (unit : v * b ≡ u * a + 1) where
             mul_assoc a G Y ∙ mul_left_comm a G Y,
           )
 
-      key-made : primaryMoves *ℤ pos p +ℤ secondaryMoves *ℤ pos s ≡ x *ℤ pos P +ℤ y *ℤ pos G
-      key-made =
-          rep-agree (rep_add (times-pos p primary-rep) (times-pos s secondary-rep))
-          (rep_add (times-pos P (rep-self x)) (times-pos G (rep-self y)))
+      key_made : primary_moves *ℤ pos p +ℤ secondary_moves *ℤ pos s ≡ x *ℤ pos P +ℤ y *ℤ pos G
+      key_made =
+          rep_agree (rep_add (times_pos p primary_rep) (times_pos s secondary_rep))
+          (rep_add (times_pos P (rep_self x)) (times_pos G (rep_self y)))
           (omega (arith, steps (up y) (up x), steps (down y) (down x)))
 
   -- no other numbers of moves make them
   module _ (c d : ℤ) where
-    abbrev octavesOf : ℤ
-    octavesOf = c *ℤ neg_ℤ (pos u) +ℤ d *ℤ pos v
+    abbrev octaves_of : ℤ
+    octaves_of = c *ℤ neg_ℤ (pos u) +ℤ d *ℤ pos v
 
-    abbrev generatorsOf : ℤ
-    generatorsOf = c *ℤ pos b +ℤ d *ℤ neg_ℤ (pos a)
+    abbrev generators_of : ℤ
+    generators_of = c *ℤ pos b +ℤ d *ℤ neg_ℤ (pos a)
 
-    octaves-rep : Rep octavesOf (u * down c + v * up d) (u * up c + v * down d)
-    octaves-rep = rep_add (times-neg u (rep-self c)) (times-pos v (rep-self d))
+    octaves_rep : Rep octaves_of (u * down c + v * up d) (u * up c + v * down d)
+    octaves_rep = rep_add (times_neg u (rep_self c)) (times_pos v (rep_self d))
 
-    generators-rep : Rep generatorsOf (b * up c + a * down d) (b * down c + a * up d)
-    generators-rep = rep_add (times-pos b (rep-self c)) (times-neg a (rep-self d))
+    generators_rep : Rep generators_of (b * up c + a * down d) (b * down c + a * up d)
+    generators_rep = rep_add (times_pos b (rep_self c)) (times_neg a (rep_self d))
 
     -- v (b c + a e) + a (u f + v d) and its mirror image
-    first-only : (i j k l : ℕ) → v * (b * i + a * j) + a * (u * k + v * l) + k ≡ i + (v * (b * k + a * l) + a * (u * i + v * j))
-    first-only i j k l =
+    first_only : (i j k l : ℕ) → v * (b * i + a * j) + a * (u * k + v * l) + k ≡ i + (v * (b * k + a * l) + a * (u * i + v * j))
+    first_only i j k l =
         omega (
           arith,
           mul-add v (b * i) (a * j),
@@ -128,14 +128,14 @@ module _ (u v a b : ℕ) (unit : v * b ≡ u * a + 1) where
           mul_left_comm v a l,
         )
 
-    primary-only : c ≡ pos v *ℤ generatorsOf +ℤ pos a *ℤ octavesOf
-    primary-only =
+    primary_only : c ≡ pos v *ℤ generators_of +ℤ pos a *ℤ octaves_of
+    primary_only =
         sym
-        (rep-agree (rep_add (rep_mul v generators-rep) (rep_mul a octaves-rep)) (rep-self c)
-        (first-only (up c) (down d) (down c) (up d)))
+        (rep_agree (rep_add (rep_mul v generators_rep) (rep_mul a octaves_rep)) (rep_self c)
+        (first_only (up c) (down d) (down c) (up d)))
 
-    second-only : (i j k l : ℕ) → b * (u * k + v * l) + u * (b * i + a * j) + j ≡ l + (b * (u * i + v * j) + u * (b * k + a * l))
-    second-only i j k l =
+    second_only : (i j k l : ℕ) → b * (u * k + v * l) + u * (b * i + a * j) + j ≡ l + (b * (u * i + v * j) + u * (b * k + a * l))
+    second_only i j k l =
         omega (
           arith,
           mul-add b (u * k) (v * l),
@@ -150,37 +150,37 @@ module _ (u v a b : ℕ) (unit : v * b ≡ u * a + 1) where
           mul_left_comm b u i,
         )
 
-    secondary-only : d ≡ pos b *ℤ octavesOf +ℤ pos u *ℤ generatorsOf
-    secondary-only =
+    secondary_only : d ≡ pos b *ℤ octaves_of +ℤ pos u *ℤ generators_of
+    secondary_only =
         sym
-        (rep-agree (rep_add (rep_mul b octaves-rep) (rep_mul u generators-rep)) (rep-self d)
-        (second-only (up c) (down d) (down c) (up d)))
+        (rep_agree (rep_add (rep_mul b octaves_rep) (rep_mul u generators_rep)) (rep_self d)
+        (second_only (up c) (down d) (down c) (up d)))
 
 -- ---- of the moves of a walk
 
-reached-shape : (P G : ℕ) (m : Mos) (t : Table ℤ) (g : Going P G m t) (x y : ℤ) → ReachedInOneWay P G m (shape m g.u g.v) x y
-reached-shape P G m t g x y =
+reached_shape : (P G : ℕ) (m : Mos) (t : Table ℤ) (g : Going P G m t) (x y : ℤ) → ReachedInOneWay P G m (shape m g.u g.v) x y
+reached_shape P G m t g x y =
     let a = primaries m in
     let b = secondaries m in
     record {
-      primary-moves = pos g.v *ℤ y +ℤ pos a *ℤ x;
-      secondary-moves = pos b *ℤ x +ℤ pos g.u *ℤ y;
+      primary_moves_lem = pos g.v *ℤ y +ℤ pos a *ℤ x;
+      secondary_moves_lem = pos b *ℤ x +ℤ pos g.u *ℤ y;
       made =
           record {
-            octaves-are = octaves-made g.u g.v a b g.unit x y;
-            generators-are = generators-made g.u g.v a b g.unit x y;
+            octaves_are = octaves_made g.u g.v a b g.unit x y;
+            generators_are = generators_made g.u g.v a b g.unit x y;
           };
       only =
           λ c d made. (
-            primary-only g.u g.v a b g.unit c d
-                ∙ ap₂ (λ (j k : ℤ). pos g.v *ℤ j +ℤ pos a *ℤ k) made.generators-are made.octaves-are,
-            secondary-only g.u g.v a b g.unit c d
-                ∙ ap₂ (λ (j k : ℤ). pos b *ℤ j +ℤ pos g.u *ℤ k) made.octaves-are made.generators-are,
+            primary_only g.u g.v a b g.unit c d
+                ∙ ap₂ (λ (j k : ℤ). pos g.v *ℤ j +ℤ pos a *ℤ k) made.generators_are made.octaves_are,
+            secondary_only g.u g.v a b g.unit c d
+                ∙ ap₂ (λ (j k : ℤ). pos b *ℤ j +ℤ pos g.u *ℤ k) made.octaves_are made.generators_are,
           );
-      key = key-made g.u g.v a b g.unit x y P G (primary m) (secondary m) g.first g.second;
+      key = key_made g.u g.v a b g.unit x y P G (primary m) (secondary m) g.first g.second;
     }
 
-pub moves-reach-all : MovesReachAll
-moves-reach-all P G k m t h at x y =
-    let g = going-at P G k m t h at in
-    subst (λ (s : Table ℤ). ReachedInOneWay P G m s x y) (sym g.is) (reached-shape P G m t g x y)
+pub moves_reach_all : MovesReachAll
+moves_reach_all P G k m t h at x y =
+    let g = going_at P G k m t h at in
+    subst (λ (s : Table ℤ). ReachedInOneWay P G m s x y) (sym g.is) (reached_shape P G m t g x y)

@@ -9,16 +9,16 @@ use mir.Syntax.{w32}
 use mir.Val.{to_z, of_z}
 use Rattle.mos.specs.declared.Mos.{Mos}
 use Rattle.mos.specs.Patterns.{primaries, secondaries, primary, secondary}
-use Rattle.mos.proofs.Sizes.{product-fits}
-use Rattle.mos_moves.specs.Moves.{Table, row, patternMoves, SmallTable}
+use Rattle.mos.proofs.Sizes.{product_fits}
+use Rattle.mos_moves.specs.Moves.{Table, row, pattern_moves, SmallTable}
 use Rattle.mos_moves.specs.Parts.{OnWalk}
 use Rattle.mos_moves.specs.Theorems.{MovesReachTheirSteps, PatternsTellTheirMoves}
 use Rattle.mos_moves.proofs.SignedRows.{table_is}
-use Rattle.mos_moves.proofs.Going.{Going, u-small, v-small, going-small, going-reaches}
-use Rattle.mos_moves.proofs.Walking.{moves-beside-patterns, going-at}
+use Rattle.mos_moves.proofs.Going.{Going, u_small, v_small, going_small, going_reaches}
+use Rattle.mos_moves.proofs.Walking.{moves_beside_patterns, going_at}
 
-pub moves-reach-their-steps : MovesReachTheirSteps
-moves-reach-their-steps P G k m t h lP lG at = going-reaches P G h lP lG m t (going-at P G k m t h at)
+pub moves_reach_their_steps : MovesReachTheirSteps
+moves_reach_their_steps P G k m t h lP lG at = going_reaches P G h lP lG m t (going_at P G k m t h at)
 
 -- ---- a pattern's own numbers
 
@@ -29,55 +29,55 @@ module _ (P G : ℕ) (h : 1 ≤ P) (m : Mos) (t : Table ℤ) (g : Going P G m t)
   pub up_is : (primaries m * G + secondary m) / P ≡ g.v
   up_is = ap (λ (n : ℕ). n / P) (sym g.second) ∙ mul-div_cancel g.v h
 
-  pub told : t ≡ patternMoves P G m
-  unfolding patternMoves
+  pub told : t ≡ pattern_moves P G m
+  unfolding pattern_moves
   told =
       g.is
       ∙ sym (ap₂ (λ (u v : ℕ). row (neg_ℤ (pos u)) (pos (secondaries m)) ∷ row (pos v) (neg_ℤ (pos (primaries m))) ∷ []) down_is up_is)
 
-pub patterns-tell-their-moves : PatternsTellTheirMoves
-patterns-tell-their-moves P G k m t h at = told P G h m t (going-at P G k m t h at)
+pub patterns_tell_their_moves : PatternsTellTheirMoves
+patterns_tell_their_moves P G k m t h at = told P G h m t (going_at P G k m t h at)
 
 -- ---- what the code that goes by these numbers needs
 
 module _ (P G : ℕ) (h : 1 ≤ P) (lP : P ≤ 65535) (lG : G ≤ 65535) (m : Mos) (w : OnWalk P G m) where
-  own-going : Going P G m (patternMoves P G m)
-  own-going =
-      let found = (moves-beside-patterns P G).some-moves w.0 m w.1 in
-      let g = going-at P G w.0 m found.0 h found.1 in
+  own_going : Going P G m (pattern_moves P G m)
+  own_going =
+      let found = (moves_beside_patterns P G).some_moves w.0 m w.1 in
+      let g = going_at P G w.0 m found.0 h found.1 in
       subst (λ (t : Table ℤ). Going P G m t) (told P G h m found.0 g) g
 
-  pub own-small : SmallTable (patternMoves P G m)
-  own-small = going-small P G h lP lG m (patternMoves P G m) own-going
+  pub own_small : SmallTable (pattern_moves P G m)
+  own_small = going_small P G h lP lG m (pattern_moves P G m) own_going
 
-  pub first-product : secondaries m * G < 4294967296
-  first-product = product-fits (secondaries m) G (omega (arith, own-going.secondaries-fit)) (omega arith)
+  pub first_product : secondaries m * G < 4294967296
+  first_product = product_fits (secondaries m) G (omega (arith, own_going.secondaries_fit)) (omega arith)
 
-  pub step-below : primary m ≤ secondaries m * G
-  step-below = omega (arith, own-going.first)
+  pub step_below : primary m ≤ secondaries m * G
+  step_below = omega (arith, own_going.first)
 
-  pub second-product : primaries m * G < 4294967296
-  second-product = product-fits (primaries m) G (omega (arith, own-going.primaries-fit)) (omega arith)
+  pub second_product : primaries m * G < 4294967296
+  second_product = product_fits (primaries m) G (omega (arith, own_going.primaries_fit)) (omega arith)
 
-  pub second-sum : primaries m * G + secondary m < 4294967296
-  second-sum =
-      let v = own-going.v in
+  pub second_sum : primaries m * G + secondary m < 4294967296
+  second_sum =
+      let v = own_going.v in
       let e : v * P ≤ 65536 * 65535
-      = mul-le-mul (v-small P G h lP lG m (patternMoves P G m) own-going) lP in
-      omega (arith, e, own-going.second)
+      = mul-le-mul (v_small P G h lP lG m (pattern_moves P G m) own_going) lP in
+      omega (arith, e, own_going.second)
 
-  pub down-small : (secondaries m * G - primary m) / P ≤ 65536
-  down-small =
-      omega (arith, down_is P G h m (patternMoves P G m) own-going, u-small P G h lP lG m (patternMoves P G m) own-going)
+  pub down_small : (secondaries m * G - primary m) / P ≤ 65536
+  down_small =
+      omega (arith, down_is P G h m (pattern_moves P G m) own_going, u_small P G h lP lG m (pattern_moves P G m) own_going)
 
   pub up_small : (primaries m * G + secondary m) / P ≤ 65536
-  up_small = omega (arith, up_is P G h m (patternMoves P G m) own-going, v-small P G h lP lG m (patternMoves P G m) own-going)
+  up_small = omega (arith, up_is P G h m (pattern_moves P G m) own_going, v_small P G h lP lG m (pattern_moves P G m) own_going)
 
-  pub own-table : row (to_z w32 (of_z w32 (pos 0 -ℤ to_z w32 ((secondaries m * G - primary m) / P)))) (to_z w32 (secondaries m))
+  pub own_table : row (to_z w32 (of_z w32 (pos 0 -ℤ to_z w32 ((secondaries m * G - primary m) / P)))) (to_z w32 (secondaries m))
       ∷ row (to_z w32 ((primaries m * G + secondary m) / P)) (to_z w32 (of_z w32 (pos 0 -ℤ to_z w32 (primaries m))))
       ∷ []
-      ≡ patternMoves P G m
-  unfolding patternMoves
-  own-table =
-      table_is ((secondaries m * G - primary m) / P) ((primaries m * G + secondary m) / P) (primaries m) (secondaries m) down-small up_small
-      (omega (arith, own-going.primaries-fit)) (omega (arith, own-going.secondaries-fit))
+      ≡ pattern_moves P G m
+  unfolding pattern_moves
+  own_table =
+      table_is ((secondaries m * G - primary m) / P) ((primaries m * G + secondary m) / P) (primaries m) (secondaries m) down_small up_small
+      (omega (arith, own_going.primaries_fit)) (omega (arith, own_going.secondaries_fit))

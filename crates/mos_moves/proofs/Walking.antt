@@ -9,34 +9,34 @@ use lib.Dec.{eqb}
 use lib.IntN.{ℤ}
 use lib.ListN.{length, get_elem?}
 use Rattle.mos.specs.declared.Mos.{Mos}
-use Rattle.mos.specs.Patterns.{count_of, genesis, childOf}
-use Rattle.mos.specs.Walks.{onward, children, firstWith, listed}
+use Rattle.mos.specs.Patterns.{count_of, genesis, child_of}
+use Rattle.mos.specs.Walks.{onward, children, first_with, listed}
 use Rattle.mos.specs.Parts.{is_some}
-use Rattle.mos.proofs.Sequences.{children-follow, none_of, length-listed}
-use Rattle.mos_moves.specs.Moves.{Table, childMoves, genesisMoves, movesAlong, walkMoves, movesWith, listedMoves}
+use Rattle.mos.proofs.Sequences.{children_follow, none_of, length_listed}
+use Rattle.mos_moves.specs.Moves.{Table, child_moves, genesis_moves, moves_along, walk_moves, moves_with, listed_moves}
 use Rattle.mos_moves.specs.Theorems.{MovesAt, MovesBesidePatterns, MovesStandBesideThePattern}
-use Rattle.mos_moves.proofs.Going.{Going, going-genesis, going-child}
+use Rattle.mos_moves.proofs.Going.{Going, going_genesis, going_child}
 
 -- ---- the moves of a walk, from those of what comes next
 
 -- what comes after the first pattern
 abbrev pub rest_of : Mos → Table ℤ → List (Table ℤ)
-rest_of m t = movesAlong (onward (childOf m) children) (childMoves m t)
+rest_of m t = moves_along (onward (child_of m) children) (child_moves m t)
 
 module _ (m : Mos) (t : Table ℤ) where
-  along-step : (ms : List Mos) → movesAlong (m ∷ ms) t ≡ t ∷ movesAlong ms (childMoves m t)
-  unfolding movesAlong
-  along-step ms = refl
+  along_step : (ms : List Mos) → moves_along (m ∷ ms) t ≡ t ∷ moves_along ms (child_moves m t)
+  unfolding moves_along
+  along_step ms = refl
 
-  pub moves-follow : movesAlong (children m) t ≡ t ∷ rest_of m t
-  moves-follow = ap (λ (ms : List Mos). movesAlong ms t) (children-follow m) ∙ along-step (onward (childOf m) children)
+  pub moves_follow : moves_along (children m) t ≡ t ∷ rest_of m t
+  moves_follow = ap (λ (ms : List Mos). moves_along ms t) (children_follow m) ∙ along_step (onward (child_of m) children)
 
-  pub rest-next : (c : Mos) → childOf m ≡ some c → rest_of m t ≡ movesAlong (children c) (childMoves m t)
-  rest-next c e = ap (λ (o : Option Mos). movesAlong (onward o children) (childMoves m t)) e
+  pub rest_next : (c : Mos) → child_of m ≡ some c → rest_of m t ≡ moves_along (children c) (child_moves m t)
+  rest_next c e = ap (λ (o : Option Mos). moves_along (onward o children) (child_moves m t)) e
 
-  pub rest_end : is_some (childOf m) ≡ false → rest_of m t ≡ []
-  unfolding movesAlong
-  rest_end e = ap (λ (o : Option Mos). movesAlong (onward o children) (childMoves m t)) (none_of (childOf m) e)
+  pub rest_end : is_some (child_of m) ≡ false → rest_of m t ≡ []
+  unfolding moves_along
+  rest_end e = ap (λ (o : Option Mos). moves_along (onward o children) (child_moves m t)) (none_of (child_of m) e)
 
 -- ---- positions
 
@@ -45,19 +45,19 @@ later x l zero h = absurd (h refl)
 later x l (suc k) h = ap (get_elem? l) (omega arith)
 
 module _ (m : Mos) (t : Table ℤ) (k : ℕ) where
-  pub moves-here : k ≡ 0 → some t ≡ get_elem? (movesAlong (children m) t) k
-  moves-here e =
-      sym (ap (get_elem? (t ∷ rest_of m t)) e) ∙ ap (λ (l : List (Table ℤ)). get_elem? l k) (sym (moves-follow m t))
+  pub moves_here : k ≡ 0 → some t ≡ get_elem? (moves_along (children m) t) k
+  moves_here e =
+      sym (ap (get_elem? (t ∷ rest_of m t)) e) ∙ ap (λ (l : List (Table ℤ)). get_elem? l k) (sym (moves_follow m t))
 
-  pub moves-later : (c : Mos) → (k ≡ 0 → ⊥) → childOf m ≡ some c
-      → get_elem? (movesAlong (children c) (childMoves m t)) (k - 1) ≡ get_elem? (movesAlong (children m) t) k
-  moves-later c h e =
-      ap (λ (l : List (Table ℤ)). get_elem? l (k - 1)) (sym (rest-next m t c e))
+  pub moves_later : (c : Mos) → (k ≡ 0 → ⊥) → child_of m ≡ some c
+      → get_elem? (moves_along (children c) (child_moves m t)) (k - 1) ≡ get_elem? (moves_along (children m) t) k
+  moves_later c h e =
+      ap (λ (l : List (Table ℤ)). get_elem? l (k - 1)) (sym (rest_next m t c e))
       ∙ later t (rest_of m t) k h
-      ∙ ap (λ (l : List (Table ℤ)). get_elem? l k) (sym (moves-follow m t))
+      ∙ ap (λ (l : List (Table ℤ)). get_elem? l k) (sym (moves_follow m t))
 
-  pub moves-never : (k ≡ 0 → ⊥) → is_some (childOf m) ≡ false → none ≡ get_elem? (movesAlong (children m) t) k
-  moves-never h e = empty k h ∙ ap (λ (l : List (Table ℤ)). get_elem? l k) (sym (moves-follow m t ∙ ap (λ (l : List (Table ℤ)). t ∷ l) (rest_end m t e)))
+  pub moves_never : (k ≡ 0 → ⊥) → is_some (child_of m) ≡ false → none ≡ get_elem? (moves_along (children m) t) k
+  moves_never h e = empty k h ∙ ap (λ (l : List (Table ℤ)). get_elem? l k) (sym (moves_follow m t ∙ ap (λ (l : List (Table ℤ)). t ∷ l) (rest_end m t e)))
     where
       empty : (j : ℕ) → (j ≡ 0 → ⊥) → none ≡ get_elem? (t ∷ []) j
       empty zero n = absurd (n refl)
@@ -65,65 +65,65 @@ module _ (m : Mos) (t : Table ℤ) (k : ℕ) where
 
 -- ---- lengths
 
-length-along : (ms : List Mos) (t : Table ℤ) → length (movesAlong ms t) ≡ length ms
-unfolding movesAlong
-length-along [] t = refl
-length-along (m ∷ ms) t = ap suc (length-along ms (childMoves m t))
+length_along : (ms : List Mos) (t : Table ℤ) → length (moves_along ms t) ≡ length ms
+unfolding moves_along
+length_along [] t = refl
+length_along (m ∷ ms) t = ap suc (length_along ms (child_moves m t))
 
-pub length-listed-moves : (ts : List (Table ℤ)) → length (listedMoves ts) ≡ length ts * 4
-length-listed-moves [] = refl
-length-listed-moves (t ∷ ts) = omega (arith, length-listed-moves ts)
+pub length_listed_moves : (ts : List (Table ℤ)) → length (listed_moves ts) ≡ length ts * 4
+length_listed_moves [] = refl
+length_listed_moves (t ∷ ts) = omega (arith, length_listed_moves ts)
 
 module _ (P G : ℕ) where
-  pub walk-starts : movesAlong (children (genesis P G)) (genesisMoves P G) ≡ walkMoves P G
-  unfolding walkMoves
-  walk-starts = refl
+  pub walk_starts : moves_along (children (genesis P G)) (genesis_moves P G) ≡ walk_moves P G
+  unfolding walk_moves
+  walk_starts = refl
 
-  as_many : length (walkMoves P G) ≡ length (children (genesis P G))
-  as_many = ap length (sym walk-starts) ∙ length-along (children (genesis P G)) (genesisMoves P G)
+  as_many : length (walk_moves P G) ≡ length (children (genesis P G))
+  as_many = ap length (sym walk_starts) ∙ length_along (children (genesis P G)) (genesis_moves P G)
 
-  pub as_long : length (listedMoves (walkMoves P G)) ≡ length (listed (children (genesis P G)))
+  pub as_long : length (listed_moves (walk_moves P G)) ≡ length (listed (children (genesis P G)))
   as_long =
-      length-listed-moves (walkMoves P G) ∙ ap (λ (n : ℕ). n * 4) as_many ∙ sym (length-listed (children (genesis P G)))
+      length_listed_moves (walk_moves P G) ∙ ap (λ (n : ℕ). n * 4) as_many ∙ sym (length_listed (children (genesis P G)))
 
 -- ---- beside each pattern its moves
 
-beside : (k : ℕ) (ms : List Mos) (t : Table ℤ) (m : Mos) → get_elem? ms k ≡ some m → (u : Table ℤ) × (get_elem? (movesAlong ms t) k ≡ some u)
-unfolding movesAlong
+beside : (k : ℕ) (ms : List Mos) (t : Table ℤ) (m : Mos) → get_elem? ms k ≡ some m → (u : Table ℤ) × (get_elem? (moves_along ms t) k ≡ some u)
+unfolding moves_along
 beside k [] t m e = absurd (let z : ◌≡◌ {A = ℕ} 0 1 = cc in omega arith)
 beside zero (x ∷ ms) t m e = (t, refl)
-beside (suc k) (x ∷ ms) t m e = beside k ms (childMoves x t) m e
+beside (suc k) (x ∷ ms) t m e = beside k ms (child_moves x t) m e
 
-pub moves-beside-patterns : MovesBesidePatterns
-moves-beside-patterns P G =
+pub moves_beside_patterns : MovesBesidePatterns
+moves_beside_patterns P G =
     record {
-      some-moves =
+      some_moves =
           λ k m e.
-          let b = beside k (children (genesis P G)) (genesisMoves P G) m e in
-          (b.0, record { pattern = e; moves = ap (λ (l : List (Table ℤ)). get_elem? l k) (sym (walk-starts P G)) ∙ b.1 });
+          let b = beside k (children (genesis P G)) (genesis_moves P G) m e in
+          (b.0, record { pattern = e; moves = ap (λ (l : List (Table ℤ)). get_elem? l k) (sym (walk_starts P G)) ∙ b.1 });
       as_many = as_many P G;
       as_long = as_long P G;
     }
 
 -- the first with n steps, and its moves
-first-beside : (n : ℕ) (ms : List Mos) (t : Table ℤ) (m : Mos) → firstWith n ms ≡ some m
-    → (k : ℕ) × (u : Table ℤ) × (get_elem? ms k ≡ some m) × (get_elem? (movesAlong ms t) k ≡ some u) × (movesWith n ms t ≡ some u)
-unfolding movesAlong movesWith
-first-beside n [] t m e = absurd (let z : ◌≡◌ {A = ℕ} 0 1 = cc in omega arith)
-first-beside n (x ∷ ms) t m e = by (eqb (count_of x) n) (first-beside n ms (childMoves x t) m) e
+first_beside : (n : ℕ) (ms : List Mos) (t : Table ℤ) (m : Mos) → first_with n ms ≡ some m
+    → (k : ℕ) × (u : Table ℤ) × (get_elem? ms k ≡ some m) × (get_elem? (moves_along ms t) k ≡ some u) × (moves_with n ms t ≡ some u)
+unfolding moves_along moves_with
+first_beside n [] t m e = absurd (let z : ◌≡◌ {A = ℕ} 0 1 = cc in omega arith)
+first_beside n (x ∷ ms) t m e = by (eqb (count_of x) n) (first_beside n ms (child_moves x t) m) e
   where
     by : (b : Bool)
-        → (firstWith n ms ≡ some m → (k : ℕ) × (u : Table ℤ) × (get_elem? ms k ≡ some m) × (get_elem? (movesAlong ms (childMoves x t)) k ≡ some u) × (movesWith n ms (childMoves x t) ≡ some u))
-        → elim b [ true ↦ some x | false ↦ firstWith n ms ] ≡ some m
-        → (k : ℕ) × (u : Table ℤ) × (get_elem? (x ∷ ms) k ≡ some m) × (get_elem? (t ∷ movesAlong ms (childMoves x t)) k ≡ some u)
-        × (elim b [ true ↦ some t | false ↦ movesWith n ms (childMoves x t) ] ≡ some u)
+        → (first_with n ms ≡ some m → (k : ℕ) × (u : Table ℤ) × (get_elem? ms k ≡ some m) × (get_elem? (moves_along ms (child_moves x t)) k ≡ some u) × (moves_with n ms (child_moves x t) ≡ some u))
+        → elim b [ true ↦ some x | false ↦ first_with n ms ] ≡ some m
+        → (k : ℕ) × (u : Table ℤ) × (get_elem? (x ∷ ms) k ≡ some m) × (get_elem? (t ∷ moves_along ms (child_moves x t)) k ≡ some u)
+        × (elim b [ true ↦ some t | false ↦ moves_with n ms (child_moves x t) ] ≡ some u)
     by true ih q = (0, t, q, refl, refl)
     by false ih q = let r = ih q in (suc r.0, r.1, r.2, r.3, r.4)
 
-pub moves-stand-beside-the-pattern : MovesStandBesideThePattern
-moves-stand-beside-the-pattern P G n m e =
-    let b = first-beside n (children (genesis P G)) (genesisMoves P G) m e in
-    (b.0, b.1, record { pattern = b.2; moves = ap (λ (l : List (Table ℤ)). get_elem? l b.0) (sym (walk-starts P G)) ∙ b.3 }, b.4)
+pub moves_stand_beside_the_pattern : MovesStandBesideThePattern
+moves_stand_beside_the_pattern P G n m e =
+    let b = first_beside n (children (genesis P G)) (genesis_moves P G) m e in
+    (b.0, b.1, record { pattern = b.2; moves = ap (λ (l : List (Table ℤ)). get_elem? l b.0) (sym (walk_starts P G)) ∙ b.3 }, b.4)
 
 -- ---- what the walk keeps, each of its patterns has
 
@@ -131,27 +131,27 @@ same_some : {A : Type 0} {x y : A} → some x ≡ some y → x ≡ y
 same_some e = cc
 
 module _ (P G : ℕ) where
-  going-rest : (k : ℕ) (m q : Mos) (t u : Table ℤ)
-      → ((c : Mos) (v : Table ℤ) → get_elem? (children c) k ≡ some q → get_elem? (movesAlong (children c) v) k ≡ some u → Going P G c v → Going P G q u)
-      → (o : Option Mos) → childOf m ≡ o → get_elem? (onward o children) k ≡ some q → get_elem? (movesAlong (onward o children) (childMoves m t)) k ≡ some u
+  going_rest : (k : ℕ) (m q : Mos) (t u : Table ℤ)
+      → ((c : Mos) (v : Table ℤ) → get_elem? (children c) k ≡ some q → get_elem? (moves_along (children c) v) k ≡ some u → Going P G c v → Going P G q u)
+      → (o : Option Mos) → child_of m ≡ o → get_elem? (onward o children) k ≡ some q → get_elem? (moves_along (onward o children) (child_moves m t)) k ≡ some u
       → Going P G m t → Going P G q u
-  going-rest k m q t u ih none f e d g = absurd (let z : ◌≡◌ {A = ℕ} 0 1 = cc in omega arith)
-  going-rest k m q t u ih (some c) f e d g = ih c (childMoves m t) e d (going-child P G m c t f g)
+  going_rest k m q t u ih none f e d g = absurd (let z : ◌≡◌ {A = ℕ} 0 1 = cc in omega arith)
+  going_rest k m q t u ih (some c) f e d g = ih c (child_moves m t) e d (going_child P G m c t f g)
 
-  going-along : (k : ℕ) (m q : Mos) (t u : Table ℤ) → get_elem? (children m) k ≡ some q → get_elem? (movesAlong (children m) t) k ≡ some u
+  going_along : (k : ℕ) (m q : Mos) (t u : Table ℤ) → get_elem? (children m) k ≡ some q → get_elem? (moves_along (children m) t) k ≡ some u
       → Going P G m t → Going P G q u
-  going-along zero m q t u e d g =
-      let f : m ≡ q = same_some (sym (ap (λ (l : List Mos). get_elem? l 0) (children-follow m)) ∙ e) in
-      let h : t ≡ u = same_some (sym (ap (λ (l : List (Table ℤ)). get_elem? l 0) (moves-follow m t)) ∙ d) in
+  going_along zero m q t u e d g =
+      let f : m ≡ q = same_some (sym (ap (λ (l : List Mos). get_elem? l 0) (children_follow m)) ∙ e) in
+      let h : t ≡ u = same_some (sym (ap (λ (l : List (Table ℤ)). get_elem? l 0) (moves_follow m t)) ∙ d) in
       subst (λ (x : Mos). Going P G x u) f (subst (λ (x : Table ℤ). Going P G m x) h g)
-  going-along (suc k) m q t u e d g =
-      going-rest k m q t u (λ c v. going-along k c q v u) (childOf m) refl
-      (sym (ap (λ (l : List Mos). get_elem? l (suc k)) (children-follow m)) ∙ e)
-      (sym (ap (λ (l : List (Table ℤ)). get_elem? l (suc k)) (moves-follow m t)) ∙ d)
+  going_along (suc k) m q t u e d g =
+      going_rest k m q t u (λ c v. going_along k c q v u) (child_of m) refl
+      (sym (ap (λ (l : List Mos). get_elem? l (suc k)) (children_follow m)) ∙ e)
+      (sym (ap (λ (l : List (Table ℤ)). get_elem? l (suc k)) (moves_follow m t)) ∙ d)
       g
 
-  pub going-at : (k : ℕ) (m : Mos) (t : Table ℤ) → 1 ≤ P → MovesAt P G k m t → Going P G m t
-  going-at k m t h at =
-      going-along k (genesis P G) m (genesisMoves P G) t at.pattern
-      (ap (λ (l : List (Table ℤ)). get_elem? l k) (walk-starts P G) ∙ at.moves)
-      (going-genesis P G h)
+  pub going_at : (k : ℕ) (m : Mos) (t : Table ℤ) → 1 ≤ P → MovesAt P G k m t → Going P G m t
+  going_at k m t h at =
+      going_along k (genesis P G) m (genesis_moves P G) t at.pattern
+      (ap (λ (l : List (Table ℤ)). get_elem? l k) (walk_starts P G) ∙ at.moves)
+      (going_genesis P G h)

@@ -5,18 +5,20 @@
 // between the functions here; a caller lends one, beside an answer that holds the pattern, since an enum holds no array.
 // specs/: Moves defines, Answers says what each call answers and what a lent table then holds, Theorems and Examples state what
 // holds. Every entry point answers every input; `parts` asks for more, as its head says. Nothing is assumed.
+#![tactic(auto)]
+
 pub mod parts;
 
 ghost use Rattle.std.specs.Prelude.{length};
-ghost use Rattle.answer.specs.Lent.{inRoom, Filled};
-ghost use Rattle.answer.specs.Refusals.{countOutcome};
-ghost use Rattle.mos.specs.Answers.{genesisOutcome, mosOutcome, walkOutcome};
+ghost use Rattle.answer.specs.Lent.{in_room, Filled};
+ghost use Rattle.answer.specs.Refusals.{count_outcome};
+ghost use Rattle.mos.specs.Answers.{genesis_outcome, mos_outcome, walk_outcome};
 ghost use Rattle.mos_moves.specs.Answers.{
   Tabled,
-  genesisTable,
-  nthOutcome,
-  nthTable,
-  getWalkMoves,
+  genesis_table,
+  nth_outcome,
+  nth_table,
+  get_walk_moves,
 };
 
 use answer::{CountAnswer, Refusal};
@@ -27,7 +29,7 @@ pub type Moves = [[i32; 2]; 2];
 
 // The genesis of a period and a generator, with its moves in the lent table (2).
 pub fn genesis_moves(period: u16, generator: u16, moves: &mut Moves) -> MosAnswer
-    ensures { Tabled (mosOutcome result) (genesisOutcome period generator) (genesisTable period generator) moves.old moves.new }
+    ensures { Tabled (mos_outcome result) (genesis_outcome period generator) (genesis_table period generator) moves.old moves.new }
 {
     if period == 0 {
         return MosAnswer::Refused(Refusal::Period);
@@ -38,7 +40,7 @@ pub fn genesis_moves(period: u16, generator: u16, moves: &mut Moves) -> MosAnswe
 
 // The k-th pattern of the walk of children from the genesis, the genesis for 0, with its moves in the lent table (2).
 pub fn nth_moves(period: u16, generator: u16, k: u32, moves: &mut Moves) -> WalkAnswer
-    ensures { Tabled (walkOutcome result) (nthOutcome period generator k) (nthTable period generator k) moves.old moves.new }
+    ensures { Tabled (walk_outcome result) (nth_outcome period generator k) (nth_table period generator k) moves.old moves.new }
 {
     if period == 0 {
         return WalkAnswer::Refused(Refusal::Period);
@@ -61,7 +63,7 @@ pub fn nth_moves(period: u16, generator: u16, k: u32, moves: &mut Moves) -> Walk
 
 // The moves of all patterns of that walk, four numbers each: the primary row's octaves and generators, then the secondary row's (2, 10).
 pub fn walk_moves(period: u16, generator: u16, out: &mut [i32]) -> CountAnswer
-    ensures { Filled (inRoom (length out.old) (getWalkMoves period generator)) (countOutcome result) out.old out.new }
+    ensures { Filled (in_room (length out.old) (get_walk_moves period generator)) (count_outcome result) out.old out.new }
 {
     if period == 0 {
         return CountAnswer::Refused(Refusal::Period);

@@ -4,15 +4,15 @@
 ghost use Rattle.std.specs.Prelude.{◌≡◌, ◌+◌, ◌≤◌, length};
 ghost use Rattle.text.specs.Writing.{Wrote};
 ghost use Rattle.mos_moves.specs.Moves.{
-  genesisMoves,
-  lessRow,
-  childMoves,
-  patternMoves,
-  walkMoves,
+  genesis_moves,
+  less_row,
+  child_moves,
+  pattern_moves,
+  walk_moves,
   SmallRow,
   SmallTable,
-  numbersOf,
-  listedMoves,
+  numbers_of,
+  listed_moves,
 };
 ghost use Rattle.mos_moves.specs.Parts.{OnWalk};
 
@@ -22,7 +22,7 @@ use mos::Mos;
 // The moves of the genesis.
 pub fn start(period: u16, generator: u16) -> Moves
     requires { 1 ≤ period }
-    ensures { result ≡ genesisMoves period generator }
+    ensures { result ≡ genesis_moves period generator }
 {
     let q = (generator / period) as i32;
     [[-q, 1], [1 + q, -1]]
@@ -31,7 +31,7 @@ pub fn start(period: u16, generator: u16) -> Moves
 // One row from another.
 fn less_row(row: [i32; 2], other: [i32; 2]) -> [i32; 2]
     requires { SmallRow row × SmallRow other }
-    ensures { result ≡ lessRow row other }
+    ensures { result ≡ less_row row other }
 {
     [row[0] - other[0], row[1] - other[1]]
 }
@@ -39,7 +39,7 @@ fn less_row(row: [i32; 2], other: [i32; 2]) -> [i32; 2]
 // The moves of a pattern's child, from the pattern's: the shorter step's row is taken from the longer's.
 pub fn child_moves(pattern: Mos, moves: Moves) -> Moves
     requires { SmallTable moves }
-    ensures { result ≡ childMoves pattern moves }
+    ensures { result ≡ child_moves pattern moves }
 {
     let primary = moves[0];
     let secondary = moves[1];
@@ -53,7 +53,7 @@ pub fn child_moves(pattern: Mos, moves: Moves) -> Moves
 // say how many octaves. No walk is gone.
 pub fn pattern_moves(period: u16, generator: u16, pattern: Mos) -> Moves
     requires { (1 ≤ period) × OnWalk period generator pattern }
-    ensures { result ≡ patternMoves period generator pattern }
+    ensures { result ≡ pattern_moves period generator pattern }
 {
     let down = (pattern.num_secondary_steps as u32 * generator as u32 - pattern.primary_step as u32)
         / period as u32;
@@ -68,7 +68,7 @@ pub fn pattern_moves(period: u16, generator: u16, pattern: Mos) -> Moves
 // The four numbers of a table at a place; the place after them.
 pub fn put_moves(out: &mut [i32], at: usize, moves: Moves) -> usize
     requires { (at + 4 ≤ length out.old) × SmallTable moves }
-    ensures { Wrote out.old at (numbersOf moves) out.new result }
+    ensures { Wrote out.old at (numbers_of moves) out.new result }
 {
     let primary = moves[0];
     let secondary = moves[1];
@@ -81,8 +81,8 @@ pub fn put_moves(out: &mut [i32], at: usize, moves: Moves) -> usize
 
 // The moves of the whole walk from the slice's front on; how many numbers that are.
 pub(crate) fn list_moves(period: u16, generator: u16, out: &mut [i32]) -> usize
-    requires { (1 ≤ period) × (length (listedMoves (walkMoves period generator)) ≤ length out.old) }
-    ensures { Wrote out.old 0 (listedMoves (walkMoves period generator)) out.new result }
+    requires { (1 ≤ period) × (length (listed_moves (walk_moves period generator)) ≤ length out.old) }
+    ensures { Wrote out.old 0 (listed_moves (walk_moves period generator)) out.new result }
 {
     let mut pattern = mos::parts::genesis_of(period, generator);
     let mut table = start(period, generator);

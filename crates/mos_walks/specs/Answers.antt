@@ -5,6 +5,6 @@ use Rattle.mos_walks.specs.declared.search.SearchAnswer.{SearchAnswer}
 use Rattle.mos_walks.specs.declared.search.SearchAnswer.TheVariants as Searched
 
 -- The pattern with so many steps that was found, if there is one.
-abbrev pub foundBy : SearchAnswer → Option Mos
-foundBy (Searched.Found m) = some m
-foundBy Searched.Nothing = none
+abbrev pub found_by : SearchAnswer → Option Mos
+found_by (Searched.Found m) = some m
+found_by Searched.Nothing = none

@@ -6,20 +6,22 @@
 // Every entry point answers any four numbers; what is no pattern is refused (7).
 // The definitions and theorems are those of `mos`: Walks defines, Answers says what each call answers, Theorems, Scale and
 // IntervalClasses state what holds of every walk. Nothing is assumed; that the self calls become loops is measured and not proved.
+#![tactic(auto)]
+
 pub mod parts;
 pub mod search;
 
 ghost use Rattle.std.specs.Prelude.{◌≡◌};
 ghost use Rattle.std.proofs.Math.ListN.{get_elem?};
-ghost use Rattle.mos.specs.Walks.{children, parents, firstWith, genesisOf};
-ghost use Rattle.mos.specs.Answers.{ofPattern, mosOutcome, walkOutcome};
+ghost use Rattle.mos.specs.Walks.{children, parents, first_with, genesis_of};
+ghost use Rattle.mos.specs.Answers.{of_pattern, mos_outcome, walk_outcome};
 
 use answer::Refusal;
 use mos::{Mos, MosAnswer, WalkAnswer};
 
 // The first pattern of the walk of children with so many steps: as many as the chain has letters (7).
 pub fn find_child(mos: Mos, num_steps: u32) -> WalkAnswer
-    ensures { walkOutcome result ≡ ofPattern mos (firstWith num_steps (children mos)) }
+    ensures { walk_outcome result ≡ of_pattern mos (first_with num_steps (children mos)) }
 {
     if mos::parts::is_pattern(mos) {
         let mut found: [u16; 4] = [0, 0, 0, 0];
@@ -40,7 +42,7 @@ pub fn find_child(mos: Mos, num_steps: u32) -> WalkAnswer
 
 // The k-th pattern of the walk of children, this one for 0 (7).
 pub fn nth_child(mos: Mos, k: u32) -> WalkAnswer
-    ensures { walkOutcome result ≡ ofPattern mos (get_elem? (children mos) k) }
+    ensures { walk_outcome result ≡ of_pattern mos (get_elem? (children mos) k) }
 {
     if mos::parts::is_pattern(mos) {
         let mut found: [u16; 4] = [0, 0, 0, 0];
@@ -54,7 +56,7 @@ pub fn nth_child(mos: Mos, k: u32) -> WalkAnswer
 
 // The k-th pattern of the walk of parents, this one for 0 (7).
 pub fn nth_parent(mos: Mos, k: u32) -> WalkAnswer
-    ensures { walkOutcome result ≡ ofPattern mos (get_elem? (parents mos) k) }
+    ensures { walk_outcome result ≡ of_pattern mos (get_elem? (parents mos) k) }
 {
     if mos::parts::is_pattern(mos) {
         let mut found: [u16; 4] = [0, 0, 0, 0];
@@ -68,7 +70,7 @@ pub fn nth_parent(mos: Mos, k: u32) -> WalkAnswer
 
 // The last of its parents, itself where it has none (7). For a pattern on the walk from a genesis, that genesis, which shows the generator.
 pub fn genesis(mos: Mos) -> MosAnswer
-    ensures { mosOutcome result ≡ ofPattern mos (genesisOf mos) }
+    ensures { mos_outcome result ≡ of_pattern mos (genesis_of mos) }
 {
     if mos::parts::is_pattern(mos) {
         let mut found: [u16; 4] = [0, 0, 0, 0];

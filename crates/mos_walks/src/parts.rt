@@ -6,17 +6,17 @@
 ghost use Rattle.std.specs.Prelude.{◌≡◌, true};
 ghost use Rattle.std.proofs.Math.Option.{some};
 ghost use Rattle.std.proofs.Math.ListN.{get_elem?};
-ghost use Rattle.mos.specs.Patterns.{mos, isPattern};
-ghost use Rattle.mos.specs.Walks.{children, parents, firstWith, genesisOf};
-ghost use Rattle.mos_walks.specs.Parts.{Meets, readBack};
+ghost use Rattle.mos.specs.Patterns.{mos, is_pattern};
+ghost use Rattle.mos.specs.Walks.{children, parents, first_with, genesis_of};
+ghost use Rattle.mos_walks.specs.Parts.{Meets, read_back};
 
 use mos::Mos;
 
 // The first child with n steps of the pattern with counts a and b and steps p and s, itself included. Counts only grow, so a pattern
 // with more ends the search. The four numbers go separately: a pattern would be packed into one register at each self call.
 pub fn seek(a: u16, b: u16, p: u16, s: u16, n: u32, found: &mut [u16; 4]) -> bool
-    requires { isPattern (mos a b p s) ≡ true }
-    ensures { Meets (firstWith n (children (mos a b p s))) result found.old found.new }
+    requires { is_pattern (mos a b p s) ≡ true }
+    ensures { Meets (first_with n (children (mos a b p s))) result found.old found.new }
 {
     let here = Mos {
         num_primary_steps: a,
@@ -48,7 +48,7 @@ pub fn seek(a: u16, b: u16, p: u16, s: u16, n: u32, found: &mut [u16; 4]) -> boo
 
 // The k-th child, m itself for 0.
 pub(crate) fn descend(m: Mos, k: u32, found: &mut [u16; 4]) -> bool
-    requires { isPattern m ≡ true }
+    requires { is_pattern m ≡ true }
     ensures { Meets (get_elem? (children m) k) result found.old found.new }
 {
     if k == 0 {
@@ -68,7 +68,7 @@ pub(crate) fn descend(m: Mos, k: u32, found: &mut [u16; 4]) -> bool
 
 // The k-th parent, m itself for 0.
 pub(crate) fn ascend(m: Mos, k: u32, found: &mut [u16; 4]) -> bool
-    requires { isPattern m ≡ true }
+    requires { is_pattern m ≡ true }
     ensures { Meets (get_elem? (parents m) k) result found.old found.new }
 {
     if k == 0 {
@@ -88,8 +88,8 @@ pub(crate) fn ascend(m: Mos, k: u32, found: &mut [u16; 4]) -> bool
 
 // The last parent; true, so that a self call returns a number.
 pub(crate) fn root(m: Mos, found: &mut [u16; 4]) -> bool
-    requires { isPattern m ≡ true }
-    ensures { Meets (some (genesisOf m)) result found.old found.new }
+    requires { is_pattern m ≡ true }
+    ensures { Meets (some (genesis_of m)) result found.old found.new }
 {
     if mos::parts::has_parent(m) {
         return root(mos::parts::parent_of(m), found);
@@ -105,7 +105,7 @@ pub(crate) fn root(m: Mos, found: &mut [u16; 4]) -> bool
 
 // The pattern that a walk left in an array: counts, then steps.
 pub fn pattern_of(found: [u16; 4]) -> Mos
-    ensures { result ≡ readBack found }
+    ensures { result ≡ read_back found }
 {
     Mos {
         num_primary_steps: found[0],

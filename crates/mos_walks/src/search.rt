@@ -3,9 +3,9 @@
 //
 // Parts, and no entry points. `parts::seek`, which calls itself for each pattern, is held to the same definition.
 ghost use Rattle.std.specs.Prelude.{◌≡◌, true};
-ghost use Rattle.mos.specs.Patterns.{isPattern};
-ghost use Rattle.mos.specs.Walks.{children, firstWith};
-ghost use Rattle.mos_walks.specs.Answers.{foundBy};
+ghost use Rattle.mos.specs.Patterns.{is_pattern};
+ghost use Rattle.mos.specs.Walks.{children, first_with};
+ghost use Rattle.mos_walks.specs.Answers.{found_by};
 
 use mos::Mos;
 
@@ -19,8 +19,8 @@ pub enum SearchAnswer {
 // The first pattern with n steps of the walk of children from m, m itself included. Counts only grow, so a pattern with more ends the
 // search. Each end has a return of its own: where they met behind the loop, the counts would be packed in every turn.
 pub fn first_with(m: Mos, n: u32) -> SearchAnswer
-    requires { isPattern m ≡ true }
-    ensures { foundBy result ≡ firstWith n (children m) }
+    requires { is_pattern m ≡ true }
+    ensures { found_by result ≡ first_with n (children m) }
 {
     let mut pattern = m;
     while mos::parts::count_of(pattern) != n {

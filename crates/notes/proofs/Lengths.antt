@@ -5,45 +5,45 @@ use mathlib.Core.List.{◌++◌}
 use native.Mathlib.Omega.{arith}
 use mathlib.Core.Bool.{Bool, true, false}
 use lib.ListN.{length, length-append, length-replicate}
-use Rattle.notes.specs.Names.{letterText}
-use Rattle.notes.specs.Parts.{markText, twoText, parenthesisText, bracketedText, bodyText, starredText, planText}
+use Rattle.notes.specs.Names.{letter_text}
+use Rattle.notes.specs.Parts.{mark_text, two_text, parenthesis_text, bracketed_text, body_text, starred_text, plan_text}
 use Rattle.notes.specs.declared.plans.Mark.{Mark}
 use Rattle.notes.specs.declared.plans.NamePlan.{NamePlan}
 
-pub length-mark : (m : Mark) → length (markText m) ≡ length (letterText m.letter) + m.count
-unfolding markText
-length-mark m = simp (length-append, length-replicate)
+pub length_mark : (m : Mark) → length (mark_text m) ≡ length (letter_text m.letter) + m.count
+unfolding mark_text
+length_mark m = simp (length-append, length-replicate)
 
 module _ (p : NamePlan) where
-  pub length_two : length (twoText p) ≡ length (markText p.first) + 1 + length (markText p.second)
-  unfolding twoText
+  pub length_two : length (two_text p) ≡ length (mark_text p.first) + 1 + length (mark_text p.second)
+  unfolding two_text
   length_two = simp (length-append, length-append)
 
-  pub length-bracketed : length (bracketedText p)
-      ≡ length (parenthesisText p.bracketed 40) + length (twoText p) + length (parenthesisText p.bracketed 41)
-  unfolding bracketedText
-  length-bracketed =
-      length-append (parenthesisText p.bracketed 40 ++ twoText p) (parenthesisText p.bracketed 41)
-      ∙ ap (λ (x : ℕ). x + length (parenthesisText p.bracketed 41)) (length-append (parenthesisText p.bracketed 40) (twoText p))
+  pub length_bracketed : length (bracketed_text p)
+      ≡ length (parenthesis_text p.bracketed 40) + length (two_text p) + length (parenthesis_text p.bracketed 41)
+  unfolding bracketed_text
+  length_bracketed =
+      length-append (parenthesis_text p.bracketed 40 ++ two_text p) (parenthesis_text p.bracketed 41)
+      ∙ ap (λ (x : ℕ). x + length (parenthesis_text p.bracketed 41)) (length-append (parenthesis_text p.bracketed 40) (two_text p))
 
-  pub length-in-parentheses : p.bracketed ≡ true → length (bracketedText p) ≡ 1 + length (twoText p) + 1
-  length-in-parentheses k = length-bracketed ∙ rw k refl
+  pub length_in_parentheses : p.bracketed ≡ true → length (bracketed_text p) ≡ 1 + length (two_text p) + 1
+  length_in_parentheses k = length_bracketed ∙ rw k refl
 
-  pub length-plain : p.bracketed ≡ false → length (bracketedText p) ≡ length (twoText p)
-  length-plain k = length-bracketed ∙ rw k (omega arith)
+  pub length_plain : p.bracketed ≡ false → length (bracketed_text p) ≡ length (two_text p)
+  length_plain k = length_bracketed ∙ rw k (omega arith)
 
-  pub length-starred : (stars : ℕ) → length (starredText p stars) ≡ length (bodyText p) + stars
-  unfolding starredText
-  length-starred stars = simp (length-append, length-replicate)
+  pub length_starred : (stars : ℕ) → length (starred_text p stars) ≡ length (body_text p) + stars
+  unfolding starred_text
+  length_starred stars = simp (length-append, length-replicate)
 
-  pub length-plan : length (planText p) ≡ length (bodyText p) + p.stars
-  unfolding planText
-  length-plan = length-starred p.stars
+  pub length_plan : length (plan_text p) ≡ length (body_text p) + p.stars
+  unfolding plan_text
+  length_plan = length_starred p.stars
 
-  pub body-bracketed : p.both ≡ true → bodyText p ≡ bracketedText p
-  unfolding bodyText
-  body-bracketed b = simp b
+  pub body_bracketed : p.both ≡ true → body_text p ≡ bracketed_text p
+  unfolding body_text
+  body_bracketed b = simp b
 
-  pub body-one : p.both ≡ false → bodyText p ≡ markText p.first
-  unfolding bodyText
-  body-one b = simp b
+  pub body_one : p.both ≡ false → body_text p ≡ mark_text p.first
+  unfolding body_text
+  body_one b = simp b

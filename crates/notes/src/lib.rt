@@ -5,20 +5,22 @@
 // specs/: Names defines the text, Reading a reader of it, Answers says what each call answers, Theorems what a name tells.
 // `sharp_first` is the style: the primary step is at least the secondary. Signs are then # and b, else - and +.
 // Every entry point answers every input; the modules of parts ask for more, as their heads say. Nothing is assumed.
+#![tactic(auto)]
+
 pub mod plans;
 pub mod texts;
 
 ghost use Rattle.std.specs.Prelude.{◌≡◌, length};
-ghost use Rattle.answer.specs.Refusals.{countOutcome};
+ghost use Rattle.answer.specs.Refusals.{count_outcome};
 ghost use Rattle.answer.specs.Lent.{Filled};
-ghost use Rattle.notes.specs.Answers.{nameLengthOutcome, nameOutcome};
+ghost use Rattle.notes.specs.Answers.{name_length_outcome, name_outcome};
 
 use answer::{CountAnswer, Refusal};
 use pergen::Accidentals;
 
 // How many bytes the name of a key with these accidentals has, in the letters of a chain (1).
 pub fn name_len(code: u16, accidentals: Accidentals, sharp_first: bool) -> CountAnswer
-    ensures { countOutcome result ≡ nameLengthOutcome code sharp_first accidentals }
+    ensures { count_outcome result ≡ name_length_outcome code sharp_first accidentals }
 {
     if !genchain::rows::is_chain(code) {
         return CountAnswer::Refused(Refusal::Chain);
@@ -35,7 +37,7 @@ pub fn write_name(
     sharp_first: bool,
     out: &mut [u8],
 ) -> CountAnswer
-    ensures { Filled (nameOutcome code sharp_first accidentals (length out.old)) (countOutcome result) out.old out.new }
+    ensures { Filled (name_outcome code sharp_first accidentals (length out.old)) (count_outcome result) out.old out.new }
 {
     if !genchain::rows::is_chain(code) {
         return CountAnswer::Refused(Refusal::Chain);

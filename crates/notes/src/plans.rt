@@ -1,13 +1,13 @@
 // A name's plan: what is printed, decided before a byte is written. Parts, and no entry points: callers have asked question 1
 // and hand in the chain's row, read once for a whole octave.
 ghost use Rattle.std.specs.Prelude.{◌≡◌, ℕ, ◌≤◌, ◌<◌, List, length};
-ghost use Rattle.genchain.specs.Chains.{TableRow, lettersIn};
-ghost use Rattle.notes.specs.Names.{letterText, letterAt, letterAlone, sharpSign, flatSign};
+ghost use Rattle.genchain.specs.Chains.{TableRow, letters_in};
+ghost use Rattle.notes.specs.Names.{letter_text, letter_at, letter_alone, sharp_sign, flat_sign};
 ghost use Rattle.notes.specs.Parts.{
   marked,
-  isPresent,
-  onePlan,
-  twoPlan,
+  is_present,
+  one_plan,
+  two_plan,
   LettersOf,
   Planned,
   Measured,
@@ -39,7 +39,7 @@ pub struct NamePlan {
 // The letter at an index, or a question mark past the last.
 fn letter_at(row: ChainRow, index: u16) -> u16
     requires { TableRow row }
-    ensures { (result ≡ letterAt (lettersIn row) index) × (result < 2048) }
+    ensures { (result ≡ letter_at (letters_in row) index) × (result < 2048) }
 {
     let place = index as usize;
     if index < row.num_letters {
@@ -50,7 +50,7 @@ fn letter_at(row: ChainRow, index: u16) -> u16
 
 // The spelling with sharps.
 fn sharp_mark(letter: u16, count: u16, sharp_first: bool) -> Mark
-    ensures { result ≡ marked letter (sharpSign sharp_first) count }
+    ensures { result ≡ marked letter (sharp_sign sharp_first) count }
 {
     if sharp_first {
         return Mark {
@@ -68,7 +68,7 @@ fn sharp_mark(letter: u16, count: u16, sharp_first: bool) -> Mark
 
 // The spelling with flats.
 fn flat_mark(letter: u16, count: u16, sharp_first: bool) -> Mark
-    ensures { result ≡ marked letter (flatSign sharp_first) count }
+    ensures { result ≡ marked letter (flat_sign sharp_first) count }
 {
     if sharp_first {
         return Mark {
@@ -86,7 +86,7 @@ fn flat_mark(letter: u16, count: u16, sharp_first: bool) -> Mark
 
 // A cycle is there, even cycle 0.
 fn is_present(cycle: Cycle) -> bool
-    ensures { result ≡ isPresent cycle }
+    ensures { result ≡ is_present cycle }
 {
     match cycle {
         Cycle::Absent => false,
@@ -96,7 +96,7 @@ fn is_present(cycle: Cycle) -> bool
 
 // Both counts are 0, and the indices equal.
 fn letter_alone(accidentals: Accidentals) -> bool
-    ensures { result ≡ letterAlone accidentals }
+    ensures { result ≡ letter_alone accidentals }
 {
     if accidentals.sharp_count != 0 {
         return false;
@@ -109,7 +109,7 @@ fn letter_alone(accidentals: Accidentals) -> bool
 
 // One spelling is printed.
 fn one(printed: Mark, other: Mark, stars: u16) -> NamePlan
-    ensures { result ≡ onePlan printed other stars }
+    ensures { result ≡ one_plan printed other stars }
 {
     NamePlan {
         first: printed,
@@ -122,7 +122,7 @@ fn one(printed: Mark, other: Mark, stars: u16) -> NamePlan
 
 // Both are printed.
 fn two(first: Mark, second: Mark, bracketed: bool, stars: u16) -> NamePlan
-    ensures { result ≡ twoPlan first second bracketed stars }
+    ensures { result ≡ two_plan first second bracketed stars }
 {
     NamePlan {
         first,
@@ -169,7 +169,7 @@ pub fn plan_letters(
 // The plan of a key's name.
 pub fn plan_name(row: ChainRow, accidentals: Accidentals, sharp_first: bool) -> NamePlan
     requires { TableRow row }
-    ensures { Planned (lettersIn row) sharp_first accidentals result }
+    ensures { Planned (letters_in row) sharp_first accidentals result }
 {
     let sharp = letter_at(row, accidentals.sharp_index);
     let flat = letter_at(row, accidentals.flat_index);
@@ -178,7 +178,7 @@ pub fn plan_name(row: ChainRow, accidentals: Accidentals, sharp_first: bool) -> 
 
 // How many bytes a letter has.
 pub fn letter_length(letter: u16) -> usize
-    ensures { (result ≡ length (letterText letter)) × (result ≤ 2) }
+    ensures { (result ≡ length (letter_text letter)) × (result ≤ 2) }
 {
     if letter < 128 { 1 } else { 2 }
 }

@@ -1,17 +1,17 @@
 // Writing a planned name: parts, and no entry points. Callers have asked question 10 where a `requires` names the room.
 ghost use Rattle.std.specs.Prelude.{◌<◌, length};
-ghost use Rattle.answer.specs.Refusals.{countOutcome};
-ghost use Rattle.answer.specs.Lent.{heldIn, Filled};
+ghost use Rattle.answer.specs.Refusals.{count_outcome};
+ghost use Rattle.answer.specs.Lent.{held_in, Filled};
 ghost use Rattle.text.specs.Writing.{Room, Wrote};
-ghost use Rattle.notes.specs.Names.{letterText};
+ghost use Rattle.notes.specs.Names.{letter_text};
 ghost use Rattle.notes.specs.Parts.{
-  markText,
-  twoText,
-  parenthesisText,
-  bracketedText,
-  bodyText,
-  starredText,
-  planText,
+  mark_text,
+  two_text,
+  parenthesis_text,
+  bracketed_text,
+  body_text,
+  starred_text,
+  plan_text,
   ShortLetters,
 };
 
@@ -22,8 +22,8 @@ use text::writer;
 
 // A code point of one or two bytes.
 fn put_letter(out: &mut [u8], at: usize, letter: u16) -> usize
-    requires { (letter < 2048) × Room out.old at (letterText letter) }
-    ensures { Wrote out.old at (letterText letter) out.new result }
+    requires { (letter < 2048) × Room out.old at (letter_text letter) }
+    ensures { Wrote out.old at (letter_text letter) out.new result }
 {
     if letter < 128 {
         return writer::put_byte(out, at, letter as u8);
@@ -34,8 +34,8 @@ fn put_letter(out: &mut [u8], at: usize, letter: u16) -> usize
 
 // A letter and its signs. One sign, the most frequent number in small octaves, is a store and not a run.
 fn put_mark(out: &mut [u8], at: usize, mark: Mark) -> usize
-    requires { (mark.letter < 2048) × Room out.old at (markText mark) }
-    ensures { Wrote out.old at (markText mark) out.new result }
+    requires { (mark.letter < 2048) × Room out.old at (mark_text mark) }
+    ensures { Wrote out.old at (mark_text mark) out.new result }
 {
     let letter = mark.letter;
     let next = put_letter(out, at, letter);
@@ -46,8 +46,8 @@ fn put_mark(out: &mut [u8], at: usize, mark: Mark) -> usize
 }
 
 fn put_two(out: &mut [u8], at: usize, plan: NamePlan) -> usize
-    requires { ShortLetters plan × Room out.old at (twoText plan) }
-    ensures { Wrote out.old at (twoText plan) out.new result }
+    requires { ShortLetters plan × Room out.old at (two_text plan) }
+    ensures { Wrote out.old at (two_text plan) out.new result }
 {
     let first = plan.first;
     let second = plan.second;
@@ -58,8 +58,8 @@ fn put_two(out: &mut [u8], at: usize, plan: NamePlan) -> usize
 
 // A parenthesis, where one is wanted.
 fn put_parenthesis(out: &mut [u8], at: usize, byte: u8, wanted: bool) -> usize
-    requires { Room out.old at (parenthesisText wanted byte) }
-    ensures { Wrote out.old at (parenthesisText wanted byte) out.new result }
+    requires { Room out.old at (parenthesis_text wanted byte) }
+    ensures { Wrote out.old at (parenthesis_text wanted byte) out.new result }
 {
     if wanted {
         return writer::put_byte(out, at, byte);
@@ -69,8 +69,8 @@ fn put_parenthesis(out: &mut [u8], at: usize, byte: u8, wanted: bool) -> usize
 
 // Both spellings, in parentheses where the plan says so.
 fn put_bracketed(out: &mut [u8], at: usize, plan: NamePlan) -> usize
-    requires { ShortLetters plan × Room out.old at (bracketedText plan) }
-    ensures { Wrote out.old at (bracketedText plan) out.new result }
+    requires { ShortLetters plan × Room out.old at (bracketed_text plan) }
+    ensures { Wrote out.old at (bracketed_text plan) out.new result }
 {
     let bracketed = plan.bracketed;
     let next = put_parenthesis(out, at, b'(', bracketed);
@@ -79,8 +79,8 @@ fn put_bracketed(out: &mut [u8], at: usize, plan: NamePlan) -> usize
 }
 
 fn put_body(out: &mut [u8], at: usize, plan: NamePlan) -> usize
-    requires { ShortLetters plan × Room out.old at (bodyText plan) }
-    ensures { Wrote out.old at (bodyText plan) out.new result }
+    requires { ShortLetters plan × Room out.old at (body_text plan) }
+    ensures { Wrote out.old at (body_text plan) out.new result }
 {
     let both = plan.both;
     if both {
@@ -92,8 +92,8 @@ fn put_body(out: &mut [u8], at: usize, plan: NamePlan) -> usize
 
 // A planned name from a place on, with stars for another cycle than the plan's; the place after it.
 pub fn put_starred(out: &mut [u8], at: usize, plan: NamePlan, stars: u16) -> usize
-    requires { ShortLetters plan × Room out.old at (starredText plan stars) }
-    ensures { Wrote out.old at (starredText plan stars) out.new result }
+    requires { ShortLetters plan × Room out.old at (starred_text plan stars) }
+    ensures { Wrote out.old at (starred_text plan stars) out.new result }
 {
     let next = put_body(out, at, plan);
     writer::put_run(out, next, b'*', stars)
@@ -101,8 +101,8 @@ pub fn put_starred(out: &mut [u8], at: usize, plan: NamePlan, stars: u16) -> usi
 
 // A planned name from a place on; the place after it.
 pub fn put_name(out: &mut [u8], at: usize, plan: NamePlan) -> usize
-    requires { ShortLetters plan × Room out.old at (planText plan) }
-    ensures { Wrote out.old at (planText plan) out.new result }
+    requires { ShortLetters plan × Room out.old at (plan_text plan) }
+    ensures { Wrote out.old at (plan_text plan) out.new result }
 {
     put_starred(out, at, plan, plan.stars)
 }
@@ -110,7 +110,7 @@ pub fn put_name(out: &mut [u8], at: usize, plan: NamePlan) -> usize
 // A planned name at the front of a slice that holds it (10).
 pub fn write_planned(plan: NamePlan, out: &mut [u8]) -> CountAnswer
     requires { ShortLetters plan }
-    ensures { Filled (heldIn (length out.old) (planText plan)) (countOutcome result) out.old out.new }
+    ensures { Filled (held_in (length out.old) (plan_text plan)) (count_outcome result) out.old out.new }
 {
     let bytes = plans::plan_length(plan);
     if out.len() < bytes {

@@ -7,92 +7,92 @@ use lib.ListN.{length, take}
 use lib.Dec.{leb}
 use borrow.Author.Tests.{leb-true}
 use Rattle.answer.specs.Outcome.{Outcome, given, refused, and_then}
-use Rattle.answer.proofs.Asked.{given-same, asked-yes, asked-rest}
+use Rattle.answer.proofs.Asked.{given_same, asked_yes, asked_rest}
 use Rattle.line.specs.declared.Line.{Line}
-use Rattle.line.specs.Lines.{lineOutcome}
-use Rattle.line.proofs.Enough.{later-bytes-ignored}
-use Rattle.genchain.specs.Chains.{chainOf}
-use Rattle.genchain.specs.Answers.{generatorOutcome}
+use Rattle.line.specs.Lines.{line_outcome}
+use Rattle.line.proofs.Enough.{later_bytes_ignored}
+use Rattle.genchain.specs.Chains.{chain_of}
+use Rattle.genchain.specs.Answers.{generator_outcome}
 use Rattle.mos.specs.declared.Mos.{Mos}
-use Rattle.mos.specs.Patterns.{isPattern, genesis}
-use Rattle.mos.specs.Answers.{genesisOutcome}
-use Rattle.mos.proofs.Theorems.{made-patterns}
-use Rattle.line.specs.Refusals.{refusalLine, outputOf}
+use Rattle.mos.specs.Patterns.{is_pattern, genesis}
+use Rattle.mos.specs.Answers.{genesis_outcome}
+use Rattle.mos.proofs.Theorems.{made_patterns}
+use Rattle.line.specs.Refusals.{refusal_line, output_of}
 use Rattle.streams.specs.declared.input.Input.{Input}
 use Rattle.streams.specs.declared.output.Output.{Output}
 use Rattle.streams.specs.Streams.{Handed}
 use Rattle.streams.specs.Reading.{LineRead, LineIsEnough}
 use Rattle.streams.specs.Printing.{Printed}
-use Rattle.streams.proofs.Enough.{first-line-is-enough, kept-output}
-use Rattle.passed_patterns.specs.Printing.{shown, shownFrom, shownFor, output}
+use Rattle.streams.proofs.Enough.{first_line_is_enough, kept_output}
+use Rattle.passed_patterns.specs.Printing.{shown, shown_from, shown_for, output}
 
-pub genesis-is-pattern : (P G : ℕ) → P ≤ 65535 → (m : Mos) → given m ≡ genesisOutcome P G → isPattern m ≡ true
-unfolding genesisOutcome
-genesis-is-pattern P G l m e =
-    subst (λ (x : Mos). isPattern x ≡ true) (given-same (asked-rest 2 (leb 1 P) (given (genesis P G)) (sym e)))
-    (made-patterns.of-genesis P G (leb-true 1 P (asked-yes 2 (leb 1 P) (given (genesis P G)) (sym e))) l)
+pub genesis_is_pattern : (P G : ℕ) → P ≤ 65535 → (m : Mos) → given m ≡ genesis_outcome P G → is_pattern m ≡ true
+unfolding genesis_outcome
+genesis_is_pattern P G l m e =
+    subst (λ (x : Mos). is_pattern x ≡ true) (given_same (asked_rest 2 (leb 1 P) (given (genesis P G)) (sym e)))
+    (made_patterns.of_genesis P G (leb-true 1 P (asked_yes 2 (leb 1 P) (given (genesis P G)) (sym e))) l)
 
 -- ---- what was handed over, for an answer or for a refusal
 
 module _ {A : Type 0} (o : Outcome A) (next : A → Outcome (List ℕ)) (done : Output) where
-  after-refused : (k n : ℕ) → k ≡ n → refused n ≡ o → Handed (refusalLine k) done → Handed (outputOf (and_then o next)) done
-  after-refused k n i e =
-      subst (λ (l : List ℕ). Handed l done) (ap refusalLine i ∙ ap (λ (x : Outcome A). outputOf (and_then x next)) e)
+  after_refused : (k n : ℕ) → k ≡ n → refused n ≡ o → Handed (refusal_line k) done → Handed (output_of (and_then o next)) done
+  after_refused k n i e =
+      subst (λ (l : List ℕ). Handed l done) (ap refusal_line i ∙ ap (λ (x : Outcome A). output_of (and_then x next)) e)
 
-  after-given : (a : A) → given a ≡ o → Handed (outputOf (next a)) done → Handed (outputOf (and_then o next)) done
-  after-given a e = subst (λ (l : List ℕ). Handed l done) (ap (λ (x : Outcome A). outputOf (and_then x next)) e)
+  after_given : (a : A) → given a ≡ o → Handed (output_of (next a)) done → Handed (output_of (and_then o next)) done
+  after_given a e = subst (λ (l : List ℕ). Handed l done) (ap (λ (x : Outcome A). output_of (and_then x next)) e)
 
 module _ (a : Line) (done : Output) where
-  pub from-refused : (g k n : ℕ) → k ≡ n → refused n ≡ genesisOutcome a.octave g → Handed (refusalLine k) done
-      → Handed (outputOf (shownFrom a g)) done
-  unfolding shownFrom
-  from-refused g k n i e = after-refused (genesisOutcome a.octave g) _ done k n i e
+  pub from_refused : (g k n : ℕ) → k ≡ n → refused n ≡ genesis_outcome a.octave g → Handed (refusal_line k) done
+      → Handed (output_of (shown_from a g)) done
+  unfolding shown_from
+  from_refused g k n i e = after_refused (genesis_outcome a.octave g) _ done k n i e
 
-  pub from-given : (g : ℕ) (m : Mos) → given m ≡ genesisOutcome a.octave g → (n : ℕ) → n ≡ length (chainOf a.genchain).letters
-      → Handed (shown n m) done → Handed (outputOf (shownFrom a g)) done
-  unfolding shownFrom
-  from-given g m e n i h =
-      after-given (genesisOutcome a.octave g) _ done m e (subst (λ (k : ℕ). Handed (shown k m) done) i h)
+  pub from_given : (g : ℕ) (m : Mos) → given m ≡ genesis_outcome a.octave g → (n : ℕ) → n ≡ length (chain_of a.genchain).letters
+      → Handed (shown n m) done → Handed (output_of (shown_from a g)) done
+  unfolding shown_from
+  from_given g m e n i h =
+      after_given (genesis_outcome a.octave g) _ done m e (subst (λ (k : ℕ). Handed (shown k m) done) i h)
 
-  pub for-refused : (k n : ℕ) → k ≡ n → refused n ≡ generatorOutcome a.genchain a.octave a.tritave → Handed (refusalLine k) done
-      → Handed (outputOf (shownFor a)) done
-  unfolding shownFor
-  for-refused k n i e = after-refused (generatorOutcome a.genchain a.octave a.tritave) _ done k n i e
+  pub for_refused : (k n : ℕ) → k ≡ n → refused n ≡ generator_outcome a.genchain a.octave a.tritave → Handed (refusal_line k) done
+      → Handed (output_of (shown_for a)) done
+  unfolding shown_for
+  for_refused k n i e = after_refused (generator_outcome a.genchain a.octave a.tritave) _ done k n i e
 
-  pub for-given : (g : ℕ) → given g ≡ generatorOutcome a.genchain a.octave a.tritave → Handed (outputOf (shownFrom a g)) done
-      → Handed (outputOf (shownFor a)) done
-  unfolding shownFor
-  for-given g e = after-given (generatorOutcome a.genchain a.octave a.tritave) _ done g e
+  pub for_given : (g : ℕ) → given g ≡ generator_outcome a.genchain a.octave a.tritave → Handed (output_of (shown_from a g)) done
+      → Handed (output_of (shown_for a)) done
+  unfolding shown_for
+  for_given g e = after_given (generator_outcome a.genchain a.octave a.tritave) _ done g e
 
 -- ---- what is kept of a line
 
-output-by : (x y : List ℕ) → lineOutcome x ≡ lineOutcome y → output x ≡ output y
+output_by : (x y : List ℕ) → line_outcome x ≡ line_outcome y → output x ≡ output y
 unfolding output
-output-by x y e = ap (λ (o : Outcome Line). outputOf (and_then o shownFor)) e
+output_by x y e = ap (λ (o : Outcome Line). output_of (and_then o shown_for)) e
 
-pub line-is-enough : LineIsEnough output
-line-is-enough =
+pub line_is_enough : LineIsEnough output
+line_is_enough =
     record {
-      eighteen = λ (line : List ℕ). output-by _ _ (later-bytes-ignored.eighteen line);
-      one_line = first-line-is-enough output (λ line after. output-by _ _ (later-bytes-ignored.line-feed line after));
+      eighteen = λ (line : List ℕ). output_by _ _ (later_bytes_ignored.eighteen line);
+      one_line = first_line_is_enough output (λ line after. output_by _ _ (later_bytes_ignored.line_feed_lem line after));
     }
 
 module _ (buffer : List ℕ) (input : Input) (kept : ℕ) (read : LineRead buffer input) (few : kept ≡ input.kept) (done : Output) where
-  for-the-line : Handed (output (take kept buffer)) done → Printed output buffer input done
-  for-the-line h =
+  for_the_line : Handed (output (take kept buffer)) done → Printed output buffer input done
+  for_the_line h =
       record {
         read = read;
-        whole = λ taken. subst (λ (l : List ℕ). Handed l done) (kept-output buffer input kept read few output line-is-enough.eighteen) h;
+        whole = λ taken. subst (λ (l : List ℕ). Handed l done) (kept_output buffer input kept read few output line_is_enough.eighteen) h;
       }
 
-  opened : Handed (outputOf (and_then (lineOutcome (take kept buffer)) shownFor)) done → Handed (output (take kept buffer)) done
+  opened : Handed (output_of (and_then (line_outcome (take kept buffer)) shown_for)) done → Handed (output (take kept buffer)) done
   unfolding output
   opened h = h
 
-  pub printed-refused : (k n : ℕ) → k ≡ n → refused n ≡ lineOutcome (take kept buffer) → Handed (refusalLine k) done
+  pub printed_refused : (k n : ℕ) → k ≡ n → refused n ≡ line_outcome (take kept buffer) → Handed (refusal_line k) done
       → Printed output buffer input done
-  printed-refused k n i e h = for-the-line (opened (after-refused (lineOutcome (take kept buffer)) shownFor done k n i e h))
+  printed_refused k n i e h = for_the_line (opened (after_refused (line_outcome (take kept buffer)) shown_for done k n i e h))
 
-  pub printed-given : (a : Line) → given a ≡ lineOutcome (take kept buffer) → Handed (outputOf (shownFor a)) done
+  pub printed_given : (a : Line) → given a ≡ line_outcome (take kept buffer) → Handed (output_of (shown_for a)) done
       → Printed output buffer input done
-  printed-given a e h = for-the-line (opened (after-given (lineOutcome (take kept buffer)) shownFor done a e h))
+  printed_given a e h = for_the_line (opened (after_given (line_outcome (take kept buffer)) shown_for done a e h))

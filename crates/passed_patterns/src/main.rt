@@ -4,23 +4,25 @@
 // The patterns are made by the functions that the search's own loop is made of, and the last line comes from the search. What is printed is
 // `output` of the whole line that was read; `streams` reads the line and writes. specs/: Printing defines it, Examples has some lines. Which
 // bytes a read hands over, and where written bytes go, rests on the kit's library.
+#![tactic(auto)]
+
 ghost use Rattle.std.specs.Prelude.{◌≡◌, true, ◌+◌, ◌≤◌, length};
 ghost use Rattle.text.specs.Writing.{Wrote};
-ghost use Rattle.mos.specs.Patterns.{isPattern};
+ghost use Rattle.mos.specs.Patterns.{is_pattern};
 ghost use Rattle.mos.specs.Walks.{children};
-ghost use Rattle.mos_walks.specs.Answers.{foundBy};
-ghost use Rattle.line.specs.Refusals.{refusalLine, outputOf};
+ghost use Rattle.mos_walks.specs.Answers.{found_by};
+ghost use Rattle.line.specs.Refusals.{refusal_line, output_of};
 ghost use Rattle.streams.specs.Streams.{Handed, Written};
 ghost use Rattle.streams.specs.Reading.{LineRead};
 ghost use Rattle.streams.specs.Printing.{Printed};
 ghost use Rattle.passed_patterns.specs.Printing.{
-  patternLine,
+  pattern_line,
   passed,
-  patternLines,
-  answerLine,
+  pattern_lines,
+  answer_line,
   shown,
-  shownFrom,
-  shownFor,
+  shown_from,
+  shown_for,
   output,
 };
 
@@ -38,7 +40,7 @@ use text::decimal::put_number_then;
 // A pattern's line at a place; the place after it.
 fn put_pattern(out: &mut [u8], at: usize, m: Mos) -> usize
     requires { at + 24 ≤ length out.old }
-    ensures { Wrote out.old at (patternLine m) out.new result × (result ≤ at + 24) }
+    ensures { Wrote out.old at (pattern_line m) out.new result × (result ≤ at + 24) }
 {
     let first = put_number_then(out, at, m.num_primary_steps, b' ');
     let second = put_number_then(out, first, m.num_secondary_steps, b' ');
@@ -47,7 +49,7 @@ fn put_pattern(out: &mut [u8], at: usize, m: Mos) -> usize
 }
 
 fn print_pattern(past: Output, m: Mos) -> Output
-    ensures { Written past (patternLine m) result }
+    ensures { Written past (pattern_line m) result }
 {
     let mut out = [0u8; 24];
     let bytes = put_pattern(&mut out, 0, m);
@@ -56,8 +58,8 @@ fn print_pattern(past: Output, m: Mos) -> Output
 
 // The patterns that the search for n steps stands at.
 fn print_patterns(past: Output, genesis: Mos, n: u32) -> Output
-    requires { isPattern genesis ≡ true }
-    ensures { Written past (patternLines (passed n (children genesis))) result }
+    requires { is_pattern genesis ≡ true }
+    ensures { Written past (pattern_lines (passed n (children genesis))) result }
 {
     let mut pattern = genesis;
     let mut done = past;
@@ -73,7 +75,7 @@ fn print_patterns(past: Output, genesis: Mos, n: u32) -> Output
 
 // What the search answers.
 fn print_answer(past: Output, found: SearchAnswer) -> Output
-    ensures { Written past (answerLine (foundBy found)) result }
+    ensures { Written past (answer_line (found_by found)) result }
 {
     match found {
         SearchAnswer::Found(m) => print_pattern(output::write(past, b"found "), m),
@@ -82,7 +84,7 @@ fn print_answer(past: Output, found: SearchAnswer) -> Output
 }
 
 fn print_search(genesis: Mos, n: u32) -> Output
-    requires { isPattern genesis ≡ true }
+    requires { is_pattern genesis ≡ true }
     ensures { Handed (shown n genesis) result }
 {
     let done = print_patterns(output::begin(), genesis, n);
@@ -91,7 +93,7 @@ fn print_search(genesis: Mos, n: u32) -> Output
 
 // Writes the line of a refusal, and says that it is one.
 fn print_refusal(number: u16) -> Output
-    ensures { Handed (refusalLine number) result }
+    ensures { Handed (refusal_line number) result }
 {
     let mut out = [0u8; 16];
     let bytes = line::refusals::put_refusal(&mut out, number);
@@ -101,7 +103,7 @@ fn print_refusal(number: u16) -> Output
 }
 
 fn print_from(asked: Line, generator: u16) -> Output
-    ensures { Handed (outputOf (shownFrom asked generator)) result }
+    ensures { Handed (output_of (shown_from asked generator)) result }
 {
     let chain = rows::numbers(asked.genchain);
     match Mos::new_genesis(asked.octave, generator) {
@@ -111,7 +113,7 @@ fn print_from(asked: Line, generator: u16) -> Output
 }
 
 fn print_asked(asked: Line) -> Output
-    ensures { Handed (outputOf (shownFor asked)) result }
+    ensures { Handed (output_of (shown_for asked)) result }
 {
     match genchain::generator(asked.genchain, asked.octave, asked.tritave) {
         NumberAnswer::Refused(q) => print_refusal(q.number() as u16),

@@ -6,14 +6,14 @@ use borrow.Author.Tests.{lt-ltb, le-ltb}
 use native.Mathlib.Nat.{pos_of_ne-zero, div-one, div-le_self, mod-lt, mul-le-mul}
 use native.Mathlib.Omega.{arith}
 use Rattle.answer.specs.Outcome.{Outcome, given, refused}
-use Rattle.answer.proofs.Questions.{ask-none, ask-some, ask-above, ask-below}
-use Rattle.math.specs.Gcd.{gcdOrOne}
-use Rattle.math.proofs.Gcd.{gcd-or-one, gcd-positive}
+use Rattle.answer.proofs.Questions.{ask_none, ask_some, ask_above, ask_below}
+use Rattle.math.specs.Gcd.{gcd_or_one}
+use Rattle.math.proofs.Gcd.{gcd_or_one_lem, gcd_positive}
 use Rattle.math.specs.Division.{remainder}
-use Rattle.pergen.specs.Pergen.{cycles, reduced, inverse, degree, cycle, keyDegree, keyCycle, cycleOf, generationOf}
-use Rattle.pergen.specs.Spelling.{accidentalsOf, keyAccidentals, place, soundedKey}
-use Rattle.pergen.specs.Answers.{askFormat, ofPergen, newOutcome, getGeneration, getAccidentals, getPlace, getSoundedKey}
-use Rattle.pergen.specs.Parts.{solvedOf, generationFrom}
+use Rattle.pergen.specs.Pergen.{cycles, reduced, inverse, degree, cycle, key_degree, key_cycle, cycle_of, generation_of}
+use Rattle.pergen.specs.Spelling.{accidentals_of, key_accidentals, place, sounded_key}
+use Rattle.pergen.specs.Answers.{ask_format, of_pergen, new_outcome, get_generation, get_accidentals, get_place, get_sounded_key}
+use Rattle.pergen.specs.Parts.{solved_of, generation_from}
 use Rattle.pergen.specs.declared.PerGen.{PerGen}
 use Rattle.pergen.specs.declared.Cycle.{Cycle}
 use Rattle.pergen.specs.declared.Cycle.TheVariants.{Absent, Number}
@@ -22,152 +22,152 @@ use Rattle.pergen.specs.declared.AccidentalsFormat.{AccidentalsFormat}
 use Rattle.pergen.specs.declared.Accidentals.{Accidentals}
 use Rattle.pergen.specs.declared.Spelling.{Spelling}
 use Rattle.pergen.specs.declared.euclid.Solved.{Solved}
-use Rattle.pergen.proofs.Inverse.{cycles-positive, reduced-positive}
-use Rattle.pergen.proofs.Keys.{keys-from-zero-on}
+use Rattle.pergen.proofs.Inverse.{cycles_positive, reduced_positive}
+use Rattle.pergen.proofs.Keys.{keys_from_zero_on}
 
 -- ---- question 2, for each call
 
 module _ (p : PerGen) where
   module _ (none : p.period ≡ 0) where
-    pub no_number : (number : ℕ) → refused 2 ≡ ofPergen p number
-    unfolding ofPergen
-    no_number number = sym (ask-none 2 p.period _ none)
+    pub no_number : (number : ℕ) → refused 2 ≡ of_pergen p number
+    unfolding of_pergen
+    no_number number = sym (ask_none 2 p.period _ none)
 
-    pub no-generation : (key : ℤ) → refused 2 ≡ getGeneration p key
-    unfolding getGeneration
-    no-generation key = sym (ask-none 2 p.period _ none)
+    pub no_generation : (key : ℤ) → refused 2 ≡ get_generation p key
+    unfolding get_generation
+    no_generation key = sym (ask_none 2 p.period _ none)
 
-    pub no-accidentals : (f : AccidentalsFormat) (key : ℤ) → refused 2 ≡ getAccidentals p f key
-    unfolding getAccidentals
-    no-accidentals f key = sym (ask-none 2 p.period _ none)
+    pub no_accidentals : (f : AccidentalsFormat) (key : ℤ) → refused 2 ≡ get_accidentals p f key
+    unfolding get_accidentals
+    no_accidentals f key = sym (ask_none 2 p.period _ none)
 
-    pub no_key : (f : AccidentalsFormat) (s : Spelling) → refused 2 ≡ getSoundedKey p f s
-    unfolding getSoundedKey
-    no_key f s = sym (ask-none 2 p.period _ none)
+    pub no_key : (f : AccidentalsFormat) (s : Spelling) → refused 2 ≡ get_sounded_key p f s
+    unfolding get_sounded_key
+    no_key f s = sym (ask_none 2 p.period _ none)
 
   module _ (some : p.period ≡ 0 → ⊥) where
-    pub number-given : (number m : ℕ) → m ≡ number → given m ≡ ofPergen p number
-    unfolding ofPergen
-    number-given number m e = ap given e ∙ sym (ask-some 2 p.period _ some)
+    pub number_given : (number m : ℕ) → m ≡ number → given m ≡ of_pergen p number
+    unfolding of_pergen
+    number_given number m e = ap given e ∙ sym (ask_some 2 p.period _ some)
 
-    pub generation-given : (key : ℤ) (g : Generation) → g ≡ generationOf p.period p.generator key → given g ≡ getGeneration p key
-    unfolding getGeneration
-    generation-given key g e = ap given e ∙ sym (ask-some 2 p.period _ some)
+    pub generation_given : (key : ℤ) (g : Generation) → g ≡ generation_of p.period p.generator key → given g ≡ get_generation p key
+    unfolding get_generation
+    generation_given key g e = ap given e ∙ sym (ask_some 2 p.period _ some)
 
-pub new-refused : (period generator : ℕ) → period ≡ 0 → refused 2 ≡ newOutcome period generator
-unfolding newOutcome
-new-refused period generator none = sym (ask-none 2 period _ none)
+pub new_refused : (period generator : ℕ) → period ≡ 0 → refused 2 ≡ new_outcome period generator
+unfolding new_outcome
+new_refused period generator none = sym (ask_none 2 period _ none)
 
-pub new-given : (period generator : ℕ) → (period ≡ 0 → ⊥) → given (record { period = period; generator = generator }) ≡ newOutcome period generator
-unfolding newOutcome
-new-given period generator some = sym (ask-some 2 period _ some)
+pub new_given : (period generator : ℕ) → (period ≡ 0 → ⊥) → given (record { period = period; generator = generator }) ≡ new_outcome period generator
+unfolding new_outcome
+new_given period generator some = sym (ask_some 2 period _ some)
 
 -- ---- questions 5 and 6
 
-no-symbols : {A : Type 0} (f : AccidentalsFormat) (rest : Outcome A) → f.num_symbols ≡ 0 → askFormat f rest ≡ refused 5
-no-symbols f rest none = ask-none 5 f.num_symbols _ none
+no_symbols : {A : Type 0} (f : AccidentalsFormat) (rest : Outcome A) → f.num_symbols ≡ 0 → ask_format f rest ≡ refused 5
+no_symbols f rest none = ask_none 5 f.num_symbols _ none
 
-no_origin : {A : Type 0} (f : AccidentalsFormat) (rest : Outcome A) → (f.num_symbols ≡ 0 → ⊥) → f.num_symbols ≤ f.genchain_origin → askFormat f rest ≡ refused 6
-no_origin f rest some h = ask-some 5 f.num_symbols _ some ∙ ask-above 6 _ _ rest h
+no_origin : {A : Type 0} (f : AccidentalsFormat) (rest : Outcome A) → (f.num_symbols ≡ 0 → ⊥) → f.num_symbols ≤ f.genchain_origin → ask_format f rest ≡ refused 6
+no_origin f rest some h = ask_some 5 f.num_symbols _ some ∙ ask_above 6 _ _ rest h
 
-good-format : {A : Type 0} (f : AccidentalsFormat) (rest : Outcome A) → (f.num_symbols ≡ 0 → ⊥) → f.genchain_origin < f.num_symbols → askFormat f rest ≡ rest
-good-format f rest some h = ask-some 5 f.num_symbols _ some ∙ ask-below 6 _ _ rest h
+good_format : {A : Type 0} (f : AccidentalsFormat) (rest : Outcome A) → (f.num_symbols ≡ 0 → ⊥) → f.genchain_origin < f.num_symbols → ask_format f rest ≡ rest
+good_format f rest some h = ask_some 5 f.num_symbols _ some ∙ ask_below 6 _ _ rest h
 
 module _ (p : PerGen) (f : AccidentalsFormat) (some : p.period ≡ 0 → ⊥) where
-  pub accidentals-no-symbols : (key : ℤ) → f.num_symbols ≡ 0 → refused 5 ≡ getAccidentals p f key
-  unfolding getAccidentals
-  accidentals-no-symbols key none = sym (ask-some 2 p.period _ some ∙ no-symbols f _ none)
+  pub accidentals_no_symbols : (key : ℤ) → f.num_symbols ≡ 0 → refused 5 ≡ get_accidentals p f key
+  unfolding get_accidentals
+  accidentals_no_symbols key none = sym (ask_some 2 p.period _ some ∙ no_symbols f _ none)
 
-  pub key-no-symbols : (s : Spelling) → f.num_symbols ≡ 0 → refused 5 ≡ getSoundedKey p f s
-  unfolding getSoundedKey
-  key-no-symbols s none = sym (ask-some 2 p.period _ some ∙ no-symbols f _ none)
+  pub key_no_symbols : (s : Spelling) → f.num_symbols ≡ 0 → refused 5 ≡ get_sounded_key p f s
+  unfolding get_sounded_key
+  key_no_symbols s none = sym (ask_some 2 p.period _ some ∙ no_symbols f _ none)
 
   module _ (symbols : f.num_symbols ≡ 0 → ⊥) where
-    pub accidentals-no-origin : (key : ℤ) → f.num_symbols ≤ f.genchain_origin → refused 6 ≡ getAccidentals p f key
-    unfolding getAccidentals
-    accidentals-no-origin key h = sym (ask-some 2 p.period _ some ∙ no_origin f _ symbols h)
+    pub accidentals_no_origin : (key : ℤ) → f.num_symbols ≤ f.genchain_origin → refused 6 ≡ get_accidentals p f key
+    unfolding get_accidentals
+    accidentals_no_origin key h = sym (ask_some 2 p.period _ some ∙ no_origin f _ symbols h)
 
-    pub key-no-origin : (s : Spelling) → f.num_symbols ≤ f.genchain_origin → refused 6 ≡ getSoundedKey p f s
-    unfolding getSoundedKey
-    key-no-origin s h = sym (ask-some 2 p.period _ some ∙ no_origin f _ symbols h)
+    pub key_no_origin : (s : Spelling) → f.num_symbols ≤ f.genchain_origin → refused 6 ≡ get_sounded_key p f s
+    unfolding get_sounded_key
+    key_no_origin s h = sym (ask_some 2 p.period _ some ∙ no_origin f _ symbols h)
 
     module _ (origin : f.genchain_origin < f.num_symbols) where
-      pub accidentals-given : (key : ℤ) (a : Accidentals)
-          → a ≡ keyAccidentals p.period p.generator f.num_symbols f.genchain_origin key → given a ≡ getAccidentals p f key
-      unfolding getAccidentals
-      accidentals-given key a e = ap given e ∙ sym (ask-some 2 p.period _ some ∙ good-format f _ symbols origin)
+      pub accidentals_given : (key : ℤ) (a : Accidentals)
+          → a ≡ key_accidentals p.period p.generator f.num_symbols f.genchain_origin key → given a ≡ get_accidentals p f key
+      unfolding get_accidentals
+      accidentals_given key a e = ap given e ∙ sym (ask_some 2 p.period _ some ∙ good_format f _ symbols origin)
 
-      pub key-given : (s : Spelling) (k : ℕ) → k ≡ soundedKey p.period p.generator f.num_symbols f.genchain_origin s
-          → given k ≡ getSoundedKey p f s
-      unfolding getSoundedKey
-      key-given s k e = ap given e ∙ sym (ask-some 2 p.period _ some ∙ good-format f _ symbols origin)
+      pub key_given : (s : Spelling) (k : ℕ) → k ≡ sounded_key p.period p.generator f.num_symbols f.genchain_origin s
+          → given k ≡ get_sounded_key p f s
+      unfolding get_sounded_key
+      key_given s k e = ap given e ∙ sym (ask_some 2 p.period _ some ∙ good_format f _ symbols origin)
 
-pub place-no-symbols : (f : AccidentalsFormat) (s : Spelling) → f.num_symbols ≡ 0 → refused 5 ≡ getPlace f s
-unfolding getPlace
-place-no-symbols f s none = sym (no-symbols f _ none)
+pub place_no_symbols : (f : AccidentalsFormat) (s : Spelling) → f.num_symbols ≡ 0 → refused 5 ≡ get_place f s
+unfolding get_place
+place_no_symbols f s none = sym (no_symbols f _ none)
 
-pub place-no-origin : (f : AccidentalsFormat) (s : Spelling) → (f.num_symbols ≡ 0 → ⊥) → f.num_symbols ≤ f.genchain_origin → refused 6 ≡ getPlace f s
-unfolding getPlace
-place-no-origin f s some h = sym (no_origin f _ some h)
+pub place_no_origin : (f : AccidentalsFormat) (s : Spelling) → (f.num_symbols ≡ 0 → ⊥) → f.num_symbols ≤ f.genchain_origin → refused 6 ≡ get_place f s
+unfolding get_place
+place_no_origin f s some h = sym (no_origin f _ some h)
 
-pub place-given : (f : AccidentalsFormat) (s : Spelling) (z : ℤ) → (f.num_symbols ≡ 0 → ⊥) → f.genchain_origin < f.num_symbols
-    → z ≡ place f.num_symbols f.genchain_origin s → given z ≡ getPlace f s
-unfolding getPlace
-place-given f s z some h e = ap given e ∙ sym (good-format f _ some h)
+pub place_given : (f : AccidentalsFormat) (s : Spelling) (z : ℤ) → (f.num_symbols ≡ 0 → ⊥) → f.genchain_origin < f.num_symbols
+    → z ≡ place f.num_symbols f.genchain_origin s → given z ≡ get_place f s
+unfolding get_place
+place_given f s z some h e = ap given e ∙ sym (good_format f _ some h)
 
 -- ---- the numbers of a pergen
 
-pub cycles-found : (P G n : ℕ) → (P ≡ 0 → ⊥) → n ≡ gcdOrOne P G → n ≡ cycles P G
+pub cycles_found : (P G n : ℕ) → (P ≡ 0 → ⊥) → n ≡ gcd_or_one P G → n ≡ cycles P G
 unfolding cycles
-cycles-found P G n some e = e ∙ gcd-or-one P G (gcd-positive P G (pos_of_ne-zero some))
+cycles_found P G n some e = e ∙ gcd_or_one_lem P G (gcd_positive P G (pos_of_ne-zero some))
 
-pub reduced-found : (P G n : ℕ) → (P ≡ 0 → ⊥) → n ≡ gcdOrOne P G → P / n ≡ reduced P G
+pub reduced_found : (P G n : ℕ) → (P ≡ 0 → ⊥) → n ≡ gcd_or_one P G → P / n ≡ reduced P G
 unfolding reduced
-reduced-found P G n some e = ap (λ (m : ℕ). P / m) (cycles-found P G n some e)
+reduced_found P G n some e = ap (λ (m : ℕ). P / m) (cycles_found P G n some e)
 
 -- ---- from the numbers
 
-pub product-fits : (a b : ℕ) → a ≤ 65535 → b ≤ 65535 → a * b ≤ 65535 * 65535
-product-fits a b h k = mul-le-mul {n₂ = 65535} {m₂ = 65535} h k
+pub product_fits : (a b : ℕ) → a ≤ 65535 → b ≤ 65535 → a * b ≤ 65535 * 65535
+product_fits a b h k = mul-le-mul {n₂ = 65535} {m₂ = 65535} h k
 
-module _ (P G : ℕ) (s : Solved) (is : s ≡ solvedOf P G) where
-  pub solved-cycles : zero < P → zero < s.num_cycles
-  unfolding solvedOf
-  solved-cycles hP = rw is (cycles-positive P G hP)
+module _ (P G : ℕ) (s : Solved) (is : s ≡ solved_of P G) where
+  pub solved_cycles : zero < P → zero < s.num_cycles
+  unfolding solved_of
+  solved_cycles hP = rw is (cycles_positive P G hP)
 
-  pub solved-keys : zero < P → zero < s.reduced_period
-  unfolding solvedOf
-  solved-keys hP = rw is (reduced-positive P G hP)
+  pub solved_keys : zero < P → zero < s.reduced_period
+  unfolding solved_of
+  solved_keys hP = rw is (reduced_positive P G hP)
 
-  pub solved-inverse : s.generator_inverse ≡ inverse P G
-  unfolding solvedOf
-  solved-inverse = ap (λ (x : Solved). x.generator_inverse) is
+  pub solved_inverse : s.generator_inverse ≡ inverse P G
+  unfolding solved_of
+  solved_inverse = ap (λ (x : Solved). x.generator_inverse) is
 
   -- the degree is below the reduced period, as `accidentals` asks
-  pub degree-small : (i : ℕ) (g : Generation) → zero < P → g ≡ generationFrom s i → g.degree < s.reduced_period
-  unfolding generationFrom
-  degree-small i g hP e = rw e (mod-lt _ (solved-keys hP))
+  pub degree_small : (i : ℕ) (g : Generation) → zero < P → g ≡ generation_from s i → g.degree < s.reduced_period
+  unfolding generation_from
+  degree_small i g hP e = rw e (mod-lt _ (solved_keys hP))
 
   -- of a key from 0 on, in any octave
-  pub accidentals-from-zero : (N o i : ℕ) (g : Generation) (a : Accidentals) → zero < P → g ≡ generationFrom s i
-      → a ≡ accidentalsOf s.reduced_period N o g.degree g.cycle → a ≡ keyAccidentals P G N o (pos i)
-  unfolding solvedOf generationFrom degree cycle
-  accidentals-from-zero N o i g a hP e q =
+  pub accidentals_from_zero : (N o i : ℕ) (g : Generation) (a : Accidentals) → zero < P → g ≡ generation_from s i
+      → a ≡ accidentals_of s.reduced_period N o g.degree g.cycle → a ≡ key_accidentals P G N o (pos i)
+  unfolding solved_of generation_from degree cycle
+  accidentals_from_zero N o i g a hP e q =
       q
-      ∙ ap₂ (λ (x : Solved) (y : Generation). accidentalsOf x.reduced_period N o y.degree y.cycle) is
-      (e ∙ ap (λ (x : Solved). generationFrom x i) is)
-      ∙ sym ((keys-from-zero-on P G hP i).spellings-stay N o)
+      ∙ ap₂ (λ (x : Solved) (y : Generation). accidentals_of x.reduced_period N o y.degree y.cycle) is
+      (e ∙ ap (λ (x : Solved). generation_from x i) is)
+      ∙ sym ((keys_from_zero_on P G hP i).spellings_stay N o)
 
   -- of a key that was brought round the period
   module _ (key : ℤ) (i : ℕ) (round : i ≡ remainder key P) where
-    pub generation-is : (g : Generation) → g ≡ generationFrom s i → g ≡ generationOf P G key
-    unfolding solvedOf generationFrom generationOf cycleOf keyCycle keyDegree cycle degree
-    generation-is g e = e ∙ ap₂ (λ (x : Solved) (j : ℕ). generationFrom x j) is round
+    pub generation_is : (g : Generation) → g ≡ generation_from s i → g ≡ generation_of P G key
+    unfolding solved_of generation_from generation_of cycle_of key_cycle key_degree cycle degree
+    generation_is g e = e ∙ ap₂ (λ (x : Solved) (j : ℕ). generation_from x j) is round
 
-    pub accidentals-are : (N o : ℕ) (g : Generation) (a : Accidentals) → g ≡ generationFrom s i
-        → a ≡ accidentalsOf s.reduced_period N o g.degree g.cycle → a ≡ keyAccidentals P G N o key
-    unfolding keyAccidentals solvedOf generationOf
-    accidentals-are N o g a e q =
+    pub accidentals_are : (N o : ℕ) (g : Generation) (a : Accidentals) → g ≡ generation_from s i
+        → a ≡ accidentals_of s.reduced_period N o g.degree g.cycle → a ≡ key_accidentals P G N o key
+    unfolding key_accidentals solved_of generation_of
+    accidentals_are N o g a e q =
         q
-        ∙ ap (λ (x : ℕ). accidentalsOf x N o g.degree g.cycle) (ap (λ (x : Solved). x.reduced_period) is)
-        ∙ ap (λ (x : Generation). accidentalsOf (reduced P G) N o x.degree x.cycle) (generation-is g e)
+        ∙ ap (λ (x : ℕ). accidentals_of x N o g.degree g.cycle) (ap (λ (x : Solved). x.reduced_period) is)
+        ∙ ap (λ (x : Generation). accidentals_of (reduced P G) N o x.degree x.cycle) (generation_is g e)

@@ -7,16 +7,16 @@ use lib.Arith.{digits_div, digits_mod, digits_lt}
 use native.Mathlib.Nat.{mod-lt, mod-add-mod, mod-eq_of_lt, mod-eq-sub-mod, mul-add, mul-one, mul_comm, mul_assoc, zero-div, zero-mod, mul-zero, div-add-mod', div-lt_iff_lt-mul, mod-mod}
 use native.Mathlib.Omega.{arith}
 use Rattle.math.specs.Division.{remainder}
-use Rattle.math.proofs.Division.{remainder-below}
-use Rattle.math.proofs.Congruence.{mul-cong}
+use Rattle.math.proofs.Division.{remainder_below}
+use Rattle.math.proofs.Congruence.{mul_cong}
 use Rattle.pergen.specs.Pergen.{cycles, reduced, inverse, degree, cycle}
-use Rattle.pergen.specs.Parts.{solvedOf, Walkable, At, generationFrom}
+use Rattle.pergen.specs.Parts.{solved_of, Walkable, At, generation_from}
 use Rattle.pergen.specs.declared.Cycle.{Cycle}
 use Rattle.pergen.specs.declared.Cycle.TheVariants.{Absent, Number}
 use Rattle.pergen.specs.declared.Generation.{Generation}
 use Rattle.pergen.specs.declared.euclid.Solved.{Solved}
 use Rattle.pergen.specs.declared.stepping.Key.{Key}
-use Rattle.pergen.proofs.Inverse.{Numbers, numbers, cycles-positive, reduced-positive}
+use Rattle.pergen.proofs.Inverse.{Numbers, numbers, cycles_positive, reduced_positive}
 
 -- ---- one key on
 
@@ -24,37 +24,37 @@ module _ (n k : ℕ) (some : 0 < n) where
   high : k ≡ k / n * n + k % n
   high = sym (div-add-mod' k n)
 
-  pub stay-high : k % n + 1 < n → (k + 1) / n ≡ k / n
-  stay-high h = ap (λ (x : ℕ). x / n) (omega (arith, high)) ∙ digits_div (k / n) h
+  pub stay_high : k % n + 1 < n → (k + 1) / n ≡ k / n
+  stay_high h = ap (λ (x : ℕ). x / n) (omega (arith, high)) ∙ digits_div (k / n) h
 
-  pub stay-low : k % n + 1 < n → (k + 1) % n ≡ k % n + 1
-  stay-low h = ap (λ (x : ℕ). x % n) (omega (arith, high)) ∙ digits_mod (k / n) h
+  pub stay_low : k % n + 1 < n → (k + 1) % n ≡ k % n + 1
+  stay_low h = ap (λ (x : ℕ). x % n) (omega (arith, high)) ∙ digits_mod (k / n) h
 
   carried : n ≤ k % n + 1 → k + 1 ≡ (k / n + 1) * n + 0
   carried h = omega (arith, high, mod-lt k some, mul_comm (k / n + 1) n, mul-add n (k / n) 1, mul_comm n (k / n), mul-one n)
 
-  pub carry-high : n ≤ k % n + 1 → (k + 1) / n ≡ k / n + 1
-  carry-high h = ap (λ (x : ℕ). x / n) (carried h) ∙ digits_div (k / n + 1) some
+  pub carry_high : n ≤ k % n + 1 → (k + 1) / n ≡ k / n + 1
+  carry_high h = ap (λ (x : ℕ). x / n) (carried h) ∙ digits_div (k / n + 1) some
 
-  pub carry-low : n ≤ k % n + 1 → (k + 1) % n ≡ 0
-  carry-low h = ap (λ (x : ℕ). x % n) (carried h) ∙ digits_mod (k / n + 1) some
+  pub carry_low : n ≤ k % n + 1 → (k + 1) % n ≡ 0
+  carry_low h = ap (λ (x : ℕ). x % n) (carried h) ∙ digits_mod (k / n + 1) some
 
 -- the degree after the one of q is a step of x on
-pub degree-on : (x q R : ℕ) {d : ℕ} → d ≡ x * q % R → (d + x) % R ≡ x * (q + 1) % R
-degree-on x q R {d} e =
+pub degree_on : (x q R : ℕ) {d : ℕ} → d ≡ x * q % R → (d + x) % R ≡ x * (q + 1) % R
+degree_on x q R {d} e =
     ap (λ (y : ℕ). (y + x) % R) e
     ∙ mod-add-mod (x * q) R x
     ∙ ap (λ (y : ℕ). y % R) (sym (mul-add x q 1 ∙ ap (λ (y : ℕ). x * q + y) (mul-one x)))
 
-pub degree-start : (x R : ℕ) → 0 ≡ x * 0 % R
-degree-start x R = sym (ap (λ (y : ℕ). y % R) (mul-zero x) ∙ zero-mod R)
+pub degree_start : (x R : ℕ) → 0 ≡ x * 0 % R
+degree_start x R = sym (ap (λ (y : ℕ). y % R) (mul-zero x) ∙ zero-mod R)
 
 -- a remainder of a sum of two numbers below R, by one comparison
-pub turn-stays : (d x R : ℕ) → x < R → d < R - x → d + x ≡ (d + x) % R
-turn-stays d x R h l = sym (mod-eq_of_lt (omega arith))
+pub turn_stays : (d x R : ℕ) → x < R → d < R - x → d + x ≡ (d + x) % R
+turn_stays d x R h l = sym (mod-eq_of_lt (omega arith))
 
-pub turn-wraps : (d x R : ℕ) → x < R → d < R → R - x ≤ d → d - (R - x) ≡ (d + x) % R
-turn-wraps d x R h b l =
+pub turn_wraps : (d x R : ℕ) → x < R → d < R → R - x ≤ d → d - (R - x) ≡ (d + x) % R
+turn_wraps d x R h b l =
     let q : R ≤ d + x = omega arith in
     let e : d - (R - x) ≡ d + x - R = omega arith in
     e ∙ sym (mod-eq-sub-mod q ∙ mod-eq_of_lt (omega arith))
@@ -74,8 +74,8 @@ module _ (s : Solved) (w : Walkable s) where
   pub at_first : At s (record { number = 0; degree = 0; cycle = 0 })
   at_first =
       record {
-        degree-is = degree-start x R ∙ ap (λ (y : ℕ). x * y % R) (sym (zero-div n));
-        cycle-is = sym (zero-mod n);
+        degree_is = degree_start x R ∙ ap (λ (y : ℕ). x * y % R) (sym (zero-div n));
+        cycle_is = sym (zero-mod n);
       }
 
   -- found by its number
@@ -85,50 +85,50 @@ module _ (s : Solved) (w : Walkable s) where
         let q : i / n * n + i % n ≡ i = div-add-mod' i n in
         ap (λ (y : ℕ). i - y * n) turned ∙ (let z : i - i / n * n ≡ i % n = omega arith in z)
 
-    pub at-found : {within : ℕ} → within ≡ turn % R → At s (record { number = i; degree = x * within % R; cycle = i - turn * n })
-    at-found {within} rest =
+    pub at_found : {within : ℕ} → within ≡ turn % R → At s (record { number = i; degree = x * within % R; cycle = i - turn * n })
+    at_found {within} rest =
         record {
-          degree-is = mul-cong R x within (i / n)
+          degree_is = mul_cong R x within (i / n)
               (ap (λ (y : ℕ). y % R) rest ∙ mod-mod turn R ∙ ap (λ (y : ℕ). y % R) turned);
-          cycle-is = left_is;
+          cycle_is = left_is;
         }
 
-    pub turn-fits : turn * n ≤ i
-    turn-fits =
+    pub turn_fits : turn * n ≤ i
+    turn_fits =
         let q : i / n * n + i % n ≡ i = div-add-mod' i n in
         subst (λ (y : ℕ). y * n ≤ i) (sym turned) (let z : i / n * n ≤ i = omega arith in z)
 
     pub rest_below : i - turn * n < n
-    rest_below = subst (λ (y : ℕ). y < n) (sym left_is) (mod-lt i w.some-cycles)
+    rest_below = subst (λ (y : ℕ). y < n) (sym left_is) (mod-lt i w.some_cycles)
 
     pub turn_below : i < 2 * (R * n) → turn < 2 * R
     turn_below h =
         subst (λ (y : ℕ). y < 2 * R) (sym turned)
-        ((div-lt_iff_lt-mul {k = n} {x = i} {y = 2 * R} w.some-cycles).1 (omega (arith, h, mul_assoc 2 R n)))
+        ((div-lt_iff_lt-mul {k = n} {x = i} {y = 2 * R} w.some_cycles).1 (omega (arith, h, mul_assoc 2 R n)))
 
   module _ (k : Key) (at : At s k) where
-    pub at-degree-below : k.degree < R
-    at-degree-below = rw at.degree-is (mod-lt _ (omega (arith, w.below)))
+    pub at_degree_below : k.degree < R
+    at_degree_below = rw at.degree_is (mod-lt _ (omega (arith, w.below)))
 
-    pub at-cycle-below : k.cycle < n
-    at-cycle-below = rw at.cycle-is (mod-lt k.number w.some-cycles)
+    pub at_cycle_below : k.cycle < n
+    at_cycle_below = rw at.cycle_is (mod-lt k.number w.some_cycles)
 
-    pub at-stay : k.cycle + 1 < n → At s (record { number = k.number + 1; degree = k.degree; cycle = k.cycle + 1 })
-    at-stay h =
-        let l : k.number % n + 1 < n = subst (λ (y : ℕ). y + 1 < n) at.cycle-is h in
+    pub at_stay : k.cycle + 1 < n → At s (record { number = k.number + 1; degree = k.degree; cycle = k.cycle + 1 })
+    at_stay h =
+        let l : k.number % n + 1 < n = subst (λ (y : ℕ). y + 1 < n) at.cycle_is h in
         record {
-          degree-is = at.degree-is ∙ ap (λ (y : ℕ). x * y % R) (sym (stay-high n k.number w.some-cycles l));
-          cycle-is = ap (λ (y : ℕ). y + 1) at.cycle-is ∙ sym (stay-low n k.number w.some-cycles l);
+          degree_is = at.degree_is ∙ ap (λ (y : ℕ). x * y % R) (sym (stay_high n k.number w.some_cycles l));
+          cycle_is = ap (λ (y : ℕ). y + 1) at.cycle_is ∙ sym (stay_low n k.number w.some_cycles l);
         }
 
-    pub at-carry : n ≤ k.cycle + 1 → {d : ℕ} → d ≡ (k.degree + x) % R → At s (record { number = k.number + 1; degree = d; cycle = 0 })
-    at-carry h e =
-        let l : n ≤ k.number % n + 1 = subst (λ (y : ℕ). n ≤ y + 1) at.cycle-is h in
+    pub at_carry : n ≤ k.cycle + 1 → {d : ℕ} → d ≡ (k.degree + x) % R → At s (record { number = k.number + 1; degree = d; cycle = 0 })
+    at_carry h e =
+        let l : n ≤ k.number % n + 1 = subst (λ (y : ℕ). n ≤ y + 1) at.cycle_is h in
         record {
-          degree-is = e
-              ∙ degree-on x (k.number / n) R at.degree-is
-              ∙ ap (λ (y : ℕ). x * y % R) (sym (carry-high n k.number w.some-cycles l));
-          cycle-is = sym (carry-low n k.number w.some-cycles l);
+          degree_is = e
+              ∙ degree_on x (k.number / n) R at.degree_is
+              ∙ ap (λ (y : ℕ). x * y % R) (sym (carry_high n k.number w.some_cycles l));
+          cycle_is = sym (carry_low n k.number w.some_cycles l);
         }
 
 -- degree and cycle as names have them
@@ -136,69 +136,69 @@ module _ (s : Solved) (k : Key) (at : At s k) where
   abbrev made : Cycle → Generation
   made c = record { cycle = c; degree = k.degree }
 
-  pub several-cycles : 1 < s.num_cycles → made (Number k.cycle) ≡ generationFrom s k.number
-  unfolding generationFrom
-  several-cycles h =
-      ap₂ (λ (c d : ℕ). record { cycle = Number c; degree = d }) at.cycle-is at.degree-is
+  pub several_cycles : 1 < s.num_cycles → made (Number k.cycle) ≡ generation_from s k.number
+  unfolding generation_from
+  several_cycles h =
+      ap₂ (λ (c d : ℕ). record { cycle = Number c; degree = d }) at.cycle_is at.degree_is
       ∙ rw (lt-ltb 1 s.num_cycles h)
 
-  pub one-cycle : s.num_cycles ≤ 1 → made Absent ≡ generationFrom s k.number
-  unfolding generationFrom
-  one-cycle h =
-      ap (λ (d : ℕ). record { cycle = Absent; degree = d }) at.degree-is ∙ rw (le-ltb 1 s.num_cycles h)
+  pub one_cycle : s.num_cycles ≤ 1 → made Absent ≡ generation_from s k.number
+  unfolding generation_from
+  one_cycle h =
+      ap (λ (d : ℕ). record { cycle = Absent; degree = d }) at.degree_is ∙ rw (le-ltb 1 s.num_cycles h)
 
 -- ---- of a period and a generator
 
-module _ (P G : ℕ) (hP : 0 < P) (s : Solved) (is : s ≡ solvedOf P G) where
+module _ (P G : ℕ) (hP : 0 < P) (s : Solved) (is : s ≡ solved_of P G) where
   pub walkable : Walkable s
-  unfolding solvedOf
-  walkable = rw is (record { some-cycles = cycles-positive P G hP; below = (numbers P G hP).below })
+  unfolding solved_of
+  walkable = rw is (record { some_cycles = cycles_positive P G hP; below = (numbers P G hP).below })
 
   -- what a key holds is its number's degree and cycle
-  pub at-degree : (k : Key) → At s k → k.degree ≡ degree P G k.number
-  unfolding solvedOf degree
-  at-degree k at =
-      at.degree-is ∙ ap (λ (t : Solved). t.generator_inverse * (k.number / t.num_cycles) % t.reduced_period) is
+  pub at_degree : (k : Key) → At s k → k.degree ≡ degree P G k.number
+  unfolding solved_of degree
+  at_degree k at =
+      at.degree_is ∙ ap (λ (t : Solved). t.generator_inverse * (k.number / t.num_cycles) % t.reduced_period) is
 
-  pub at-cycle : (k : Key) → At s k → k.cycle ≡ cycle P G k.number
-  unfolding solvedOf cycle
-  at-cycle k at = at.cycle-is ∙ ap (λ (t : Solved). k.number % t.num_cycles) is
+  pub at_cycle : (k : Key) → At s k → k.cycle ≡ cycle P G k.number
+  unfolding solved_of cycle
+  at_cycle k at = at.cycle_is ∙ ap (λ (t : Solved). k.number % t.num_cycles) is
 
   -- the period, by what was solved
-  pub solved-period : P ≡ s.reduced_period * s.num_cycles
-  unfolding solvedOf
-  solved-period = rw is (numbers P G hP).period
+  pub solved_period : P ≡ s.reduced_period * s.num_cycles
+  unfolding solved_of
+  solved_period = rw is (numbers P G hP).period
 
   -- a key that was brought round the period can be found
-  pub round-found : (key : ℤ) (i : ℕ) → i ≡ remainder key P → Walkable s × (i < 2 * (s.reduced_period * s.num_cycles))
-  round-found key i round =
-      let below = remainder-below key P hP in
-      (walkable, omega (arith, round, below, solved-period))
+  pub round_found : (key : ℤ) (i : ℕ) → i ≡ remainder key P → Walkable s × (i < 2 * (s.reduced_period * s.num_cycles))
+  round_found key i round =
+      let below = remainder_below key P hP in
+      (walkable, omega (arith, round, below, solved_period))
 
 -- ---- each degree with each cycle is that of a key of the octave
 
 module _ (P G : ℕ) (hP : 0 < P) (d c : ℕ) (hd : d < reduced P G) (hc : c < cycles P G) where
   -- the key: G / n × degree, as often as there are cycles, and the cycle
-  abbrev pub keyWith : ℕ
-  keyWith = G / cycles P G * d % reduced P G * cycles P G + c
+  abbrev pub key_with : ℕ
+  key_with = G / cycles P G * d % reduced P G * cycles P G + c
 
-  pub key-with-below : keyWith < P
-  key-with-below =
-      subst (λ (x : ℕ). keyWith < x) (sym (numbers P G hP).period) (digits_lt (mod-lt _ (reduced-positive P G hP)) hc)
+  pub key_with_below : key_with < P
+  key_with_below =
+      subst (λ (x : ℕ). key_with < x) (sym (numbers P G hP).period) (digits_lt (mod-lt _ (reduced_positive P G hP)) hc)
 
-  pub key-with-cycle : cycle P G keyWith ≡ c
+  pub key_with_cycle : cycle P G key_with ≡ c
   unfolding cycle
-  key-with-cycle = digits_mod (G / cycles P G * d % reduced P G) hc
+  key_with_cycle = digits_mod (G / cycles P G * d % reduced P G) hc
 
-  pub key-with-degree : degree P G keyWith ≡ d
+  pub key_with_degree : degree P G key_with ≡ d
   unfolding degree
-  key-with-degree =
+  key_with_degree =
       let R = reduced P G in
       let x = inverse P G in
       let g = G / cycles P G in
       ap (λ (y : ℕ). x * y % R) (digits_div (g * d % R) hc)
-      ∙ mul-cong R x (g * d % R) (g * d) (mod-mod (g * d) R)
+      ∙ mul_cong R x (g * d % R) (g * d) (mod-mod (g * d) R)
       ∙ ap (λ (y : ℕ). y % R) (sym (mul_assoc x g d) ∙ mul_comm (x * g) d)
-      ∙ mul-cong R d (x * g) 1 (numbers P G hP).one
+      ∙ mul_cong R d (x * g) 1 (numbers P G hP).one
       ∙ ap (λ (y : ℕ). y % R) (mul-one d)
       ∙ mod-eq_of_lt hd

@@ -1,22 +1,22 @@
 -- The worked examples hold by computation.
 use mathlib.Core.Path.{refl}
 use Rattle.pergen.specs.Pergen.{cycles, reduced, inverse}
-use Rattle.pergen.specs.Answers.{newOutcome, getGeneration, getAccidentals, getPlace, getSoundedKey}
+use Rattle.pergen.specs.Answers.{new_outcome, get_generation, get_accidentals, get_place, get_sounded_key}
 use Rattle.pergen.specs.Examples.{ExamplesHold}
 
-pub examples-hold : ExamplesHold
-unfolding cycles reduced inverse newOutcome getGeneration getAccidentals getPlace getSoundedKey
-examples-hold =
+pub examples_hold : ExamplesHold
+unfolding cycles reduced inverse new_outcome get_generation get_accidentals get_place get_sounded_key
+examples_hold =
     record {
-      cycles-are = refl;
-      reduced-are = refl;
-      inverses-are = refl;
-      new-ones = refl;
-      new-refused = refl;
+      cycles_are = refl;
+      reduced_are = refl;
+      inverses_are = refl;
+      new_ones = refl;
+      new_refused = refl;
       generations = refl;
       large_product = refl;
       accidentals = refl;
-      signs-are = refl;
+      signs_are = refl;
       places = refl;
       keys = refl;
     }

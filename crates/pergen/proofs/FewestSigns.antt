@@ -7,32 +7,32 @@ use native.Mathlib.Nat.{mod-le, mod-eq_of_lt, mod-add-div, div-add-mod', add_com
 use native.Mathlib.Omega.{arith}
 use lib.IntN.{ℤ, pos}
 use Rattle.math.specs.Division.{Apart}
-use Rattle.math.proofs.Congruence.{add_cong, add-cancel}
+use Rattle.math.proofs.Congruence.{add_cong, add_cancel}
 use Rattle.math.proofs.Integers.{rep_pos}
-use Rattle.math.proofs.Division.{remainders-agree, apart→remainder}
+use Rattle.math.proofs.Division.{remainders_agree, apart→remainder}
 use Rattle.pergen.specs.declared.Accidentals.{Accidentals}
 use Rattle.pergen.specs.declared.Cycle.{Cycle}
 use Rattle.pergen.specs.declared.Signs.TheVariants.{Sharps, Flats}
-use Rattle.pergen.specs.Pergen.{reduced, keyDegree, cycleOf}
-use Rattle.pergen.specs.Spelling.{sharpCoordinate, flatCoordinate, byCoordinates, keyAccidentals, place}
-use Rattle.pergen.proofs.Keys.{key-degree-below}
-use Rattle.pergen.proofs.Indices.{flat-below, accidentals-high}
-use Rattle.pergen.proofs.DegreePlaces.{place-sharps, place-flats, flat-sum}
+use Rattle.pergen.specs.Pergen.{reduced, key_degree, cycle_of}
+use Rattle.pergen.specs.Spelling.{sharp_coordinate, flat_coordinate, by_coordinates, key_accidentals, place}
+use Rattle.pergen.proofs.Keys.{key_degree_below}
+use Rattle.pergen.proofs.Indices.{flat_below, accidentals_high}
+use Rattle.pergen.proofs.DegreePlaces.{place_sharps, place_flats, flat_sum}
 
 -- what is shown of accidentals a: a spelling at the degree's places has at least a's signs of its kind, and with no more a's index
 pub record FewestOfEach (R N o e : ℕ) (a : Accidentals) : Type 0 where
   pub sharps : (i k s : ℕ) → i < N → Apart R (place N o (record { index = i; signs = Sharps k; stars = s })) (pos e) → a.sharp_count ≤ k
   pub flats : (i k s : ℕ) → i < N → Apart R (place N o (record { index = i; signs = Flats k; stars = s })) (pos e) → a.flat_count ≤ k
-  pub sharp-index : (i k s : ℕ) → i < N → Apart R (place N o (record { index = i; signs = Sharps k; stars = s })) (pos e)
+  pub sharp_index : (i k s : ℕ) → i < N → Apart R (place N o (record { index = i; signs = Sharps k; stars = s })) (pos e)
       → k ≤ a.sharp_count → i ≡ a.sharp_index
-  pub flat-index : (i k s : ℕ) → i < N → Apart R (place N o (record { index = i; signs = Flats k; stars = s })) (pos e)
+  pub flat_index : (i k s : ℕ) → i < N → Apart R (place N o (record { index = i; signs = Flats k; stars = s })) (pos e)
       → k ≤ a.flat_count → i ≡ a.flat_index
 
 -- ---- quotients
 
 -- i below N: a number that i + N × k reaches has at most k whole N
-quotient-least : (N i k x : ℕ) → i < N → x ≤ i + N * k → x / N ≤ k
-quotient-least N i k x hi h =
+quotient_least : (N i k x : ℕ) → i < N → x ≤ i + N * k → x / N ≤ k
+quotient_least N i k x hi h =
     let below : x < suc k * N = omega (arith, suc-mul k N, mul_comm N k) in
     omega (arith, (div-lt_iff_lt-mul {x = x} {y = suc k} (let t : 0 < N = omega arith in t)).1 below)
 
@@ -46,7 +46,7 @@ near R x z e h = go (z / R) refl
 
 module _ (R N i k x : ℕ) (hi : i < N) (e : (i + N * k) % R ≡ x) where
   reached : x / N ≤ k
-  reached = quotient-least N i k x hi (subst (λ (n : ℕ). n ≤ i + N * k) e (mod-le (i + N * k) R))
+  reached = quotient_least N i k x hi (subst (λ (n : ℕ). n ≤ i + N * k) e (mod-le (i + N * k) R))
 
   -- and where x has k whole N, the rest is i
   rest : N ≤ R → k ≤ x / N → i ≡ x % N
@@ -61,46 +61,46 @@ module _ (R N o e : ℕ) (c : Cycle) (ho : o < N) (he : e < R) where
   some : 0 < R
   some = omega arith
 
-  from-the-first : (i k s : ℕ) → Apart R (place N o (record { index = i; signs = Sharps k; stars = s })) (pos e)
-      → (i + N * k) % R ≡ sharpCoordinate R (o + e)
-  unfolding sharpCoordinate
-  from-the-first i k s a =
+  from_the_first : (i k s : ℕ) → Apart R (place N o (record { index = i; signs = Sharps k; stars = s })) (pos e)
+      → (i + N * k) % R ≡ sharp_coordinate R (o + e)
+  unfolding sharp_coordinate
+  from_the_first i k s a =
       ap (λ (z : ℕ). z % R) (sym (add-zero (i + N * k)))
-      ∙ (remainders-agree R some (place-sharps N o i k s) (rep_pos e)).0 (apart→remainder R some _ (pos e) a)
+      ∙ (remainders_agree R some (place_sharps N o i k s) (rep_pos e)).0 (apart→remainder R some _ (pos e) a)
       ∙ ap (λ (z : ℕ). z % R) (add_comm e o)
 
   -- N − 1 − i + N × k, and 1 + o + e more, is N
-  from-the-last : (i k s : ℕ) → i < N → Apart R (place N o (record { index = i; signs = Flats k; stars = s })) (pos e)
-      → (N - 1 - i + N * k) % R ≡ flatCoordinate R N (o + e)
-  from-the-last i k s hi a =
+  from_the_last : (i k s : ℕ) → i < N → Apart R (place N o (record { index = i; signs = Flats k; stars = s })) (pos e)
+      → (N - 1 - i + N * k) % R ≡ flat_coordinate R N (o + e)
+  from_the_last i k s hi a =
       let stands : i % R ≡ (e + (N * k + o)) % R
       = ap (λ (z : ℕ). z % R) (sym (add-zero i))
-      ∙ (remainders-agree R some (place-flats N o i k s) (rep_pos e)).0 (apart→remainder R some _ (pos e) a) in
-      add-cancel R (0 + 1 + (o + e)) (N - 1 - i + N * k) (flatCoordinate R N (o + e))
+      ∙ (remainders_agree R some (place_flats N o i k s) (rep_pos e)).0 (apart→remainder R some _ (pos e) a) in
+      add_cancel R (0 + 1 + (o + e)) (N - 1 - i + N * k) (flat_coordinate R N (o + e))
       (ap (λ (z : ℕ). z % R) (let t : N - 1 - i + N * k + (0 + 1 + (o + e)) ≡ e + (N * k + o) + (N - i) = omega arith in t)
       ∙ add_cong R (N - i) (e + (N * k + o)) i (sym stands)
       ∙ ap (λ (z : ℕ). z % R) (let t : i + (N - i) ≡ N + 0 + 0 = omega arith in t)
-      ∙ sym (flat-sum R N o e c ho he _ refl))
-      ∙ mod-eq_of_lt (flat-below R N (o + e) some)
+      ∙ sym (flat_sum R N o e c ho he _ refl))
+      ∙ mod-eq_of_lt (flat_below R N (o + e) some)
 
-  fewest-by-coordinates : N ≤ R → FewestOfEach R N o e (byCoordinates c N (sharpCoordinate R (o + e)) (flatCoordinate R N (o + e)))
-  unfolding byCoordinates
-  fewest-by-coordinates hN =
+  fewest_by_coordinates : N ≤ R → FewestOfEach R N o e (by_coordinates c N (sharp_coordinate R (o + e)) (flat_coordinate R N (o + e)))
+  unfolding by_coordinates
+  fewest_by_coordinates hN =
       record {
-        sharps = λ i k s hi a. reached R N i k _ hi (from-the-first i k s a);
-        flats = λ i k s hi a. reached R N (N - 1 - i) k _ (omega arith) (from-the-last i k s hi a);
-        sharp-index = λ i k s hi a h. rest R N i k _ hi (from-the-first i k s a) hN h;
-        flat-index =
+        sharps = λ i k s hi a. reached R N i k _ hi (from_the_first i k s a);
+        flats = λ i k s hi a. reached R N (N - 1 - i) k _ (omega arith) (from_the_last i k s hi a);
+        sharp_index = λ i k s hi a h. rest R N i k _ hi (from_the_first i k s a) hN h;
+        flat_index =
             λ i k s hi a h.
-            omega (arith, rest R N (N - 1 - i) k _ (let t : N - 1 - i < N = omega arith in t) (from-the-last i k s hi a) hN h);
+            omega (arith, rest R N (N - 1 - i) k _ (let t : N - 1 - i < N = omega arith in t) (from_the_last i k s hi a) hN h);
       }
 
 -- ---- of a key
 
-pub fewest-of-each : (P G N o : ℕ) (key : ℤ) → 0 < P → o < N → N ≤ reduced P G
-    → FewestOfEach (reduced P G) N o (keyDegree P G key) (keyAccidentals P G N o key)
-unfolding keyAccidentals
-fewest-of-each P G N o key hP ho h =
-    subst (FewestOfEach (reduced P G) N o (keyDegree P G key))
-    (accidentals-high (reduced P G) N o (keyDegree P G key) (cycleOf P G key) h _ _ refl refl)
-    (fewest-by-coordinates (reduced P G) N o (keyDegree P G key) (cycleOf P G key) ho (key-degree-below P G hP key) h)
+pub fewest_of_each : (P G N o : ℕ) (key : ℤ) → 0 < P → o < N → N ≤ reduced P G
+    → FewestOfEach (reduced P G) N o (key_degree P G key) (key_accidentals P G N o key)
+unfolding key_accidentals
+fewest_of_each P G N o key hP ho h =
+    subst (FewestOfEach (reduced P G) N o (key_degree P G key))
+    (accidentals_high (reduced P G) N o (key_degree P G key) (cycle_of P G key) h _ _ refl refl)
+    (fewest_by_coordinates (reduced P G) N o (key_degree P G key) (cycle_of P G key) ho (key_degree_below P G hP key) h)

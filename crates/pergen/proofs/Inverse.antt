@@ -8,8 +8,8 @@ use native.Mathlib.Nat.{mul-add, add-mul, mul_assoc, mul_comm, mul_left_comm, mu
 use native.Mathlib.Omega.{arith}
 use Rattle.math.specs.Gcd.{gcd}
 use Rattle.math.specs.Passing.{first}
-use Rattle.math.proofs.Congruence.{add_cong, add-cancel, mul-cong, two-digits-agree}
-use Rattle.math.proofs.Gcd.{gcd-zero, gcd-step, euclid-induction, gcd-is, gcd-positive}
+use Rattle.math.proofs.Congruence.{add_cong, add_cancel, mul_cong, two_digits_agree}
+use Rattle.math.proofs.Gcd.{gcd_zero, gcd_step, euclid_induction, gcd_is, gcd_positive}
 use Rattle.math.proofs.Passing.{first_finds}
 use Rattle.pergen.specs.Pergen.{cycles, reduced, IsInverse, inverse}
 use Rattle.pergen.specs.Theorems.{OneInverse}
@@ -17,36 +17,36 @@ use Rattle.pergen.specs.Theorems.{OneInverse}
 -- ---- Bezout: c y leaves the greatest common divisor of M and y on division by M
 
 -- one step: c₀ y ≡ r₀ and c₁ y ≡ r₁, and c₂ ≡ c₀ − q c₁: then c₂ y ≡ r₀ − q r₁
-bezout-step : (M y r₀ r₁ c₀ c₁ c₂ : ℕ) → c₀ * y % M ≡ r₀ % M → c₁ * y % M ≡ r₁ % M
+bezout_step : (M y r₀ r₁ c₀ c₁ c₂ : ℕ) → c₀ * y % M ≡ r₀ % M → c₁ * y % M ≡ r₁ % M
     → (c₂ + r₀ / r₁ * c₁) % M ≡ c₀ % M → c₂ * y % M ≡ (r₀ % r₁) % M
-bezout-step M y r₀ r₁ c₀ c₁ c₂ h₀ h₁ h =
-    add-cancel M (r₀ / r₁ * (c₁ * y)) (c₂ * y) (r₀ % r₁)
+bezout_step M y r₀ r₁ c₀ c₁ c₂ h₀ h₁ h =
+    add_cancel M (r₀ / r₁ * (c₁ * y)) (c₂ * y) (r₀ % r₁)
     (ap (λ (z : ℕ). z % M) (distributed ∙ mul_comm (c₂ + r₀ / r₁ * c₁) y)
-    ∙ mul-cong M y _ _ h
+    ∙ mul_cong M y _ _ h
     ∙ ap (λ (z : ℕ). z % M) (mul_comm y c₀)
     ∙ h₀
     ∙ ap (λ (z : ℕ). z % M) (sym (div-add-mod' r₀ r₁))
-    ∙ sym (add_cong M (r₀ % r₁) _ _ (mul-cong M (r₀ / r₁) _ _ h₁))
+    ∙ sym (add_cong M (r₀ % r₁) _ _ (mul_cong M (r₀ / r₁) _ _ h₁))
     ∙ ap (λ (z : ℕ). z % M) (omega arith))
   where
     distributed : c₂ * y + r₀ / r₁ * (c₁ * y) ≡ (c₂ + r₀ / r₁ * c₁) * y
     distributed = sym (add-mul c₂ (r₀ / r₁ * c₁) y ∙ ap (λ (z : ℕ). c₂ * y + z) (mul_assoc (r₀ / r₁) c₁ y))
 
-bezout-first : (M y : ℕ) → zero * y % M ≡ M % M
-bezout-first M y = ap (λ (z : ℕ). z % M) (zero-mul y) ∙ zero-mod M ∙ sym (mod_self M)
+bezout_first : (M y : ℕ) → zero * y % M ≡ M % M
+bezout_first M y = ap (λ (z : ℕ). z % M) (zero-mul y) ∙ zero-mod M ∙ sym (mod_self M)
 
-bezout-second : (M y : ℕ) → 1 * y % M ≡ y % M
-bezout-second M y = ap (λ (z : ℕ). z % M) (one-mul y)
+bezout_second : (M y : ℕ) → 1 * y % M ≡ y % M
+bezout_second M y = ap (λ (z : ℕ). z % M) (one-mul y)
 
 bezout : (M y : ℕ) → zero < M → (c : ℕ) × (c * y % M ≡ gcd M y % M)
 bezout M y hM =
-    euclid-induction (λ r₀ r₁. (c₀ c₁ : ℕ) → c₀ * y % M ≡ r₀ % M → c₁ * y % M ≡ r₁ % M → (c : ℕ) × (c * y % M ≡ gcd r₀ r₁ % M))
-    (λ r₀ c₀ c₁ h₀ h₁. (c₀, h₀ ∙ ap (λ (z : ℕ). z % M) (sym (gcd-zero r₀))))
+    euclid_induction (λ r₀ r₁. (c₀ c₁ : ℕ) → c₀ * y % M ≡ r₀ % M → c₁ * y % M ≡ r₁ % M → (c : ℕ) × (c * y % M ≡ gcd r₀ r₁ % M))
+    (λ r₀ c₀ c₁ h₀ h₁. (c₀, h₀ ∙ ap (λ (z : ℕ). z % M) (sym (gcd_zero r₀))))
     (λ r₀ r₁ h ih c₀ c₁ h₀ h₁.
     let r : (c : ℕ) × (c * y % M ≡ gcd r₁ (r₀ % r₁) % M)
-    = ih c₁ (c₀ + r₀ / r₁ * (c₁ * M - c₁)) h₁ (bezout-step M y r₀ r₁ c₀ c₁ _ h₀ h₁ (back c₀ c₁ (r₀ / r₁))) in
-    (r.0, r.1 ∙ ap (λ (z : ℕ). z % M) (sym (gcd-step r₀ r₁ h))))
-    M y zero 1 (bezout-first M y) (bezout-second M y)
+    = ih c₁ (c₀ + r₀ / r₁ * (c₁ * M - c₁)) h₁ (bezout_step M y r₀ r₁ c₀ c₁ _ h₀ h₁ (back c₀ c₁ (r₀ / r₁))) in
+    (r.0, r.1 ∙ ap (λ (z : ℕ). z % M) (sym (gcd_step r₀ r₁ h))))
+    M y zero 1 (bezout_first M y) (bezout_second M y)
   where
     back : (c₀ c₁ q : ℕ) → (c₀ + q * (c₁ * M - c₁) + q * c₁) % M ≡ c₀ % M
     back c₀ c₁ q =
@@ -60,45 +60,45 @@ bezout M y hM =
 
 -- P = R n, G = g n, and x g leaves the remainder of 1 on division by R
 pub record Numbers (P G n R g x : ℕ) : Type 0 where
-  pub some-cycles : zero < n
-  pub some-keys : zero < R
+  pub some_cycles : zero < n
+  pub some_keys : zero < R
   pub period : P ≡ R * n
   pub generator : G ≡ g * n
   pub below : x < R
   pub one : x * g % R ≡ 1 % R
 
 module _ (P G : ℕ) (hP : zero < P) where
-  pub cycles-positive : zero < cycles P G
+  pub cycles_positive : zero < cycles P G
   unfolding cycles
-  cycles-positive = gcd-positive P G hP
+  cycles_positive = gcd_positive P G hP
 
-  pub period-is : P ≡ reduced P G * cycles P G
+  pub period_is : P ≡ reduced P G * cycles P G
   unfolding cycles reduced
-  period-is = sym (div-mul_cancel _ (gcd-is P G).left)
+  period_is = sym (div-mul_cancel _ (gcd_is P G).left)
 
-  generator-is : G ≡ G / cycles P G * cycles P G
+  generator_is : G ≡ G / cycles P G * cycles P G
   unfolding cycles
-  generator-is = sym (div-mul_cancel _ (gcd-is P G).right)
+  generator_is = sym (div-mul_cancel _ (gcd_is P G).right)
 
-  pub reduced-positive : zero < reduced P G
+  pub reduced_positive : zero < reduced P G
   unfolding cycles reduced
-  reduced-positive = (le-div_iff_mul-le cycles-positive).1 (rw one-mul (le_of_dvd hP (gcd-is P G).left))
+  reduced_positive = (le-div_iff_mul-le cycles_positive).1 (rw one-mul (le_of_dvd hP (gcd_is P G).left))
 
   -- if c G leaves n on division by P, then c mod R is an inverse: divide all by n
-  inverse-by : (c : ℕ) → c * G % P ≡ cycles P G % P → IsInverse P G (c % reduced P G)
-  inverse-by c e =
+  inverse_by : (c : ℕ) → c * G % P ≡ cycles P G % P → IsInverse P G (c % reduced P G)
+  inverse_by c e =
       let n = cycles P G in
       let R = reduced P G in
       let g = G / cycles P G in
       let e' : c * (g * n) % (R * n) ≡ n % (R * n)
-      = ap₂ (λ (x y : ℕ). c * x % y) (sym generator-is) (sym period-is) ∙ e ∙ ap (λ (x : ℕ). n % x) period-is in
+      = ap₂ (λ (x y : ℕ). c * x % y) (sym generator_is) (sym period_is) ∙ e ∙ ap (λ (x : ℕ). n % x) period_is in
       record {
-        below = mod-lt c reduced-positive;
+        below = mod-lt c reduced_positive;
         one =
             ap (λ (z : ℕ). z % R) (mul_comm (c % R) g)
-            ∙ mul-cong R g (c % R) c (mod-mod c R)
+            ∙ mul_cong R g (c % R) c (mod-mod c R)
             ∙ ap (λ (z : ℕ). z % R) (mul_comm g c)
-            ∙ (two-digits-agree R n (c * g) 1 zero zero reduced-positive cycles-positive cycles-positive
+            ∙ (two_digits_agree R n (c * g) 1 zero zero reduced_positive cycles_positive cycles_positive
             (ap (λ (z : ℕ). z % (R * n)) (add-zero (c * g * n) ∙ mul_assoc c g n)
             ∙ e'
             ∙ ap (λ (z : ℕ). z % (R * n)) (sym (add-zero (1 * n) ∙ one-mul n)))).0;
@@ -110,9 +110,9 @@ module _ (P G : ℕ) (hP : zero < P) where
       let g = G / cycles P G in
       sym (mod-eq_of_lt ix.below)
       ∙ ap (λ (z : ℕ). z % R) (sym (mul-one x))
-      ∙ sym (mul-cong R x (y * g) 1 iy.one)
+      ∙ sym (mul_cong R x (y * g) 1 iy.one)
       ∙ ap (λ (z : ℕ). z % R) (mul_left_comm x y g)
-      ∙ mul-cong R y (x * g) 1 ix.one
+      ∙ mul_cong R y (x * g) 1 ix.one
       ∙ ap (λ (z : ℕ). z % R) (mul-one y)
       ∙ mod-eq_of_lt iy.below
 
@@ -125,26 +125,26 @@ module _ (P G : ℕ) (hP : zero < P) where
       = first_finds test (reduced P G) 0 w (omega arith) (omega (arith, h.below)) (eq-eqb _ _ h.one) in
       record { below = omega (arith, r.1, h.below); one = eqb-true _ _ r.0 }
 
-  inverse-exists : IsInverse P G (inverse P G)
+  inverse_exists : IsInverse P G (inverse P G)
   unfolding cycles
-  inverse-exists =
+  inverse_exists =
       let b : (c : ℕ) × (c * G % P ≡ gcd P G % P) = bezout P G hP in
-      found (b.0 % reduced P G) (inverse-by b.0 b.1)
+      found (b.0 % reduced P G) (inverse_by b.0 b.1)
 
   -- for code that computes it: c G leaves n on division by P, so c mod R is the inverse
-  pub inverse-is : (c : ℕ) → c * G % P ≡ cycles P G % P → c % reduced P G ≡ inverse P G
-  inverse-is c e = only_one _ _ (inverse-by c e) inverse-exists
+  pub inverse_is : (c : ℕ) → c * G % P ≡ cycles P G % P → c % reduced P G ≡ inverse P G
+  inverse_is c e = only_one _ _ (inverse_by c e) inverse_exists
 
   pub numbers : Numbers P G (cycles P G) (reduced P G) (G / cycles P G) (inverse P G)
   numbers =
       record {
-        some-cycles = cycles-positive;
-        some-keys = reduced-positive;
-        period = period-is;
-        generator = generator-is;
-        below = inverse-exists.below;
-        one = inverse-exists.one;
+        some_cycles = cycles_positive;
+        some_keys = reduced_positive;
+        period = period_is;
+        generator = generator_is;
+        below = inverse_exists.below;
+        one = inverse_exists.one;
       }
 
-pub one-inverse : OneInverse
-one-inverse P G hP = (inverse-exists P G hP, λ x h. only_one P G hP x (inverse P G) h (inverse-exists P G hP))
+pub one_inverse : OneInverse
+one_inverse P G hP = (inverse_exists P G hP, λ x h. only_one P G hP x (inverse P G) h (inverse_exists P G hP))

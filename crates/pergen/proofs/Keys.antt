@@ -8,14 +8,14 @@ use lib.Arith.{mod-mul}
 use native.Mathlib.Nat.{mul-add, mul_assoc, mul_comm, mul-one, mul-pos, mod-lt, mod-eq_of_lt, mod-mod}
 use native.Mathlib.Omega.{arith}
 use Rattle.math.specs.Division.{remainder, Apart}
-use Rattle.math.proofs.Congruence.{mul-cong, two_digits, two-digits-agree}
-use Rattle.math.proofs.Integers.{up, down, Rep, rep-self, rep_pos, rep_add, rep_mul}
-use Rattle.math.proofs.Division.{remainder-below, remainders-agree, apart-iff, apart→remainder}
-use Rattle.pergen.specs.Pergen.{cycles, reduced, inverse, degree, cycle, shown, keyDegree, keyCycle, cycleOf}
-use Rattle.pergen.specs.Spelling.{accidentalsOf, keyAccidentals, sounds}
+use Rattle.math.proofs.Congruence.{mul_cong, two_digits, two_digits_agree}
+use Rattle.math.proofs.Integers.{up, down, Rep, rep_self, rep_pos, rep_add, rep_mul}
+use Rattle.math.proofs.Division.{remainder_below, remainders_agree, apart_iff, apart→remainder}
+use Rattle.pergen.specs.Pergen.{cycles, reduced, inverse, degree, cycle, shown, key_degree, key_cycle, cycle_of}
+use Rattle.pergen.specs.Spelling.{accidentals_of, key_accidentals, sounds}
 use Rattle.pergen.specs.declared.Cycle.{Cycle}
 use Rattle.pergen.specs.Theorems.{SpellingsOfOneKey, OldAnswersStay, KeysFromZeroOn, DegreeSoundsKey, DegreeAndCycleTellKeysApart}
-use Rattle.pergen.proofs.Inverse.{Numbers, numbers, cycles-positive, reduced-positive}
+use Rattle.pergen.proofs.Inverse.{Numbers, numbers, cycles_positive, reduced_positive}
 
 -- ---- in naturals
 module _ {P G n R g x : ℕ} (p : Numbers P G n R g x) where
@@ -23,13 +23,13 @@ module _ {P G n R g x : ℕ} (p : Numbers P G n R g x) where
   undo : (a : ℕ) → x * (g * a) % R ≡ a % R
   undo a =
       ap (λ (z : ℕ). z % R) (sym (mul_assoc x g a) ∙ mul_comm (x * g) a)
-      ∙ mul-cong R a (x * g) 1 p.one
+      ∙ mul_cong R a (x * g) 1 p.one
       ∙ ap (λ (z : ℕ). z % R) (mul-one a)
 
   redo : (a : ℕ) → g * (x * a) % R ≡ a % R
   redo a =
       ap (λ (z : ℕ). z % R) (sym (mul_assoc g x a) ∙ ap (λ (z : ℕ). z * a) (mul_comm g x) ∙ mul_comm (x * g) a)
-      ∙ mul-cong R a (x * g) 1 p.one
+      ∙ mul_cong R a (x * g) 1 p.one
       ∙ ap (λ (z : ℕ). z % R) (mul-one a)
 
   digits : (a s : ℕ) → (G * a + s) % P ≡ (g * a * n + s) % (R * n)
@@ -38,46 +38,46 @@ module _ {P G n R g x : ℕ} (p : Numbers P G n R g x) where
       (ap (λ (z : ℕ). z * a) p.generator ∙ mul_assoc g n a ∙ ap (λ (z : ℕ). g * z) (mul_comm n a) ∙ sym (mul_assoc g a n))
       p.period
 
-  same-key-ℕ : (a b s t : ℕ) → s < n → t < n → ((G * a + s) % P ≡ (G * b + t) % P) ↔ ((s ≡ t) × (a % R ≡ b % R))
-  same-key-ℕ a b s t hs ht = (there, back)
+  same_key_ℕ : (a b s t : ℕ) → s < n → t < n → ((G * a + s) % P ≡ (G * b + t) % P) ↔ ((s ≡ t) × (a % R ≡ b % R))
+  same_key_ℕ a b s t hs ht = (there, back)
     where
       there : (G * a + s) % P ≡ (G * b + t) % P → (s ≡ t) × (a % R ≡ b % R)
       there e =
           let h : (g * a % R ≡ g * b % R) × (s ≡ t)
-          = two-digits-agree R n (g * a) (g * b) s t p.some-keys hs ht (sym (digits a s) ∙ e ∙ digits b t) in
-          (h.1, sym (undo a) ∙ mul-cong R x (g * a) (g * b) h.0 ∙ undo b)
+          = two_digits_agree R n (g * a) (g * b) s t p.some_keys hs ht (sym (digits a s) ∙ e ∙ digits b t) in
+          (h.1, sym (undo a) ∙ mul_cong R x (g * a) (g * b) h.0 ∙ undo b)
 
       back : (s ≡ t) × (a % R ≡ b % R) → (G * a + s) % P ≡ (G * b + t) % P
       back h =
           digits a s
-          ∙ two_digits R n (g * a) s p.some-keys hs
-          ∙ ap₂ (λ (u v : ℕ). u * n + v) (mul-cong R g a b h.1) h.0
-          ∙ sym (two_digits R n (g * b) t p.some-keys ht)
+          ∙ two_digits R n (g * a) s p.some_keys hs
+          ∙ ap₂ (λ (u v : ℕ). u * n + v) (mul_cong R g a b h.1) h.0
+          ∙ sym (two_digits R n (g * b) t p.some_keys ht)
           ∙ sym (digits b t)
 
   -- the degree x (i / n) mod R with the cycle i mod n sounds i
-  degree-sounds-ℕ : (i : ℕ) → (G * (x * (i / n) % R) + i % n) % P ≡ i % P
-  degree-sounds-ℕ i =
+  degree_sounds_ℕ : (i : ℕ) → (G * (x * (i / n) % R) + i % n) % P ≡ i % P
+  degree_sounds_ℕ i =
       digits (x * (i / n) % R) (i % n)
-      ∙ two_digits R n (g * (x * (i / n) % R)) (i % n) p.some-keys (mod-lt i p.some-cycles)
+      ∙ two_digits R n (g * (x * (i / n) % R)) (i % n) p.some_keys (mod-lt i p.some_cycles)
       ∙ ap (λ (z : ℕ). z * n + i % n)
-      (mul-cong R g (x * (i / n) % R) (x * (i / n)) (mod-mod (x * (i / n)) R) ∙ redo (i / n))
-      ∙ sym (mod-mul i p.some-keys p.some-cycles)
+      (mul_cong R g (x * (i / n) % R) (x * (i / n)) (mod-mod (x * (i / n)) R) ∙ redo (i / n))
+      ∙ sym (mod-mul i p.some_keys p.some_cycles)
       ∙ ap (λ (z : ℕ). i % z) (sym p.period)
 
   -- ---- and of places that may be negative
-  same-key-ℤ : (u v : ℤ) (s t : ℕ) → s < n → t < n
+  same_key_ℤ : (u v : ℤ) (s t : ℕ) → s < n → t < n
       → (remainder (pos G *ℤ u +ℤ pos s) P ≡ remainder (pos G *ℤ v +ℤ pos t) P) ↔ ((s ≡ t) × (remainder u R ≡ remainder v R))
-  same-key-ℤ u v s t hs ht = (there, back)
+  same_key_ℤ u v s t hs ht = (there, back)
     where
       some : zero < P
-      some = subst (λ (z : ℕ). zero < z) (sym p.period) (mul-pos p.some-keys p.some-cycles)
+      some = subst (λ (z : ℕ). zero < z) (sym p.period) (mul-pos p.some_keys p.some_cycles)
 
       ru : Rep (pos G *ℤ u +ℤ pos s) (G * up u + s) (G * down u + zero)
-      ru = rep_add (rep_mul G (rep-self u)) (rep_pos s)
+      ru = rep_add (rep_mul G (rep_self u)) (rep_pos s)
 
       rv : Rep (pos G *ℤ v +ℤ pos t) (G * up v + t) (G * down v + zero)
-      rv = rep_add (rep_mul G (rep-self v)) (rep_pos t)
+      rv = rep_add (rep_mul G (rep_self v)) (rep_pos t)
 
       eu : G * (up u + down v) + s ≡ G * up u + s + (G * down v + zero)
       eu = omega (arith, mul-add G (up u) (down v))
@@ -88,101 +88,101 @@ module _ {P G n R g x : ℕ} (p : Numbers P G n R g x) where
       there : remainder (pos G *ℤ u +ℤ pos s) P ≡ remainder (pos G *ℤ v +ℤ pos t) P → (s ≡ t) × (remainder u R ≡ remainder v R)
       there e =
           let h : (s ≡ t) × ((up u + down v) % R ≡ (up v + down u) % R)
-          = (same-key-ℕ (up u + down v) (up v + down u) s t hs ht).0
-          (ap (λ (z : ℕ). z % P) eu ∙ (remainders-agree P some ru rv).0 e ∙ ap (λ (z : ℕ). z % P) (sym ev)) in
-          (h.0, (remainders-agree R p.some-keys (rep-self u) (rep-self v)).1 h.1)
+          = (same_key_ℕ (up u + down v) (up v + down u) s t hs ht).0
+          (ap (λ (z : ℕ). z % P) eu ∙ (remainders_agree P some ru rv).0 e ∙ ap (λ (z : ℕ). z % P) (sym ev)) in
+          (h.0, (remainders_agree R p.some_keys (rep_self u) (rep_self v)).1 h.1)
 
       back : (s ≡ t) × (remainder u R ≡ remainder v R) → remainder (pos G *ℤ u +ℤ pos s) P ≡ remainder (pos G *ℤ v +ℤ pos t) P
       back h =
-          (remainders-agree P some ru rv).1
+          (remainders_agree P some ru rv).1
           (ap (λ (z : ℕ). z % P) (sym eu)
-          ∙ (same-key-ℕ (up u + down v) (up v + down u) s t hs ht).1
-          (h.0, (remainders-agree R p.some-keys (rep-self u) (rep-self v)).0 h.1)
+          ∙ (same_key_ℕ (up u + down v) (up v + down u) s t hs ht).1
+          (h.0, (remainders_agree R p.some_keys (rep_self u) (rep_self v)).0 h.1)
           ∙ ap (λ (z : ℕ). z % P) ev)
 
 -- ---- the theorems
 
-pub spellings-of-one-key : SpellingsOfOneKey
+pub spellings_of_one_key : SpellingsOfOneKey
 unfolding sounds
-spellings-of-one-key P G hP u v s t hs ht = (
-  λ e. let h : (s ≡ t) × (remainder u (reduced P G) ≡ remainder v (reduced P G)) = (same-key-ℤ (numbers P G hP) u v s t hs ht).0 e in
-      (h.0, (apart-iff (reduced P G) (reduced-positive P G hP) u v).0 h.1),
-  λ h. (same-key-ℤ (numbers P G hP) u v s t hs ht).1 (h.0, (apart-iff (reduced P G) (reduced-positive P G hP) u v).1 h.1),
+spellings_of_one_key P G hP u v s t hs ht = (
+  λ e. let h : (s ≡ t) × (remainder u (reduced P G) ≡ remainder v (reduced P G)) = (same_key_ℤ (numbers P G hP) u v s t hs ht).0 e in
+      (h.0, (apart_iff (reduced P G) (reduced_positive P G hP) u v).0 h.1),
+  λ h. (same_key_ℤ (numbers P G hP) u v s t hs ht).1 (h.0, (apart_iff (reduced P G) (reduced_positive P G hP) u v).1 h.1),
 )
 
 module _ (P G : ℕ) (hP : zero < P) where
-  pub cycle-below : (i : ℕ) → cycle P G i < cycles P G
+  pub cycle_below : (i : ℕ) → cycle P G i < cycles P G
   unfolding cycle
-  cycle-below i = mod-lt i (cycles-positive P G hP)
+  cycle_below i = mod-lt i (cycles_positive P G hP)
 
-  pub degree-below : (i : ℕ) → degree P G i < reduced P G
+  pub degree_below : (i : ℕ) → degree P G i < reduced P G
   unfolding degree
-  degree-below i = mod-lt _ (reduced-positive P G hP)
+  degree_below i = mod-lt _ (reduced_positive P G hP)
 
-  pub key-cycle-below : (key : ℤ) → keyCycle P G key < cycles P G
-  unfolding keyCycle
-  key-cycle-below key = cycle-below (remainder key P)
+  pub key_cycle_below : (key : ℤ) → key_cycle P G key < cycles P G
+  unfolding key_cycle
+  key_cycle_below key = cycle_below (remainder key P)
 
-  pub key-degree-below : (key : ℤ) → keyDegree P G key < reduced P G
-  unfolding keyDegree
-  key-degree-below key = degree-below (remainder key P)
+  pub key_degree_below : (key : ℤ) → key_degree P G key < reduced P G
+  unfolding key_degree
+  key_degree_below key = degree_below (remainder key P)
 
-  degree-sounds : (i : ℕ) → sounds P G (pos (degree P G i)) (cycle P G i) ≡ i % P
+  degree_sounds : (i : ℕ) → sounds P G (pos (degree P G i)) (cycle P G i) ≡ i % P
   unfolding sounds degree cycle
-  degree-sounds i = degree-sounds-ℕ (numbers P G hP) i
+  degree_sounds i = degree_sounds_ℕ (numbers P G hP) i
 
-  key-degree-sounds : (key : ℤ) → sounds P G (pos (keyDegree P G key)) (keyCycle P G key) ≡ remainder key P
-  unfolding keyDegree keyCycle
-  key-degree-sounds key = degree-sounds (remainder key P) ∙ mod-eq_of_lt (remainder-below key P hP)
+  key_degree_sounds : (key : ℤ) → sounds P G (pos (key_degree P G key)) (key_cycle P G key) ≡ remainder key P
+  unfolding key_degree key_cycle
+  key_degree_sounds key = degree_sounds (remainder key P) ∙ mod-eq_of_lt (remainder_below key P hP)
 
   -- the formulas of two numbers agree where the keys that they sound do
-  pub formulas-agree : (i j : ℕ) → i % P ≡ j % P → (degree P G i ≡ degree P G j) × (cycle P G i ≡ cycle P G j)
-  formulas-agree i j e =
+  pub formulas_agree : (i j : ℕ) → i % P ≡ j % P → (degree P G i ≡ degree P G j) × (cycle P G i ≡ cycle P G j)
+  formulas_agree i j e =
       let h : (cycle P G i ≡ cycle P G j) × Apart (reduced P G) (pos (degree P G i)) (pos (degree P G j))
-      = (spellings-of-one-key P G hP (pos (degree P G i)) (pos (degree P G j)) (cycle P G i) (cycle P G j)
-      (cycle-below i) (cycle-below j)).0 (degree-sounds i ∙ e ∙ sym (degree-sounds j)) in (
-        sym (mod-eq_of_lt (degree-below i))
-            ∙ apart→remainder (reduced P G) (reduced-positive P G hP) (pos (degree P G i)) (pos (degree P G j)) h.1
-            ∙ mod-eq_of_lt (degree-below j),
+      = (spellings_of_one_key P G hP (pos (degree P G i)) (pos (degree P G j)) (cycle P G i) (cycle P G j)
+      (cycle_below i) (cycle_below j)).0 (degree_sounds i ∙ e ∙ sym (degree_sounds j)) in (
+        sym (mod-eq_of_lt (degree_below i))
+            ∙ apart→remainder (reduced P G) (reduced_positive P G hP) (pos (degree P G i)) (pos (degree P G j)) h.1
+            ∙ mod-eq_of_lt (degree_below j),
         h.0,
       )
 
   -- a key that was brought round the period has the spellings of the key
-  pub key-round : (N o : ℕ) (key : ℤ) (i : ℕ) → i ≡ remainder key P → keyAccidentals P G N o (pos i) ≡ keyAccidentals P G N o key
-  unfolding keyAccidentals cycleOf keyDegree keyCycle
-  key-round N o key i e =
-      ap (λ (j : ℕ). accidentalsOf (reduced P G) N o (degree P G j) (shown (cycles P G) (cycle P G j)))
-      (ap (λ (j : ℕ). j % P) e ∙ mod-eq_of_lt (remainder-below key P hP))
+  pub key_round : (N o : ℕ) (key : ℤ) (i : ℕ) → i ≡ remainder key P → key_accidentals P G N o (pos i) ≡ key_accidentals P G N o key
+  unfolding key_accidentals cycle_of key_degree key_cycle
+  key_round N o key i e =
+      ap (λ (j : ℕ). accidentals_of (reduced P G) N o (degree P G j) (shown (cycles P G) (cycle P G j)))
+      (ap (λ (j : ℕ). j % P) e ∙ mod-eq_of_lt (remainder_below key P hP))
 
-pub keys-from-zero-on : KeysFromZeroOn
-unfolding keyDegree keyCycle cycleOf keyAccidentals
-keys-from-zero-on P G hP i =
-    let h = formulas-agree P G hP (i % P) i (mod-mod i P) in
+pub keys_from_zero_on : KeysFromZeroOn
+unfolding key_degree key_cycle cycle_of key_accidentals
+keys_from_zero_on P G hP i =
+    let h = formulas_agree P G hP (i % P) i (mod-mod i P) in
     record {
-      degree-stays = h.0;
-      cycle-stays = h.1;
-      spellings-stay =
+      degree_stays = h.0;
+      cycle_stays = h.1;
+      spellings_stay =
           λ N o.
-          ap₂ (λ (d c : ℕ). accidentalsOf (reduced P G) N o d (shown (cycles P G) c)) h.0 h.1;
+          ap₂ (λ (d c : ℕ). accidentals_of (reduced P G) N o d (shown (cycles P G) c)) h.0 h.1;
     }
 
-pub degree-sounds-key : DegreeSoundsKey
-degree-sounds-key P G hP key u a =
-    let below = key-cycle-below P G hP key in
-    (spellings-of-one-key P G hP u (pos (keyDegree P G key)) (keyCycle P G key) (keyCycle P G key) below below).1 (refl, a)
-    ∙ key-degree-sounds P G hP key
+pub degree_sounds_key : DegreeSoundsKey
+degree_sounds_key P G hP key u a =
+    let below = key_cycle_below P G hP key in
+    (spellings_of_one_key P G hP u (pos (key_degree P G key)) (key_cycle P G key) (key_cycle P G key) below below).1 (refl, a)
+    ∙ key_degree_sounds P G hP key
 
 -- and what sounds a key, with stars below the cycles, has its cycle as stars and stands at a place of its degree
-pub sounds-at-the-degree : (P G : ℕ) → zero < P → (key u : ℤ) (s : ℕ) → s < cycles P G → sounds P G u s ≡ remainder key P
-    → (s ≡ keyCycle P G key) × Apart (reduced P G) u (pos (keyDegree P G key))
-sounds-at-the-degree P G hP key u s hs e =
-    (spellings-of-one-key P G hP u (pos (keyDegree P G key)) s (keyCycle P G key) hs (key-cycle-below P G hP key)).0
-    (e ∙ sym (key-degree-sounds P G hP key))
+pub sounds_at_the_degree : (P G : ℕ) → zero < P → (key u : ℤ) (s : ℕ) → s < cycles P G → sounds P G u s ≡ remainder key P
+    → (s ≡ key_cycle P G key) × Apart (reduced P G) u (pos (key_degree P G key))
+sounds_at_the_degree P G hP key u s hs e =
+    (spellings_of_one_key P G hP u (pos (key_degree P G key)) s (key_cycle P G key) hs (key_cycle_below P G hP key)).0
+    (e ∙ sym (key_degree_sounds P G hP key))
 
-pub degree-and-cycle-tell-keys-apart : DegreeAndCycleTellKeysApart
-unfolding keyDegree keyCycle
-degree-and-cycle-tell-keys-apart P G hP x y = (
-  λ a. formulas-agree P G hP (remainder x P) (remainder y P) (ap (λ (i : ℕ). i % P) (apart→remainder P hP x y a)),
-  λ h. (apart-iff P hP x y).0
-      (sym (key-degree-sounds P G hP x) ∙ ap₂ (λ (d c : ℕ). sounds P G (pos d) c) h.0 h.1 ∙ key-degree-sounds P G hP y),
+pub degree_and_cycle_tell_keys_apart : DegreeAndCycleTellKeysApart
+unfolding key_degree key_cycle
+degree_and_cycle_tell_keys_apart P G hP x y = (
+  λ a. formulas_agree P G hP (remainder x P) (remainder y P) (ap (λ (i : ℕ). i % P) (apart→remainder P hP x y a)),
+  λ h. (apart_iff P hP x y).0
+      (sym (key_degree_sounds P G hP x) ∙ ap₂ (λ (d c : ℕ). sounds P G (pos d) c) h.0 h.1 ∙ key_degree_sounds P G hP y),
 )

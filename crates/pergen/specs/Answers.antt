@@ -2,8 +2,8 @@
 use Rattle.std.specs.Prelude.{ℕ, ℤ, leb, ltb}
 use Rattle.answer.specs.Outcome.{Outcome, given, refused, ask}
 use Rattle.answer.specs.Refusals.{number_of}
-use Rattle.pergen.specs.Pergen.{generationOf}
-use Rattle.pergen.specs.Spelling.{keyAccidentals, place, soundedKey}
+use Rattle.pergen.specs.Pergen.{generation_of}
+use Rattle.pergen.specs.Spelling.{key_accidentals, place, sounded_key}
 use Rattle.pergen.specs.declared.PerGen.{PerGen}
 use Rattle.pergen.specs.declared.PerGenAnswer.{PerGenAnswer}
 use Rattle.pergen.specs.declared.PerGenAnswer.TheVariants as PerGenAnswer
@@ -19,54 +19,54 @@ use Rattle.pergen.specs.declared.PlaceAnswer.{PlaceAnswer}
 use Rattle.pergen.specs.declared.PlaceAnswer.TheVariants as PlaceAnswer
 
 -- 2. Is the period at least 1?
-abbrev pub askPeriod : {A : Type 0} → PerGen → Outcome A → Outcome A
-askPeriod p rest = ask 2 (leb 1 p.period) rest
+abbrev pub ask_period : {A : Type 0} → PerGen → Outcome A → Outcome A
+ask_period p rest = ask 2 (leb 1 p.period) rest
 
 -- 5. Is a free format's symbol count at least 1? 6. Is its origin below that count?
-abbrev pub askFormat : {A : Type 0} → AccidentalsFormat → Outcome A → Outcome A
-askFormat f rest = ask 5 (leb 1 f.num_symbols) (ask 6 (ltb f.genchain_origin f.num_symbols) rest)
+abbrev pub ask_format : {A : Type 0} → AccidentalsFormat → Outcome A → Outcome A
+ask_format f rest = ask 5 (leb 1 f.num_symbols) (ask 6 (ltb f.genchain_origin f.num_symbols) rest)
 
 -- A number that a pergen has.
-unfoldable pub ofPergen : PerGen → ℕ → Outcome ℕ
-ofPergen p number = askPeriod p (given number)
+unfoldable pub of_pergen : PerGen → ℕ → Outcome ℕ
+of_pergen p number = ask_period p (given number)
 
-unfoldable pub newOutcome : ℕ → ℕ → Outcome PerGen
-newOutcome period generator =
+unfoldable pub new_outcome : ℕ → ℕ → Outcome PerGen
+new_outcome period generator =
     let p : PerGen = record { period = period; generator = generator } in
-    askPeriod p (given p)
+    ask_period p (given p)
 
-unfoldable pub getGeneration : PerGen → ℤ → Outcome Generation
-unfolding generationOf
-getGeneration p key = askPeriod p (given (generationOf p.period p.generator key))
+unfoldable pub get_generation : PerGen → ℤ → Outcome Generation
+unfolding generation_of
+get_generation p key = ask_period p (given (generation_of p.period p.generator key))
 
-unfoldable pub getAccidentals : PerGen → AccidentalsFormat → ℤ → Outcome Accidentals
-unfolding keyAccidentals
-getAccidentals p f key =
-    askPeriod p
-    (askFormat f (given (keyAccidentals p.period p.generator f.num_symbols f.genchain_origin key)))
+unfoldable pub get_accidentals : PerGen → AccidentalsFormat → ℤ → Outcome Accidentals
+unfolding key_accidentals
+get_accidentals p f key =
+    ask_period p
+    (ask_format f (given (key_accidentals p.period p.generator f.num_symbols f.genchain_origin key)))
 
-unfoldable pub getPlace : AccidentalsFormat → Spelling → Outcome ℤ
+unfoldable pub get_place : AccidentalsFormat → Spelling → Outcome ℤ
 unfolding place
-getPlace f s = askFormat f (given (place f.num_symbols f.genchain_origin s))
+get_place f s = ask_format f (given (place f.num_symbols f.genchain_origin s))
 
-unfoldable pub getSoundedKey : PerGen → AccidentalsFormat → Spelling → Outcome ℕ
-unfolding soundedKey
-getSoundedKey p f s =
-    askPeriod p (askFormat f (given (soundedKey p.period p.generator f.num_symbols f.genchain_origin s)))
+unfoldable pub get_sounded_key : PerGen → AccidentalsFormat → Spelling → Outcome ℕ
+unfolding sounded_key
+get_sounded_key p f s =
+    ask_period p (ask_format f (given (sounded_key p.period p.generator f.num_symbols f.genchain_origin s)))
 
 -- What each answer means.
-abbrev pub pergenOutcome : PerGenAnswer → Outcome PerGen
-pergenOutcome (PerGenAnswer.Given p) = given p
-pergenOutcome (PerGenAnswer.Refused q) = refused (number_of q)
+abbrev pub pergen_outcome : PerGenAnswer → Outcome PerGen
+pergen_outcome (PerGenAnswer.Given p) = given p
+pergen_outcome (PerGenAnswer.Refused q) = refused (number_of q)
 
-abbrev pub generationOutcome : GenerationAnswer → Outcome Generation
-generationOutcome (GenerationAnswer.Given g) = given g
-generationOutcome (GenerationAnswer.Refused q) = refused (number_of q)
+abbrev pub generation_outcome : GenerationAnswer → Outcome Generation
+generation_outcome (GenerationAnswer.Given g) = given g
+generation_outcome (GenerationAnswer.Refused q) = refused (number_of q)
 
-abbrev pub accidentalsOutcome : AccidentalsAnswer → Outcome Accidentals
-accidentalsOutcome (AccidentalsAnswer.Given a) = given a
-accidentalsOutcome (AccidentalsAnswer.Refused q) = refused (number_of q)
+abbrev pub accidentals_outcome : AccidentalsAnswer → Outcome Accidentals
+accidentals_outcome (AccidentalsAnswer.Given a) = given a
+accidentals_outcome (AccidentalsAnswer.Refused q) = refused (number_of q)
 
-abbrev pub placeOutcome : PlaceAnswer → Outcome ℤ
-placeOutcome (PlaceAnswer.Given z) = given z
-placeOutcome (PlaceAnswer.Refused q) = refused (number_of q)
+abbrev pub place_outcome : PlaceAnswer → Outcome ℤ
+place_outcome (PlaceAnswer.Given z) = given z
+place_outcome (PlaceAnswer.Refused q) = refused (number_of q)

@@ -2,7 +2,7 @@
 use Rattle.std.specs.Prelude.{◌≡◌, List, [], ◌∷◌, map, ℕ, ℤ, pos, negsuc}
 use Rattle.answer.specs.Outcome.{Outcome, given, refused}
 use Rattle.pergen.specs.Pergen.{cycles, reduced, inverse}
-use Rattle.pergen.specs.Answers.{newOutcome, getGeneration, getAccidentals, getPlace, getSoundedKey}
+use Rattle.pergen.specs.Answers.{new_outcome, get_generation, get_accidentals, get_place, get_sounded_key}
 use Rattle.pergen.specs.declared.PerGen.{PerGen}
 use Rattle.pergen.specs.declared.Cycle.{Cycle}
 use Rattle.pergen.specs.declared.Cycle.TheVariants.{Absent, Number}
@@ -11,7 +11,7 @@ use Rattle.pergen.specs.declared.AccidentalsFormat.{AccidentalsFormat}
 use Rattle.pergen.specs.declared.Accidentals.{Accidentals}
 use Rattle.pergen.specs.declared.Signs.{Signs}
 use Rattle.pergen.specs.declared.Signs.TheVariants.{Sharps, Flats}
-use Rattle.pergen.specs.Spelling.{signsOf}
+use Rattle.pergen.specs.Spelling.{signs_of}
 use Rattle.pergen.specs.declared.Spelling.{Spelling}
 
 -- ---- cycles, reduced period and inverse
@@ -25,8 +25,8 @@ pub record NumbersExample : Type 0 where
 
 -- 24 and 14: the inverse is taken modulo the reduced period 12. The last two: one key, and the largest prime period.
 -- (The definition of the inverse tries one number after the other, so few examples here have a large one.)
-abbrev pub numbersExamples : List NumbersExample
-numbersExamples =
+abbrev pub numbers_examples : List NumbersExample
+numbers_examples =
     record { period = 12; generator = 7; cycles = 1; reduced = 12; inverse = 7 }
     ∷ record { period = 24; generator = 14; cycles = 2; reduced = 12; inverse = 7 }
     ∷ record { period = 12; generator = 19; cycles = 1; reduced = 12; inverse = 7 }
@@ -55,8 +55,8 @@ pub record KeyExample : Type 0 where
   pub generation : Outcome Generation
   pub accidentals : Outcome Accidentals
 
-abbrev pub keyExamples : List KeyExample
-keyExamples =
+abbrev pub key_examples : List KeyExample
+key_examples =
     -- document 01: "period 5, generator 3, 7 symbols, origin 3: key 1 has indices 5 and 0; key 2 has 2 and 2"
     record { pergen = pergen 5 3; format = format 7 3; key = pos 1; generation = given (record { cycle = Absent; degree = 2 }); accidentals = given (spelt Absent 5 0 0 0) }
     ∷ record { pergen = pergen 5 3; format = format 7 3; key = pos 2; generation = given (record { cycle = Absent; degree = 4 }); accidentals = given (spelt Absent 2 0 2 0) }
@@ -93,8 +93,8 @@ pub record SpellingExample : Type 0 where
   pub place : Outcome ℤ
   pub key : Outcome ℕ
 
-abbrev pub spellingExamples : List SpellingExample
-spellingExamples =
+abbrev pub spelling_examples : List SpellingExample
+spelling_examples =
     -- D# and Eb sound key 1 of twelve; `negsuc 4` is −5
     record { pergen = pergen 12 7; format = format 7 3; spelling = record { index = 3; signs = Sharps 1; stars = 0 }; place = given (pos 7); key = given 1 }
     ∷ record { pergen = pergen 12 7; format = format 7 3; spelling = record { index = 5; signs = Flats 1; stars = 0 }; place = given (negsuc 4); key = given 1 }
@@ -117,8 +117,8 @@ pub record SignsExample : Type 0 where
   pub signs : Signs
 
 -- none, one and two of each kind, and both ends of 32 signed bits; `negsuc k` is −1 − k
-abbrev pub signsExamples : List SignsExample
-signsExamples =
+abbrev pub signs_examples : List SignsExample
+signs_examples =
     record { number = pos 0; signs = Sharps 0 }
     ∷ record { number = pos 1; signs = Sharps 1 }
     ∷ record { number = pos 2; signs = Sharps 2 }
@@ -130,16 +130,16 @@ signsExamples =
 
 -- Theorem: the definitions give what the examples say.
 pub record ExamplesHold : Type 0 where
-  pub cycles-are : map (λ (e : NumbersExample). cycles e.period e.generator) numbersExamples ≡ map (λ (e : NumbersExample). e.cycles) numbersExamples
-  pub reduced-are : map (λ (e : NumbersExample). reduced e.period e.generator) numbersExamples ≡ map (λ (e : NumbersExample). e.reduced) numbersExamples
-  pub inverses-are : map (λ (e : NumbersExample). inverse e.period e.generator) numbersExamples ≡ map (λ (e : NumbersExample). e.inverse) numbersExamples
-  pub new-ones : map (λ (e : NumbersExample). newOutcome e.period e.generator) numbersExamples
-      ≡ map (λ (e : NumbersExample). given (pergen e.period e.generator)) numbersExamples
-  pub new-refused : newOutcome 0 7 ≡ refused 2
-  pub generations : map (λ (e : KeyExample). getGeneration e.pergen e.key) keyExamples ≡ map (λ (e : KeyExample). e.generation) keyExamples
+  pub cycles_are : map (λ (e : NumbersExample). cycles e.period e.generator) numbers_examples ≡ map (λ (e : NumbersExample). e.cycles) numbers_examples
+  pub reduced_are : map (λ (e : NumbersExample). reduced e.period e.generator) numbers_examples ≡ map (λ (e : NumbersExample). e.reduced) numbers_examples
+  pub inverses_are : map (λ (e : NumbersExample). inverse e.period e.generator) numbers_examples ≡ map (λ (e : NumbersExample). e.inverse) numbers_examples
+  pub new_ones : map (λ (e : NumbersExample). new_outcome e.period e.generator) numbers_examples
+      ≡ map (λ (e : NumbersExample). given (pergen e.period e.generator)) numbers_examples
+  pub new_refused : new_outcome 0 7 ≡ refused 2
+  pub generations : map (λ (e : KeyExample). get_generation e.pergen e.key) key_examples ≡ map (λ (e : KeyExample). e.generation) key_examples
   -- the product with the inverse, 32,769 × 65,535, passes 2,147,483,647 and is exact
-  pub large_product : getGeneration (pergen 65521 19271) (pos 65535) ≡ given (record { cycle = Absent; degree = 119 })
-  pub accidentals : map (λ (e : KeyExample). getAccidentals e.pergen e.format e.key) keyExamples ≡ map (λ (e : KeyExample). e.accidentals) keyExamples
-  pub signs-are : map (λ (e : SignsExample). signsOf e.number) signsExamples ≡ map (λ (e : SignsExample). e.signs) signsExamples
-  pub places : map (λ (e : SpellingExample). getPlace e.format e.spelling) spellingExamples ≡ map (λ (e : SpellingExample). e.place) spellingExamples
-  pub keys : map (λ (e : SpellingExample). getSoundedKey e.pergen e.format e.spelling) spellingExamples ≡ map (λ (e : SpellingExample). e.key) spellingExamples
+  pub large_product : get_generation (pergen 65521 19271) (pos 65535) ≡ given (record { cycle = Absent; degree = 119 })
+  pub accidentals : map (λ (e : KeyExample). get_accidentals e.pergen e.format e.key) key_examples ≡ map (λ (e : KeyExample). e.accidentals) key_examples
+  pub signs_are : map (λ (e : SignsExample). signs_of e.number) signs_examples ≡ map (λ (e : SignsExample). e.signs) signs_examples
+  pub places : map (λ (e : SpellingExample). get_place e.format e.spelling) spelling_examples ≡ map (λ (e : SpellingExample). e.place) spelling_examples
+  pub keys : map (λ (e : SpellingExample). get_sounded_key e.pergen e.format e.spelling) spelling_examples ≡ map (λ (e : SpellingExample). e.key) spelling_examples

@@ -35,23 +35,23 @@ StandsAt P G r = Going P G r.first r.second r.first_by r.second_by r.negative
 
 -- What the extended Euclid finds: the coefficient times the generator leaves the greatest common divisor, or makes a multiple with it.
 pub record BezoutOf (P G : ℕ) (b : Bezout) : Type 0 where
-  pub gcd-is : b.gcd ≡ gcd P G
-  pub cofactor-is : b.cofactor * b.gcd ≡ P
+  pub gcd_is : b.gcd ≡ gcd P G
+  pub cofactor_is : b.cofactor * b.gcd ≡ P
   pub small : b.coefficient ≤ b.cofactor
-  pub forward-is : b.negative ≡ false → b.coefficient * G % P ≡ gcd P G % P
-  pub backward-is : b.negative ≡ true → (b.coefficient * G + gcd P G) % P ≡ 0
+  pub forward_is : b.negative ≡ false → b.coefficient * G % P ≡ gcd P G % P
+  pub backward_is : b.negative ≡ true → (b.coefficient * G + gcd P G) % P ≡ 0
 
 -- The coefficient counted forward: so many keys of a cycle back are the others forward.
 abbrev pub forward : Bezout → ℕ
 forward b = pick b.negative (b.cofactor - b.coefficient) b.coefficient
 
 -- The numbers that follow from a period and a generator.
-unfoldable pub solvedOf : ℕ → ℕ → Solved
-solvedOf P G = record { num_cycles = cycles P G; reduced_period = reduced P G; generator_inverse = inverse P G }
+unfoldable pub solved_of : ℕ → ℕ → Solved
+solved_of P G = record { num_cycles = cycles P G; reduced_period = reduced P G; generator_inverse = inverse P G }
 
 -- Degree and cycle of key i of the period, by those numbers.
-unfoldable pub generationFrom : Solved → ℕ → Generation
-generationFrom s i =
+unfoldable pub generation_from : Solved → ℕ → Generation
+generation_from s i =
     record {
       cycle = shown s.num_cycles (i % s.num_cycles);
       degree = s.generator_inverse * (i / s.num_cycles) % s.reduced_period;
@@ -59,13 +59,13 @@ generationFrom s i =
 
 -- Numbers that a walk from key to key goes by: those that follow from any period above 0 are such.
 pub record Walkable (s : Solved) : Type 0 where
-  pub some-cycles : 0 < s.num_cycles
+  pub some_cycles : 0 < s.num_cycles
   pub below : s.generator_inverse < s.reduced_period
 
 -- A key holds the degree and the cycle of its number: "degree inverse × (i div n) mod R and cycle i mod n".
 pub record At (s : Solved) (k : Key) : Type 0 where
-  pub degree-is : k.degree ≡ s.generator_inverse * (k.number / s.num_cycles) % s.reduced_period
-  pub cycle-is : k.cycle ≡ k.number % s.num_cycles
+  pub degree_is : k.degree ≡ s.generator_inverse * (k.number / s.num_cycles) % s.reduced_period
+  pub cycle_is : k.cycle ≡ k.number % s.num_cycles
 
 -- Both sides are at most 65,535 × 2³².
 pub record SmallSides (s : Sides) : Type 0 where

@@ -45,19 +45,19 @@ shown n cycle = pick (ltb 1 n) (Number cycle) Absent
 -- ---- keys of any number: those formulas, "by first bringing the number round the octave with the remainder that is never negative"
 -- (document 02, W-201). Of a free pergen the period is meant.
 
-unfoldable pub keyDegree : ℕ → ℕ → ℤ → ℕ
+unfoldable pub key_degree : ℕ → ℕ → ℤ → ℕ
 unfolding degree
-keyDegree P G key = degree P G (remainder key P)
+key_degree P G key = degree P G (remainder key P)
 
-unfoldable pub keyCycle : ℕ → ℕ → ℤ → ℕ
+unfoldable pub key_cycle : ℕ → ℕ → ℤ → ℕ
 unfolding cycle
-keyCycle P G key = cycle P G (remainder key P)
+key_cycle P G key = cycle P G (remainder key P)
 
-unfoldable pub cycleOf : ℕ → ℕ → ℤ → Cycle
-unfolding keyCycle cycles
-cycleOf P G key = shown (cycles P G) (keyCycle P G key)
+unfoldable pub cycle_of : ℕ → ℕ → ℤ → Cycle
+unfolding key_cycle cycles
+cycle_of P G key = shown (cycles P G) (key_cycle P G key)
 
 -- Degree and cycle of a key.
-unfoldable pub generationOf : ℕ → ℕ → ℤ → Generation
-unfolding cycleOf keyDegree
-generationOf P G key = record { cycle = cycleOf P G key; degree = keyDegree P G key }
+unfoldable pub generation_of : ℕ → ℕ → ℤ → Generation
+unfolding cycle_of key_degree
+generation_of P G key = record { cycle = cycle_of P G key; degree = key_degree P G key }

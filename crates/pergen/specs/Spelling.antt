@@ -3,7 +3,7 @@
 use Rattle.std.specs.Prelude.{ℕ, zero, suc, ◌+◌, ◌*◌, ◌-◌, ◌/◌, ◌%◌, eqb, ltb, leb, ℤ, pos, negsuc, neg_ℤ, ◌+ℤ◌, ◌-ℤ◌, ◌*ℤ◌}
 use Rattle.answer.specs.Choice.{pick}
 use Rattle.math.specs.Division.{remainder}
-use Rattle.pergen.specs.Pergen.{cycles, reduced, keyDegree, cycleOf}
+use Rattle.pergen.specs.Pergen.{cycles, reduced, key_degree, cycle_of}
 use Rattle.pergen.specs.declared.Cycle.{Cycle}
 use Rattle.pergen.specs.declared.Cycle.TheVariants.{Absent, Number}
 use Rattle.pergen.specs.declared.Accidentals.{Accidentals}
@@ -14,16 +14,16 @@ use Rattle.pergen.specs.declared.Spelling.{Spelling}
 -- ---- R at least N
 
 -- "sharp coordinate d mod R"
-unfoldable pub sharpCoordinate : ℕ → ℕ → ℕ
-sharpCoordinate R d = d % R
+unfoldable pub sharp_coordinate : ℕ → ℕ → ℕ
+sharp_coordinate R d = d % R
 
 -- "flat coordinate (N − 1 − d) mod R", not negative
-unfoldable pub flatCoordinate : ℕ → ℕ → ℕ → ℕ
-flatCoordinate R N d = remainder (pos N -ℤ pos 1 -ℤ pos d) R
+unfoldable pub flat_coordinate : ℕ → ℕ → ℕ → ℕ
+flat_coordinate R N d = remainder (pos N -ℤ pos 1 -ℤ pos d) R
 
 -- "The sharp index and count are remainder and quotient by N. The flat index is N − 1 less the remainder; the flat count is the quotient."
-unfoldable pub byCoordinates : Cycle → ℕ → ℕ → ℕ → Accidentals
-byCoordinates c N sharp flat =
+unfoldable pub by_coordinates : Cycle → ℕ → ℕ → ℕ → Accidentals
+by_coordinates c N sharp flat =
     record {
       cycle = c;
       sharp_index = sharp % N;
@@ -35,40 +35,40 @@ byCoordinates c N sharp flat =
 -- ---- R below N
 
 -- "Sharp index d, less R if d is at least N."
-unfoldable pub lowSharpIndex : ℕ → ℕ → ℕ → ℕ
-lowSharpIndex R N d = pick (leb N d) (d - R) d
+unfoldable pub low_sharp_index : ℕ → ℕ → ℕ → ℕ
+low_sharp_index R N d = pick (leb N d) (d - R) d
 
 -- "Flat index d − R, or d if that is negative or the degree is 0."
-unfoldable pub lowFlatIndex : ℕ → ℕ → ℕ → ℕ
-lowFlatIndex R d degree = pick (eqb degree 0) d (pick (ltb d R) d (d - R))
+unfoldable pub low_flat_index : ℕ → ℕ → ℕ → ℕ
+low_flat_index R d degree = pick (eqb degree 0) d (pick (ltb d R) d (d - R))
 
 -- "both counts 0"
-unfoldable pub byIndices : Cycle → ℕ → ℕ → Accidentals
-byIndices c sharp flat =
+unfoldable pub by_indices : Cycle → ℕ → ℕ → Accidentals
+by_indices c sharp flat =
     record { cycle = c; sharp_index = sharp; sharp_count = 0; flat_index = flat; flat_count = 0 }
 
 -- ---- both
 
 -- Of a degree and a cycle, by the reduced period, the number of symbols and the origin.
-unfoldable pub accidentalsOf : ℕ → ℕ → ℕ → ℕ → Cycle → Accidentals
-unfolding sharpCoordinate flatCoordinate byCoordinates lowSharpIndex lowFlatIndex byIndices
-accidentalsOf R N origin degree c =
+unfoldable pub accidentals_of : ℕ → ℕ → ℕ → ℕ → Cycle → Accidentals
+unfolding sharp_coordinate flat_coordinate by_coordinates low_sharp_index low_flat_index by_indices
+accidentals_of R N origin degree c =
     let d = origin + degree in
     pick (leb N R)
-    (byCoordinates c N (sharpCoordinate R d) (flatCoordinate R N d))
-    (byIndices c (lowSharpIndex R N d) (lowFlatIndex R d degree))
+    (by_coordinates c N (sharp_coordinate R d) (flat_coordinate R N d))
+    (by_indices c (low_sharp_index R N d) (low_flat_index R d degree))
 
 -- The two spellings of a key.
-unfoldable pub keyAccidentals : ℕ → ℕ → ℕ → ℕ → ℤ → Accidentals
-unfolding accidentalsOf reduced keyDegree cycleOf
-keyAccidentals P G N origin key = accidentalsOf (reduced P G) N origin (keyDegree P G key) (cycleOf P G key)
+unfoldable pub key_accidentals : ℕ → ℕ → ℕ → ℕ → ℤ → Accidentals
+unfolding accidentals_of reduced key_degree cycle_of
+key_accidentals P G N origin key = accidentals_of (reduced P G) N origin (key_degree P G key) (cycle_of P G key)
 
 -- ---- any spelling: an index, a number of sharps or of flats, and stars
 
 -- A number of signs as one signed number: sharps above 0, flats below; `negsuc k` is −1 − k. So no number has both kinds.
-abbrev pub signsOf : ℤ → Signs
-signsOf (pos k) = Sharps k
-signsOf (negsuc k) = Flats (suc k)
+abbrev pub signs_of : ℤ → Signs
+signs_of (pos k) = Sharps k
+signs_of (negsuc k) = Flats (suc k)
 
 -- N × sharps, or − N × flats
 abbrev pub shift : ℕ → Signs → ℤ
@@ -84,18 +84,18 @@ unfoldable pub sounds : ℕ → ℕ → ℤ → ℕ → ℕ
 sounds P G place stars = remainder (pos G *ℤ place +ℤ pos stars) P
 
 -- The key of the octave that a spelling sounds.
-unfoldable pub soundedKey : ℕ → ℕ → ℕ → ℕ → Spelling → ℕ
+unfoldable pub sounded_key : ℕ → ℕ → ℕ → ℕ → Spelling → ℕ
 unfolding sounds place
-soundedKey P G N origin s = sounds P G (place N origin s) s.stars
+sounded_key P G N origin s = sounds P G (place N origin s) s.stars
 
 -- "each with the cycle number as its stars, 0 if absent"
-abbrev pub starsOf : Cycle → ℕ
-starsOf Absent = 0
-starsOf (Number c) = c
+abbrev pub stars_of : Cycle → ℕ
+stars_of Absent = 0
+stars_of (Number c) = c
 
 -- The sharp and the flat spelling that a key's accidentals hold.
-unfoldable pub sharpSpelling : Accidentals → Spelling
-sharpSpelling a = record { index = a.sharp_index; signs = Sharps a.sharp_count; stars = starsOf a.cycle }
+unfoldable pub sharp_spelling : Accidentals → Spelling
+sharp_spelling a = record { index = a.sharp_index; signs = Sharps a.sharp_count; stars = stars_of a.cycle }
 
-unfoldable pub flatSpelling : Accidentals → Spelling
-flatSpelling a = record { index = a.flat_index; signs = Flats a.flat_count; stars = starsOf a.cycle }
+unfoldable pub flat_spelling : Accidentals → Spelling
+flat_spelling a = record { index = a.flat_index; signs = Flats a.flat_count; stars = stars_of a.cycle }

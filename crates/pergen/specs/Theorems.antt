@@ -2,8 +2,8 @@
 -- `cycles P G` is n, `reduced P G` is R. Proofs: proofs/.
 use Rattle.std.specs.Prelude.{ℕ, ◌+◌, ◌*◌, ◌≤◌, ◌<◌, ◌≡◌, ◌↔◌, ℤ, pos, ◌*ℤ◌}
 use Rattle.math.specs.Division.{remainder, Apart}
-use Rattle.pergen.specs.Pergen.{cycles, reduced, IsInverse, inverse, degree, cycle, shown, keyDegree, keyCycle}
-use Rattle.pergen.specs.Spelling.{signsOf, shift, accidentalsOf, keyAccidentals, place, sounds, soundedKey, sharpSpelling, flatSpelling}
+use Rattle.pergen.specs.Pergen.{cycles, reduced, IsInverse, inverse, degree, cycle, shown, key_degree, key_cycle}
+use Rattle.pergen.specs.Spelling.{signs_of, shift, accidentals_of, key_accidentals, place, sounds, sounded_key, sharp_spelling, flat_spelling}
 
 -- The inverse exists and there is only one.
 abbrev pub OneInverse : Type 0
@@ -19,10 +19,10 @@ SpellingsOfOneKey =
 -- "Answers for 0 and up are the old ones" (document 02, W-201): of a key number from 0 on, degree, cycle and spellings are those of
 -- document 01's formulas, without a remainder first.
 pub record OldAnswersStay (P G i : ℕ) : Type 0 where
-  pub degree-stays : keyDegree P G (pos i) ≡ degree P G i
-  pub cycle-stays : keyCycle P G (pos i) ≡ cycle P G i
-  pub spellings-stay : (N origin : ℕ)
-      → keyAccidentals P G N origin (pos i) ≡ accidentalsOf (reduced P G) N origin (degree P G i) (shown (cycles P G) (cycle P G i))
+  pub degree_stays : key_degree P G (pos i) ≡ degree P G i
+  pub cycle_stays : key_cycle P G (pos i) ≡ cycle P G i
+  pub spellings_stay : (N origin : ℕ)
+      → key_accidentals P G N origin (pos i) ≡ accidentals_of (reduced P G) N origin (degree P G i) (shown (cycles P G) (cycle P G i))
 
 abbrev pub KeysFromZeroOn : Type 0
 KeysFromZeroOn = (P G : ℕ) → 0 < P → (i : ℕ) → OldAnswersStay P G i
@@ -31,39 +31,39 @@ KeysFromZeroOn = (P G : ℕ) → 0 < P → (i : ℕ) → OldAnswersStay P G i
 -- octaves away: below 0 too.
 abbrev pub DegreeSoundsKey : Type 0
 DegreeSoundsKey =
-    (P G : ℕ) → 0 < P → (key u : ℤ) → Apart (reduced P G) u (pos (keyDegree P G key)) → sounds P G u (keyCycle P G key) ≡ remainder key P
+    (P G : ℕ) → 0 < P → (key u : ℤ) → Apart (reduced P G) u (pos (key_degree P G key)) → sounds P G u (key_cycle P G key) ≡ remainder key P
 
 -- Degree and cycle of two keys agree exactly when the keys are whole octaves apart.
 abbrev pub DegreeAndCycleTellKeysApart : Type 0
 DegreeAndCycleTellKeysApart =
     (P G : ℕ) → 0 < P → (x y : ℤ)
-    → Apart P x y ↔ ((keyDegree P G x ≡ keyDegree P G y) × (keyCycle P G x ≡ keyCycle P G y))
+    → Apart P x y ↔ ((key_degree P G x ≡ key_degree P G y) × (key_cycle P G x ≡ key_cycle P G y))
 
 -- Of a key's accidentals, with an origin below the number N of symbols (in both branches, R at least N and R below N):
 module _ (P G N origin : ℕ) (key : ℤ) where
   -- the sharp and the flat place both differ from the degree by a multiple of R,
   abbrev pub PlacesOfTheDegree : Type 0
   PlacesOfTheDegree =
-      Apart (reduced P G) (place N origin (sharpSpelling (keyAccidentals P G N origin key))) (pos (keyDegree P G key))
-      × Apart (reduced P G) (place N origin (flatSpelling (keyAccidentals P G N origin key))) (pos (keyDegree P G key))
+      Apart (reduced P G) (place N origin (sharp_spelling (key_accidentals P G N origin key))) (pos (key_degree P G key))
+      × Apart (reduced P G) (place N origin (flat_spelling (key_accidentals P G N origin key))) (pos (key_degree P G key))
 
   -- so both spellings sound the key,
   abbrev pub SoundsOfTheKey : Type 0
   SoundsOfTheKey =
-      (soundedKey P G N origin (sharpSpelling (keyAccidentals P G N origin key)) ≡ remainder key P)
-      × (soundedKey P G N origin (flatSpelling (keyAccidentals P G N origin key)) ≡ remainder key P)
+      (sounded_key P G N origin (sharp_spelling (key_accidentals P G N origin key)) ≡ remainder key P)
+      × (sounded_key P G N origin (flat_spelling (key_accidentals P G N origin key)) ≡ remainder key P)
 
   -- and both indices are those of symbols.
   abbrev pub IndicesOfSymbols : Type 0
   IndicesOfSymbols =
-      ((keyAccidentals P G N origin key).sharp_index < N) × ((keyAccidentals P G N origin key).flat_index < N)
+      ((key_accidentals P G N origin key).sharp_index < N) × ((key_accidentals P G N origin key).flat_index < N)
 
   -- Two zero counts have equal indices: a key without signs has one letter.
   abbrev pub OneLetter : Type 0
   OneLetter =
-      (keyAccidentals P G N origin key).sharp_count ≡ 0
-      → (keyAccidentals P G N origin key).flat_count ≡ 0
-      → (keyAccidentals P G N origin key).sharp_index ≡ (keyAccidentals P G N origin key).flat_index
+      (key_accidentals P G N origin key).sharp_count ≡ 0
+      → (key_accidentals P G N origin key).flat_count ≡ 0
+      → (key_accidentals P G N origin key).sharp_index ≡ (key_accidentals P G N origin key).flat_index
 
 abbrev pub AccidentalsSoundTheirKey : Type 0
 AccidentalsSoundTheirKey =
@@ -78,8 +78,8 @@ LetterWithoutSigns = (P G N origin : ℕ) (key : ℤ) → 0 < P → origin < N �
 abbrev pub FewSigns : Type 0
 FewSigns =
     (P G N origin : ℕ) (key : ℤ) → 0 < P → origin < N → N ≤ reduced P G
-    → N * ((keyAccidentals P G N origin key).sharp_count + (keyAccidentals P G N origin key).flat_count) < reduced P G + N
+    → N * ((key_accidentals P G N origin key).sharp_count + (key_accidentals P G N origin key).flat_count) < reduced P G + N
 
 -- Signs that are told by one signed number z add N × z to a spelling's place, whether z is above or below 0.
 abbrev pub SignsAddToThePlace : Type 0
-SignsAddToThePlace = (N : ℕ) (z : ℤ) → shift N (signsOf z) ≡ pos N *ℤ z
+SignsAddToThePlace = (N : ℕ) (z : ℤ) → shift N (signs_of z) ≡ pos N *ℤ z

@@ -1,6 +1,6 @@
 // What follows from a period and a generator: parts, and no entry points. Callers have asked question 2.
 ghost use Rattle.std.specs.Prelude.{◌≡◌, ◌%◌, ◌≤◌, ◌<◌};
-ghost use Rattle.pergen.specs.Parts.{StandsAt, BezoutOf, forward, solvedOf};
+ghost use Rattle.pergen.specs.Parts.{StandsAt, BezoutOf, forward, solved_of};
 
 // The greatest common divisor, the period divided by it, and how many generators leave the divisor on division by the period:
 // so many backward where `negative` is set.
@@ -83,7 +83,7 @@ pub struct Solved {
 // These numbers, by the Euclid on from where it stands.
 pub fn solve_from(period: u16, generator: u16, from: Remainders) -> Solved
     requires { (0 < period) × StandsAt period generator from }
-    ensures { result ≡ solvedOf period generator }
+    ensures { result ≡ solved_of period generator }
 {
     let found = extended_gcd(period, generator, from);
     Solved {
@@ -96,7 +96,7 @@ pub fn solve_from(period: u16, generator: u16, from: Remainders) -> Solved
 // These numbers, by the Euclid from the beginning: no generator leaves the period, one leaves itself.
 pub fn solve(period: u16, generator: u16) -> Solved
     requires { 0 < period }
-    ensures { result ≡ solvedOf period generator }
+    ensures { result ≡ solved_of period generator }
 {
     solve_from(
         period,

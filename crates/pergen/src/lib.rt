@@ -7,26 +7,28 @@
 // Every entry point answers every input, exactly. The modules hold parts, of which some ask for more: `euclid` what follows from period
 // and generator, `stepping` the walk from key to key, `spellings` the two spellings of a degree, `sounding` what a spelling sounds.
 // Nothing is assumed.
+#![tactic(auto)]
+
 pub mod euclid;
 pub mod sounding;
 pub mod spellings;
 pub mod stepping;
 
 ghost use Rattle.std.specs.Prelude.{◌≡◌, ◌<◌};
-ghost use Rattle.answer.specs.Refusals.{numberOutcome};
-ghost use Rattle.pergen.specs.Pergen.{cycles, reduced, inverse, generationOf};
-ghost use Rattle.pergen.specs.Spelling.{signsOf, starsOf, sharpSpelling, flatSpelling};
+ghost use Rattle.answer.specs.Refusals.{number_outcome};
+ghost use Rattle.pergen.specs.Pergen.{cycles, reduced, inverse, generation_of};
+ghost use Rattle.pergen.specs.Spelling.{signs_of, stars_of, sharp_spelling, flat_spelling};
 ghost use Rattle.pergen.specs.Answers.{
-  newOutcome,
-  ofPergen,
-  getGeneration,
-  getAccidentals,
-  getPlace,
-  getSoundedKey,
-  pergenOutcome,
-  generationOutcome,
-  accidentalsOutcome,
-  placeOutcome,
+  new_outcome,
+  of_pergen,
+  get_generation,
+  get_accidentals,
+  get_place,
+  get_sounded_key,
+  pergen_outcome,
+  generation_outcome,
+  accidentals_outcome,
+  place_outcome,
 };
 
 use answer::{NumberAnswer, Refusal};
@@ -111,7 +113,7 @@ pub enum PlaceAnswer {
 impl PerGen {
     // The pergen of a period and a generator, which may exceed the period (2).
     pub fn new(period: u16, generator: u16) -> PerGenAnswer
-        ensures { pergenOutcome result ≡ newOutcome period generator }
+        ensures { pergen_outcome result ≡ new_outcome period generator }
     {
         if period == 0 {
             return PerGenAnswer::Refused(Refusal::Period);
@@ -121,7 +123,7 @@ impl PerGen {
 
     // The period (2).
     pub fn period(self) -> NumberAnswer
-        ensures { numberOutcome result ≡ ofPergen self self.period }
+        ensures { number_outcome result ≡ of_pergen self self.period }
     {
         if self.period == 0 {
             return NumberAnswer::Refused(Refusal::Period);
@@ -131,7 +133,7 @@ impl PerGen {
 
     // The generator (2).
     pub fn generator(self) -> NumberAnswer
-        ensures { numberOutcome result ≡ ofPergen self self.generator }
+        ensures { number_outcome result ≡ of_pergen self self.generator }
     {
         if self.period == 0 {
             return NumberAnswer::Refused(Refusal::Period);
@@ -141,7 +143,7 @@ impl PerGen {
 
     // How many chains it takes to reach every key (2).
     pub fn num_cycles(self) -> NumberAnswer
-        ensures { numberOutcome result ≡ ofPergen self (cycles self.period self.generator) }
+        ensures { number_outcome result ≡ of_pergen self (cycles self.period self.generator) }
     {
         if self.period == 0 {
             return NumberAnswer::Refused(Refusal::Period);
@@ -151,7 +153,7 @@ impl PerGen {
 
     // How many keys each chain has (2).
     pub fn reduced_period(self) -> NumberAnswer
-        ensures { numberOutcome result ≡ ofPergen self (reduced self.period self.generator) }
+        ensures { number_outcome result ≡ of_pergen self (reduced self.period self.generator) }
     {
         if self.period == 0 {
             return NumberAnswer::Refused(Refusal::Period);
@@ -161,7 +163,7 @@ impl PerGen {
 
     // How many generators make one step within a chain (2).
     pub fn generator_inverse(self) -> NumberAnswer
-        ensures { numberOutcome result ≡ ofPergen self (inverse self.period self.generator) }
+        ensures { number_outcome result ≡ of_pergen self (inverse self.period self.generator) }
     {
         if self.period == 0 {
             return NumberAnswer::Refused(Refusal::Period);
@@ -172,7 +174,7 @@ impl PerGen {
 
     // Degree and cycle of a key, below 0 too: the number is first brought round the period (2).
     pub fn get_generation(self, key: i32) -> GenerationAnswer
-        ensures { generationOutcome result ≡ getGeneration self key }
+        ensures { generation_outcome result ≡ get_generation self key }
     {
         if self.period == 0 {
             return GenerationAnswer::Refused(Refusal::Period);
@@ -185,7 +187,7 @@ impl PerGen {
 
     // The sharp and the flat spelling of a key, below 0 too: the number is first brought round the period (2, 5, 6).
     pub fn get_accidentals(self, format: AccidentalsFormat, key: i32) -> AccidentalsAnswer
-        ensures { accidentalsOutcome result ≡ getAccidentals self format key }
+        ensures { accidentals_outcome result ≡ get_accidentals self format key }
     {
         if self.period == 0 {
             return AccidentalsAnswer::Refused(Refusal::Period);
@@ -205,7 +207,7 @@ impl PerGen {
 
     // The key of the octave that a spelling sounds, whatever its index and stars (2, 5, 6).
     pub fn get_sounded_key(self, format: AccidentalsFormat, spelling: Spelling) -> NumberAnswer
-        ensures { numberOutcome result ≡ getSoundedKey self format spelling }
+        ensures { number_outcome result ≡ get_sounded_key self format spelling }
     {
         if self.period == 0 {
             return NumberAnswer::Refused(Refusal::Period);
@@ -225,7 +227,7 @@ impl PerGen {
 impl AccidentalsFormat {
     // The place of a spelling on the chain, counted from key 0's, whatever its index (5, 6).
     pub fn get_place(self, spelling: Spelling) -> PlaceAnswer
-        ensures { placeOutcome result ≡ getPlace self spelling }
+        ensures { place_outcome result ≡ get_place self spelling }
     {
         if self.num_symbols == 0 {
             return PlaceAnswer::Refused(Refusal::Symbols);
@@ -240,7 +242,7 @@ impl AccidentalsFormat {
 impl Cycle {
     // The cycle's number as stars; 0 where it is absent.
     pub fn stars(self) -> u16
-        ensures { result ≡ starsOf self }
+        ensures { result ≡ stars_of self }
     {
         match self {
             Cycle::Absent => 0,
@@ -252,7 +254,7 @@ impl Cycle {
 impl Signs {
     // As many sharps as a number above 0 says, as many flats as one below; 0 is no sign.
     pub fn from_number(number: i32) -> Signs
-        ensures { result ≡ signsOf number }
+        ensures { result ≡ signs_of number }
     {
         if number < 0 {
             // by -1 - number, since 32 signed bits hold no 2,147,483,648
@@ -265,7 +267,7 @@ impl Signs {
 impl Accidentals {
     // The spelling with sharps.
     pub fn sharp_spelling(self) -> Spelling
-        ensures { result ≡ sharpSpelling self }
+        ensures { result ≡ sharp_spelling self }
     {
         let cycle = self.cycle;
         Spelling {
@@ -277,7 +279,7 @@ impl Accidentals {
 
     // The spelling with flats.
     pub fn flat_spelling(self) -> Spelling
-        ensures { result ≡ flatSpelling self }
+        ensures { result ≡ flat_spelling self }
     {
         let cycle = self.cycle;
         Spelling {

@@ -1,11 +1,11 @@
 // The two spellings of a degree: parts, and no entry points. Callers have asked questions 5 and 6.
 ghost use Rattle.std.specs.Prelude.{◌≡◌, ◌+◌, ◌≤◌, ◌<◌};
 ghost use Rattle.pergen.specs.Spelling.{
-  sharpCoordinate,
-  flatCoordinate,
-  lowSharpIndex,
-  lowFlatIndex,
-  accidentalsOf,
+  sharp_coordinate,
+  flat_coordinate,
+  low_sharp_index,
+  low_flat_index,
+  accidentals_of,
 };
 
 use crate::{Accidentals, AccidentalsFormat, Generation};
@@ -13,7 +13,7 @@ use crate::{Accidentals, AccidentalsFormat, Generation};
 // d stays below twice the reduced period, so one comparison takes the remainder.
 fn sharp_coordinate(reduced: u32, d: u32) -> u32
     requires { d < reduced + reduced }
-    ensures { result ≡ sharpCoordinate reduced d }
+    ensures { result ≡ sharp_coordinate reduced d }
 {
     if d < reduced { d } else { d - reduced }
 }
@@ -21,7 +21,7 @@ fn sharp_coordinate(reduced: u32, d: u32) -> u32
 // d passes the last symbol by less than the reduced period, so one comparison takes the remainder.
 fn flat_coordinate(reduced: u32, symbols: u32, d: u32) -> u32
     requires { (0 < symbols) × (symbols ≤ reduced) × (d + 1 < symbols + reduced) × (reduced ≤ 65535) }
-    ensures { result ≡ flatCoordinate reduced symbols d }
+    ensures { result ≡ flat_coordinate reduced symbols d }
 {
     let last = symbols - 1;
     if last < d {
@@ -33,13 +33,13 @@ fn flat_coordinate(reduced: u32, symbols: u32, d: u32) -> u32
 
 fn low_sharp_index(reduced: u32, symbols: u32, d: u32) -> u32
     requires { reduced ≤ symbols }
-    ensures { result ≡ lowSharpIndex reduced symbols d }
+    ensures { result ≡ low_sharp_index reduced symbols d }
 {
     if symbols <= d { d - reduced } else { d }
 }
 
 fn low_flat_index(reduced: u32, d: u32, degree: u32) -> u32
-    ensures { result ≡ lowFlatIndex reduced d degree }
+    ensures { result ≡ low_flat_index reduced d degree }
 {
     if degree == 0 {
         return d;
@@ -54,7 +54,7 @@ pub fn accidentals(
     generation: Generation,
 ) -> Accidentals
     requires { (format.genchain_origin < format.num_symbols) × (generation.degree < reduced_period) }
-    ensures { result ≡ accidentalsOf reduced_period format.num_symbols format.genchain_origin generation.degree generation.cycle }
+    ensures { result ≡ accidentals_of reduced_period format.num_symbols format.genchain_origin generation.degree generation.cycle }
 {
     let reduced = reduced_period as u32;
     let symbols = format.num_symbols as u32;

@@ -2,7 +2,7 @@
 //
 // `key_at` finds a key by its number; `next` carries degree and cycle along, so that no key costs a division.
 ghost use Rattle.std.specs.Prelude.{◌≡◌, ◌+◌, ◌*◌, ◌/◌, ◌%◌, ◌<◌, ◌≤◌};
-ghost use Rattle.pergen.specs.Parts.{Walkable, At, generationFrom};
+ghost use Rattle.pergen.specs.Parts.{Walkable, At, generation_from};
 
 use crate::euclid::Solved;
 use crate::{Cycle, Generation};
@@ -102,7 +102,7 @@ pub fn next(solved: Solved, key: Key) -> Key
 // Degree and cycle as names have them: the cycle is absent where there is only one.
 pub fn generation(solved: Solved, key: Key) -> Generation
     requires { At solved key }
-    ensures { result ≡ generationFrom solved key.number }
+    ensures { result ≡ generation_from solved key.number }
 {
     if 1 < solved.num_cycles {
         return Generation {

@@ -8,22 +8,22 @@ use lib.Signed.{mag, non_neg}
 use mir.Syntax.{Width, w32, w64}
 use mir.Val.{SFits, to_z, of_z, hbits}
 use mir.ValLaws.{to_z_pos}
-use Rattle.math.proofs.Integers.{rep-self, rep_pos, rep-minus, rep-agree}
-use Rattle.math.proofs.Signed.{read_back}
+use Rattle.math.proofs.Integers.{rep_self, rep_pos, rep_minus, rep_agree}
+use Rattle.math.proofs.Signed.{read_back_lem}
 
-pub mirror-in-range : (w : Width) (a : ℕ) → a < 2 ^ hbits w → SFits w (negsuc 0 -ℤ to_z w a)
-mirror-in-range w a h =
-    let mirrored : negsuc 0 -ℤ pos a ≡ negsuc a = rep-agree (rep-minus (rep-self (negsuc 0)) (rep_pos a)) (rep-self (negsuc a)) (omega arith) in
+pub mirror_in_range : (w : Width) (a : ℕ) → a < 2 ^ hbits w → SFits w (negsuc 0 -ℤ to_z w a)
+mirror_in_range w a h =
+    let mirrored : negsuc 0 -ℤ pos a ≡ negsuc a = rep_agree (rep_minus (rep_self (negsuc 0)) (rep_pos a)) (rep_self (negsuc a)) (omega arith) in
     subst (λ (y : ℤ). SFits w y) (sym (ap (λ (y : ℤ). negsuc 0 -ℤ y) (to_z_pos w a h) ∙ mirrored)) (record { sfits = h })
 
 pub widened : (z : ℤ) → SFits w32 z → SFits w64 (to_z w32 (of_z w32 z))
-widened z f = subst (λ (y : ℤ). SFits w64 y) (sym (read_back w32 z f)) (record { sfits = omega (arith, f.sfits) })
+widened z f = subst (λ (y : ℤ). SFits w64 y) (sym (read_back_lem w32 z f)) (record { sfits = omega (arith, f.sfits) })
 
 not_negative : (w : Width) (z : ℤ) → SFits w z → T (non_neg z) → nat_abs z < 2 ^ hbits w
 not_negative w (pos n) f t = f.sfits
 not_negative w (negsuc n) f t = absurd t
 
 -- so that 1 more still fits
-pub not-negative-below : (w : Width) (z : ℤ) → SFits w z → T (non_neg (to_z w (of_z w z))) → nat_abs (to_z w (of_z w z)) < 2 ^ hbits w
-not-negative-below w z f =
-    subst (λ (y : ℤ). T (non_neg y) → nat_abs y < 2 ^ hbits w) (sym (read_back w z f)) (not_negative w z f)
+pub not_negative_below : (w : Width) (z : ℤ) → SFits w z → T (non_neg (to_z w (of_z w z))) → nat_abs (to_z w (of_z w z)) < 2 ^ hbits w
+not_negative_below w z f =
+    subst (λ (y : ℤ). T (non_neg y) → nat_abs y < 2 ^ hbits w) (sym (read_back_lem w z f)) (not_negative w z f)

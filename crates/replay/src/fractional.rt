@@ -11,8 +11,8 @@
 // one is left untouched.
 ghost use Rattle.std.specs.Prelude.{length};
 ghost use Rattle.answer.specs.Lent.{Filled};
-ghost use Rattle.answer.specs.Refusals.{countOutcome};
-ghost use Rattle.mos_fractional.specs.Answers.{listingOutcome};
+ghost use Rattle.answer.specs.Refusals.{count_outcome};
+ghost use Rattle.mos_fractional.specs.Answers.{listing_outcome};
 
 use crate::words::Values;
 use crate::{names, print};
@@ -79,7 +79,7 @@ fn lent() -> FractionalMos {
 
 // The array is lent for the call alone. Covered code cannot lend a list of structs, so this is proved by hand.
 fn list_page(generator: f64, patterns: [FractionalMos; 8]) -> Page
-    ensures { Filled (listingOutcome generator (length patterns)) (countOutcome result.answer) patterns result.patterns }
+    ensures { Filled (listing_outcome generator (length patterns)) (count_outcome result.answer) patterns result.patterns }
 {
     let mut list = patterns;
     let answer = mos_fractional::children(generator, &mut list);

@@ -6,6 +6,8 @@
 // line that is no question is answered with `?`.
 // The files `stdin` and `stdout` beside src/ hold a list of questions and the answers that were given by others: by the Rust
 // original, and where it has none, by a reading of document 01. docs/DIFFERENCES.md says how they were made.
+#![tactic(auto)]
+
 mod books;
 mod edo;
 mod fractional;

@@ -4,8 +4,8 @@
 //
 // Before the call a record holds 9 8 7 6 5 4 behind its key, so that it is seen where one is left untouched.
 ghost use Rattle.answer.specs.Lent.{Filled};
-ghost use Rattle.answer.specs.Refusals.{countOutcome};
-ghost use Rattle.layout_sheet.specs.Answers.{getSheet};
+ghost use Rattle.answer.specs.Refusals.{count_outcome};
+ghost use Rattle.layout_sheet.specs.Answers.{get_sheet};
 
 use crate::print;
 use crate::words::Values;
@@ -45,7 +45,7 @@ fn asked(key: i32) -> Record {
 
 // The array is lent for the call alone. Covered code cannot lend a list of records, so this is proved by hand.
 fn fill_page(layout: IsomorphicLayout, records: [Record; 4]) -> Page
-    ensures { Filled (getSheet layout records) (countOutcome result.answer) records result.records }
+    ensures { Filled (get_sheet layout records) (count_outcome result.answer) records result.records }
 {
     let mut sheet = records;
     let answer = layout_sheet::fill_sheet(layout, &mut sheet);

@@ -21,5 +21,5 @@ pub written_as : {past done : Output} {text same : List ℕ} → text ≡ same �
 written_as {past} {done} e w = subst (λ (l : List ℕ). Written past l done) e w
 
 -- all parts from the first on
-pub written-first : {start done : Output} {text : List ℕ} → Handed [] start → Written start text done → Handed text done
-written-first none w = w.next [] none
+pub written_first : {start done : Output} {text : List ℕ} → Handed [] start → Written start text done → Handed text done
+written_first none w = w.next [] none

@@ -42,25 +42,25 @@ Taken bytes input count = (input.taken ≡ length bytes % round) × (count ≡ i
 pub record Begun (input : Input) : Type 0 where
   pub none : Taken [] input 0
   pub none_kept : input.kept ≡ 0
-  pub not-ended : input.at_end ≡ false
+  pub not_ended : input.at_end ≡ false
 
 -- What `next_byte` promises: nothing more where the input ended, else one byte more, which is the last.
 pub record Next (past : Input) (before : ℕ) (input : Input) (count : ℕ) : Type 0 where
   pub ended : input.at_end ≡ true → (bytes : List ℕ) → Taken bytes past before → Taken bytes input count
   pub more : input.at_end ≡ false → (bytes : List ℕ) → Taken bytes past before → Taken (bytes ++ input.last ∷ []) input count
   pub same_kept : input.at_end ≡ true → input.kept ≡ past.kept
-  pub more-kept : input.at_end ≡ false → input.kept ≡ min longest (past.kept + 1)
+  pub more_kept : input.at_end ≡ false → input.kept ≡ min longest (past.kept + 1)
 
 -- ---- laws for the proofs of `begin`, `write` and `next_byte`
 
-pub handed-none : (done : Output) → done.handed ≡ 0 → Handed [] done
+pub handed_none : (done : Output) → done.handed ≡ 0 → Handed [] done
 unfolding Handed
-handed-none done e = omega (arith, e)
+handed_none done e = omega (arith, e)
 
-pub handed-more : (past done : Output) (bytes text : List ℕ) → done.handed ≡ (past.handed + length text) % round
+pub handed_more : (past done : Output) (bytes text : List ℕ) → done.handed ≡ (past.handed + length text) % round
     → Handed bytes past → Handed (bytes ++ text) done
 unfolding Handed
-handed-more past done bytes text e h = omega (arith, e, h, length-append bytes text)
+handed_more past done bytes text e h = omega (arith, e, h, length-append bytes text)
 
 pub taken_none : (input : Input) → input.taken ≡ 0 → Taken [] input 0
 unfolding Taken
@@ -73,6 +73,6 @@ unfolding Taken
 taken_more past input before count bytes byte e f h =
     (omega (arith, e, h.0, length-append bytes (byte ∷ [])), omega (arith, e, f, h.1))
 
-pub taken-same : (past input : Input) (count : ℕ) (bytes : List ℕ) → input.taken ≡ past.taken → Taken bytes past count → Taken bytes input count
+pub taken_same : (past input : Input) (count : ℕ) (bytes : List ℕ) → input.taken ≡ past.taken → Taken bytes past count → Taken bytes input count
 unfolding Taken
-taken-same past input count bytes e h = (omega (arith, e, h.0), omega (arith, e, h.1))
+taken_same past input count bytes e h = (omega (arith, e, h.0), omega (arith, e, h.1))

@@ -5,6 +5,8 @@
 // for a buffer of 18 bytes.
 // specs/: Streams says what was taken and what was handed over, Reading what is read of a line. Which bytes a read hands over, and where
 // written bytes go, rests on the kit's library.
+#![tactic(auto)]
+
 pub mod input;
 pub mod lines;
 pub mod output;

@@ -2,7 +2,7 @@
 // answered as soon as the line is typed. Its first 18 bytes are kept, which are enough for every line of `line`.
 ghost use Rattle.std.specs.Prelude.{◌≡◌, ◌≤◌, length};
 ghost use Rattle.streams.specs.Streams.{longest};
-ghost use Rattle.streams.specs.Reading.{keptIn, LineRead};
+ghost use Rattle.streams.specs.Reading.{kept_in, LineRead};
 
 use crate::input;
 use crate::input::Input;
@@ -10,7 +10,7 @@ use crate::input::Input;
 // Keeps one of a line's first 18 bytes at its place; a later one is dropped.
 fn keep(line: &mut [u8], at: usize, byte: u8)
     requires { longest ≤ length line.old }
-    ensures { line.new ≡ keptIn line.old at byte }
+    ensures { line.new ≡ kept_in line.old at byte }
 {
     if at < 18 {
         line[at] = byte;

@@ -25,10 +25,10 @@ pub copied : {xs ys : List ℕ} {at o : ℕ} (text : List ℕ) (i : ℕ) → len
 copied text i h w = wrote_as (take_all i text h) w
 
 -- a text copied, as `bytes::copy` says, over the part of a slice that is as long as it
-pub part-copied : (xs text ys : List ℕ) (at : ℕ) → Room xs at text
+pub part_copied : (xs text ys : List ℕ) (at : ℕ) → Room xs at text
     → ys ≡ take (length text) text ++ drop (length text) (mid_of at (at + length text - at) xs)
     → Wrote xs at text (put_mid at (at + length text - at) xs ys) (at + length text)
-part-copied xs text ys at room e =
+part_copied xs text ys at room e =
     let n = length text in
     let part = mid_of at (at + n - at) xs in
     let none : drop n part ≡ [] = drop_of_length-le part {i = n} (omega (arith, mid_len at (at + n) xs room)) in

@@ -5,11 +5,11 @@ use Rattle.text.specs.Decimal.{digits, number_at}
 use Rattle.text.specs.LittleEndian.{le32, value32}
 use Rattle.text.specs.Examples.{ExamplesHold}
 
-pub examples-hold : ExamplesHold
+pub examples_hold : ExamplesHold
 unfolding joined digits number_at le32 value32
-examples-hold =
+examples_hold =
     record {
-      in-turn = refl;
+      in_turn_lem = refl;
       numbers = refl;
       readings = refl;
       zeros = refl;

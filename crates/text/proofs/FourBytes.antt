@@ -9,35 +9,35 @@ use lib.Seq.{get_or-append-add}
 use Rattle.text.specs.LittleEndian.{le32, value32}
 use Rattle.text.specs.Theorems.{FourBytesReadBack}
 
-pub length-le32 : (n : ℕ) → length (le32 n) ≡ 4
+pub length_le32 : (n : ℕ) → length (le32 n) ≡ 4
 unfolding le32
-length-le32 n = refl
+length_le32 n = refl
 
 -- from four bytes that were read
-pub value-is : (bytes : List ℕ) (at a b c d : ℕ) → a ≡ get_or bytes at 0 → b ≡ get_or bytes (at + 1) 0 → c ≡ get_or bytes (at + 2) 0
+pub value_is : (bytes : List ℕ) (at a b c d : ℕ) → a ≡ get_or bytes at 0 → b ≡ get_or bytes (at + 1) 0 → c ≡ get_or bytes (at + 2) 0
     → d ≡ get_or bytes (at + 3) 0 → a + 256 * b + 65536 * c + 16777216 * d ≡ value32 bytes at
 unfolding value32
-value-is bytes at a b c d ea eb ec ed = omega arith
+value_is bytes at a b c d ea eb ec ed = omega arith
 
 -- only what stands from the place on counts
-pub value-behind : (before bytes : List ℕ) (at : ℕ) → value32 (before ++ bytes) (length before + at) ≡ value32 bytes at
+pub value_behind : (before bytes : List ℕ) (at : ℕ) → value32 (before ++ bytes) (length before + at) ≡ value32 bytes at
 unfolding value32
-value-behind before bytes at =
+value_behind before bytes at =
     simp (add_assoc (length before) at 1, add_assoc (length before) at 2, add_assoc (length before) at 3, get_or-append-add)
 
 -- each byte is what is left of a quotient
-value-front : (n : ℕ) (behind : List ℕ) → n < 4294967296 → value32 (le32 n ++ behind) 0 ≡ n
+value_front : (n : ℕ) (behind : List ℕ) → n < 4294967296 → value32 (le32 n ++ behind) 0 ≡ n
 unfolding value32 le32
-value-front n behind h =
+value_front n behind h =
     let q = n / 256 in
     let second : n / 65536 ≡ q / 256 = sym (div-div-eq-div-mul n 256 256) in
     let third : n / 16777216 ≡ q / 256 / 256 = sym (div-div-eq-div-mul q 256 256 ∙ div-div-eq-div-mul n 256 65536) in
     let last : n / 16777216 % 256 ≡ n / 16777216 = mod-eq_of_lt (omega arith) in
     rw (last, second, third) (omega (arith, div-add-mod n 256, div-add-mod q 256, div-add-mod (q / 256) 256))
 
-pub four-bytes-read-back : FourBytesReadBack
-four-bytes-read-back n before behind h =
+pub four_bytes_read_back : FourBytesReadBack
+four_bytes_read_back n before behind h =
     ap (λ (bytes : List ℕ). value32 bytes (length before)) (append_assoc before (le32 n) behind)
     ∙ ap (value32 (before ++ (le32 n ++ behind))) (sym (add-zero (length before)))
-    ∙ value-behind before (le32 n ++ behind) 0
-    ∙ value-front n behind h
+    ∙ value_behind before (le32 n ++ behind) 0
+    ∙ value_front n behind h

@@ -12,9 +12,9 @@ use lib.Dec.{leb, ltb}
 use borrow.Author.Tests.{ltb-true, ltb-false, leb-true, le-leb, lt-leb}
 use Rattle.answer.proofs.Asked.{and_left, and_right}
 use Rattle.answer.specs.Choice.{pick}
-use Rattle.text.specs.Decimal.{isDigit, leading, valueFrom, digitsAt, value_at, end_at, is_number, digitAt, number_at}
+use Rattle.text.specs.Decimal.{is_digit, leading, value_from, digits_at, value_at, end_at, is_number, digit_at, number_at}
 use Rattle.text.specs.declared.decimal.Reading.TheVariants.{Number, Nothing}
-use Rattle.text.proofs.Digits.{value-rises, leading-digit, leading-other, leading-none, is_digit}
+use Rattle.text.proofs.Digits.{value_rises, leading_digit, leading_other, leading_none, is_digit_lem}
 
 -- ---- the byte at a place: a digit that the digits there begin with, or none
 
@@ -22,80 +22,80 @@ pub record Digit (text : List ℕ) (at : ℕ) : Type 0 where
   pub here : at < length text
   pub low : 48 ≤ get_or text at 0
   pub high : get_or text at 0 ≤ 57
-  pub is_digit : digitAt text at ≡ get_or text at 0 - 48
-  pub begins : digitsAt text at ≡ get_or text at 0 ∷ digitsAt text (at + 1)
+  pub is_digit_lem : digit_at text at ≡ get_or text at 0 - 48
+  pub begins : digits_at text at ≡ get_or text at 0 ∷ digits_at text (at + 1)
 
 pub record NoDigit (text : List ℕ) (at : ℕ) : Type 0 where
-  pub is-ten : digitAt text at ≡ 10
-  pub none : digitsAt text at ≡ []
+  pub is_ten : digit_at text at ≡ 10
+  pub none : digits_at text at ≡ []
 
-past-or-not : (text : List ℕ) (at : ℕ) (test : Bool) → ltb at (length text) ≡ test → (at < length text) ⊎ (length text ≤ at)
-past-or-not text at true e = inl (ltb-true at (length text) e)
-past-or-not text at false e = inr (ltb-false at (length text) e)
+past_or_not : (text : List ℕ) (at : ℕ) (test : Bool) → ltb at (length text) ≡ test → (at < length text) ⊎ (length text ≤ at)
+past_or_not text at true e = inl (ltb-true at (length text) e)
+past_or_not text at false e = inr (ltb-false at (length text) e)
 
 module _ (text : List ℕ) (at : ℕ) where
   split : at < length text → drop at text ≡ get_or text at 0 ∷ drop (at + 1) text
   split h = drop-cons text at 0 h ∙ ap (λ (n : ℕ). get_or text at 0 ∷ drop n text) (sym (add-one at))
 
-  pub digit-here : at < length text → 48 ≤ get_or text at 0 → get_or text at 0 ≤ 57 → Digit text at
-  unfolding digitAt digitsAt
-  digit-here h low high =
-      let yes = is_digit (get_or text at 0) low high in
+  pub digit_here : at < length text → 48 ≤ get_or text at 0 → get_or text at 0 ≤ 57 → Digit text at
+  unfolding digit_at digits_at
+  digit_here h low high =
+      let yes = is_digit_lem (get_or text at 0) low high in
       record {
         here = h;
         low = low;
         high = high;
-        is_digit = simp yes;
-        begins = ap leading (split h) ∙ leading-digit (get_or text at 0) (drop (at + 1) text) yes;
+        is_digit_lem = simp yes;
+        begins = ap leading (split h) ∙ leading_digit (get_or text at 0) (drop (at + 1) text) yes;
       }
 
-  pub other-here : at < length text → isDigit (get_or text at 0) ≡ false → NoDigit text at
-  unfolding digitAt digitsAt
-  other-here h e = record { is-ten = simp e; none = ap leading (split h) ∙ leading-other (get_or text at 0) (drop (at + 1) text) e }
+  pub other_here : at < length text → is_digit (get_or text at 0) ≡ false → NoDigit text at
+  unfolding digit_at digits_at
+  other_here h e = record { is_ten = simp e; none = ap leading (split h) ∙ leading_other (get_or text at 0) (drop (at + 1) text) e }
 
-  pub none-past : length text ≤ at → NoDigit text at
-  unfolding digitAt digitsAt
-  none-past h =
+  pub none_past : length text ≤ at → NoDigit text at
+  unfolding digit_at digits_at
+  none_past h =
       record {
-        is-ten = simp (get_or-eq_default text 0 h);
-        none = ap leading (drop_of_length-le text h) ∙ leading-none;
+        is_ten = simp (get_or-eq_default text 0 h);
+        none = ap leading (drop_of_length-le text h) ∙ leading_none;
       }
 
   pub low_byte : at < length text → get_or text at 0 < 48 → NoDigit text at
-  low_byte h low = other-here h (simp (lt-leb 48 (get_or text at 0) low))
+  low_byte h low = other_here h (simp (lt-leb 48 (get_or text at 0) low))
 
   pub high_byte : at < length text → 57 < get_or text at 0 → NoDigit text at
-  high_byte h high = other-here h (simp (lt-leb (get_or text at 0) 57 high, and-false))
+  high_byte h high = other_here h (simp (lt-leb (get_or text at 0) 57 high, and-false))
 
-  by_byte : (test : Bool) → isDigit (get_or text at 0) ≡ test → at < length text → Digit text at ⊎ NoDigit text at
+  by_byte : (test : Bool) → is_digit (get_or text at 0) ≡ test → at < length text → Digit text at ⊎ NoDigit text at
   by_byte true e h =
       inl
-      (digit-here h (leb-true 48 (get_or text at 0) (and_left (leb 48 (get_or text at 0)) (leb (get_or text at 0) 57) e))
+      (digit_here h (leb-true 48 (get_or text at 0) (and_left (leb 48 (get_or text at 0)) (leb (get_or text at 0) 57) e))
       (leb-true (get_or text at 0) 57 (and_right (leb 48 (get_or text at 0)) (leb (get_or text at 0) 57) e)))
-  by_byte false e h = inr (other-here h e)
+  by_byte false e h = inr (other_here h e)
 
   view : Digit text at ⊎ NoDigit text at
   view =
       ⊎_elim
-      (λ (h : at < length text). by_byte (isDigit (get_or text at 0)) refl h)
-      (λ (h : length text ≤ at). inr (none-past h))
-      (past-or-not text at (ltb at (length text)) refl)
+      (λ (h : at < length text). by_byte (is_digit (get_or text at 0)) refl h)
+      (λ (h : length text ≤ at). inr (none_past h))
+      (past_or_not text at (ltb at (length text)) refl)
 
-  pub a-digit : digitAt text at < 10 → Digit text at
-  a-digit h = ⊎_elim (λ (d : Digit text at). d) (λ (n : NoDigit text at). absurd (omega (arith, n.is-ten))) view
+  pub a_digit : digit_at text at < 10 → Digit text at
+  a_digit h = ⊎_elim (λ (d : Digit text at). d) (λ (n : NoDigit text at). absurd (omega (arith, n.is_ten))) view
 
-  pub no_digit : 10 ≤ digitAt text at → NoDigit text at
-  no_digit h = ⊎_elim (λ (d : Digit text at). absurd (omega (arith, d.is_digit, d.high))) (λ (n : NoDigit text at). n) view
+  pub no_digit : 10 ≤ digit_at text at → NoDigit text at
+  no_digit h = ⊎_elim (λ (d : Digit text at). absurd (omega (arith, d.is_digit_lem, d.high))) (λ (n : NoDigit text at). n) view
 
 -- ---- what a reading tells of the test before it
 
 pub record Picked (test : Bool) (value end number next : ℕ) : Type 0 where
   pub yes : test ≡ true
-  pub is-value : number ≡ value
-  pub is-next : next ≡ end
+  pub is_value : number ≡ value
+  pub is_next : next ≡ end
 
 pub picked : (test : Bool) (value end number next : ℕ) → Number number next ≡ pick test (Number value end) Nothing → Picked test value end number next
-picked true value end number next e = record { yes = refl; is-value = cc; is-next = cc }
+picked true value end number next e = record { yes = refl; is_value = cc; is_next = cc }
 picked false value end number next e = let z : ◌≡◌ {A = ℕ} 0 1 = cc in absurd (omega arith)
 
 pub picked_none : (test : Bool) (value end : ℕ) → Nothing ≡ pick test (Number value end) Nothing → test ≡ false
@@ -104,100 +104,100 @@ picked_none false value end e = refl
 
 -- ---- a number, by its three tests
 
-pub length-is : (text : List ℕ) (at : ℕ) → end_at text at ≡ at + length (digitsAt text at)
+pub length_is : (text : List ℕ) (at : ℕ) → end_at text at ≡ at + length (digits_at text at)
 unfolding end_at
-length-is text at = refl
+length_is text at = refl
 
 module _ (text : List ℕ) (at : ℕ) where
-  pub no-digits : length (digitsAt text at) < 1 → is_number text at ≡ false
+  pub no_digits : length (digits_at text at) < 1 → is_number text at ≡ false
   unfolding is_number
-  no-digits h = simp (lt-leb 1 (length (digitsAt text at)) h)
+  no_digits h = simp (lt-leb 1 (length (digits_at text at)) h)
 
-  pub digits_above : 5 < length (digitsAt text at) → is_number text at ≡ false
+  pub digits_above : 5 < length (digits_at text at) → is_number text at ≡ false
   unfolding is_number
-  digits_above h = simp (lt-leb (length (digitsAt text at)) 5 h, and-false)
+  digits_above h = simp (lt-leb (length (digits_at text at)) 5 h, and-false)
 
-  pub value-above : 65535 < value_at text at → is_number text at ≡ false
+  pub value_above : 65535 < value_at text at → is_number text at ≡ false
   unfolding is_number
-  value-above h = simp (lt-leb (value_at text at) 65535 h, and-false)
+  value_above h = simp (lt-leb (value_at text at) 65535 h, and-false)
 
-  pub is-number : 1 ≤ length (digitsAt text at) → length (digitsAt text at) ≤ 5 → value_at text at ≤ 65535 → is_number text at ≡ true
+  pub is_number_lem : 1 ≤ length (digits_at text at) → length (digits_at text at) ≤ 5 → value_at text at ≤ 65535 → is_number text at ≡ true
   unfolding is_number
-  is-number h k v = simp (le-leb 1 (length (digitsAt text at)) h, le-leb (length (digitsAt text at)) 5 k, le-leb (value_at text at) 65535 v)
+  is_number_lem h k v = simp (le-leb 1 (length (digits_at text at)) h, le-leb (length (digits_at text at)) 5 k, le-leb (value_at text at) 65535 v)
 
   pub no_number : is_number text at ≡ false → Nothing ≡ number_at text at
   unfolding number_at
   no_number e = sym (ap (λ (test : Bool). pick test (Number (value_at text at) (end_at text at)) Nothing) e)
 
-  pub a-number : is_number text at ≡ true → Number (value_at text at) (end_at text at) ≡ number_at text at
+  pub a_number : is_number text at ≡ true → Number (value_at text at) (end_at text at) ≡ number_at text at
   unfolding number_at
-  a-number e = sym (ap (λ (test : Bool). pick test (Number (value_at text at) (end_at text at)) Nothing) e)
+  a_number e = sym (ap (λ (test : Bool). pick test (Number (value_at text at) (end_at text at)) Nothing) e)
 
 -- ---- the loop: the digits from `next` on say the rest of the number at `at`
 
 pub record Read (text : List ℕ) (at sofar next digit : ℕ) : Type 0 where
   pub same_end : end_at text at ≡ end_at text next
-  pub same-value : value_at text at ≡ valueFrom sofar (digitsAt text next)
-  pub is_digit : digit ≡ digitAt text next
+  pub same_value : value_at text at ≡ value_from sofar (digits_at text next)
+  pub is_digit_lem : digit ≡ digit_at text next
   pub from : at ≤ next
 
-pub read_none : (text : List ℕ) (at digit : ℕ) → digit ≡ digitAt text at → Read text at 0 at digit
+pub read_none : (text : List ℕ) (at digit : ℕ) → digit ≡ digit_at text at → Read text at 0 at digit
 unfolding value_at
-read_none text at digit e = record { same_end = refl; same-value = refl; is_digit = e; from = omega arith }
+read_none text at digit e = record { same_end = refl; same_value = refl; is_digit_lem = e; from = omega arith }
 
 module _ (text : List ℕ) (at sofar next digit : ℕ) (read : Read text at sofar next digit) where
-  this-digit : digit < 10 → Digit text next
-  this-digit h = a-digit text next (omega (arith, read.is_digit))
+  this_digit : digit < 10 → Digit text next
+  this_digit h = a_digit text next (omega (arith, read.is_digit_lem))
 
-  pub digit-inside : digit < 10 → next < length text
-  digit-inside h = (this-digit h).here
+  pub digit_inside : digit < 10 → next < length text
+  digit_inside h = (this_digit h).here
 
   end_more : Digit text next → end_at text next ≡ end_at text (next + 1)
   unfolding end_at
   end_more d = ap (λ (l : List ℕ). next + length l) d.begins ∙ omega arith
 
-  value-more : Digit text next → valueFrom sofar (digitsAt text next) ≡ valueFrom (10 * sofar + (get_or text next 0 - 48)) (digitsAt text (next + 1))
-  unfolding valueFrom
-  value-more d = ap (valueFrom sofar) d.begins
+  value_more : Digit text next → value_from sofar (digits_at text next) ≡ value_from (10 * sofar + (get_or text next 0 - 48)) (digits_at text (next + 1))
+  unfolding value_from
+  value_more d = ap (value_from sofar) d.begins
 
-  pub read_more : digit < 10 → (then : ℕ) → then ≡ digitAt text (next + 1) → Read text at (10 * sofar + digit) (next + 1) then
+  pub read_more : digit < 10 → (then : ℕ) → then ≡ digit_at text (next + 1) → Read text at (10 * sofar + digit) (next + 1) then
   read_more h then e =
-      let d = this-digit h in
-      let same : get_or text next 0 - 48 ≡ digit = sym (read.is_digit ∙ d.is_digit) in
+      let d = this_digit h in
+      let same : get_or text next 0 - 48 ≡ digit = sym (read.is_digit_lem ∙ d.is_digit_lem) in
       record {
         same_end = read.same_end ∙ end_more d;
-        same-value =
-            read.same-value
-            ∙ value-more d
-            ∙ ap (λ (k : ℕ). valueFrom (10 * sofar + k) (digitsAt text (next + 1))) same;
-        is_digit = e;
+        same_value =
+            read.same_value
+            ∙ value_more d
+            ∙ ap (λ (k : ℕ). value_from (10 * sofar + k) (digits_at text (next + 1))) same;
+        is_digit_lem = e;
         from = omega (arith, read.from);
       }
 
   pub too_large : 65535 < sofar → Nothing ≡ number_at text at
-  too_large h = no_number text at (value-above text at (omega (arith, read.same-value, value-rises sofar (digitsAt text next))))
+  too_large h = no_number text at (value_above text at (omega (arith, read.same_value, value_rises sofar (digits_at text next))))
 
   pub too_long : 5 < next - at → Nothing ≡ number_at text at
-  too_long h = no_number text at (digits_above text at (omega (arith, length-is text at, length-is text next, read.same_end)))
+  too_long h = no_number text at (digits_above text at (omega (arith, length_is text at, length_is text next, read.same_end)))
 
   module _ (last : 10 ≤ digit) where
-    no_more : digitsAt text next ≡ []
-    no_more = (no_digit text next (omega (arith, read.is_digit))).none
+    no_more : digits_at text next ≡ []
+    no_more = (no_digit text next (omega (arith, read.is_digit_lem))).none
 
     end_is : end_at text at ≡ next
     unfolding end_at
     end_is = read.same_end ∙ ap (λ (l : List ℕ). next + length l) no_more ∙ omega arith
 
-    value-is : value_at text at ≡ sofar
-    unfolding valueFrom
-    value-is = read.same-value ∙ ap (valueFrom sofar) no_more
+    value_is : value_at text at ≡ sofar
+    unfolding value_from
+    value_is = read.same_value ∙ ap (value_from sofar) no_more
 
-    pub no-digit-at-all : next ≤ at → Nothing ≡ number_at text at
-    no-digit-at-all h = no_number text at (no-digits text at (omega (arith, length-is text at, end_is)))
+    pub no_digit_at_all : next ≤ at → Nothing ≡ number_at text at
+    no_digit_at_all h = no_number text at (no_digits text at (omega (arith, length_is text at, end_is)))
 
     pub number_read : at < next → next ≤ at + 5 → sofar ≤ 65535 → Number sofar next ≡ number_at text at
     number_read h k v =
-        ap (λ (n : ℕ). Number n next) (sym value-is)
+        ap (λ (n : ℕ). Number n next) (sym value_is)
         ∙ ap (λ (n : ℕ). Number (value_at text at) n) (sym end_is)
-        ∙ a-number text at
-        (is-number text at (omega (arith, length-is text at, end_is)) (omega (arith, length-is text at, end_is)) (omega (arith, value-is)))
+        ∙ a_number text at
+        (is_number_lem text at (omega (arith, length_is text at, end_is)) (omega (arith, length_is text at, end_is)) (omega (arith, value_is)))

@@ -6,42 +6,42 @@ use Rattle.text.specs.declared.decimal.Reading.TheVariants.{Number, Nothing}
 
 -- ---- reading
 
-abbrev pub isDigit : ℕ → Bool
-isDigit byte = leb 48 byte && leb byte 57
+abbrev pub is_digit : ℕ → Bool
+is_digit byte = leb 48 byte && leb byte 57
 
 -- The digits that a text begins with.
 unfoldable pub leading : List ℕ → List ℕ
 leading [] = []
-leading (byte ∷ rest) = elim (isDigit byte) [ true ↦ byte ∷ leading rest | false ↦ [] ]
+leading (byte ∷ rest) = elim (is_digit byte) [ true ↦ byte ∷ leading rest | false ↦ [] ]
 
 -- The number that digits say, behind digits that say `sofar`: ten times what stands before a digit, plus the digit.
-unfoldable pub valueFrom : ℕ → List ℕ → ℕ
-valueFrom sofar [] = sofar
-valueFrom sofar (digit ∷ rest) = valueFrom (10 * sofar + (digit - 48)) rest
+unfoldable pub value_from : ℕ → List ℕ → ℕ
+value_from sofar [] = sofar
+value_from sofar (digit ∷ rest) = value_from (10 * sofar + (digit - 48)) rest
 
 -- The number that digits say. Leading zeros change nothing.
 abbrev pub value : List ℕ → ℕ
-value text = valueFrom 0 text
+value text = value_from 0 text
 
 -- ---- reading at a place
 
 -- The digits that begin at a place, the number that they say, and the place after them.
-unfoldable pub digitsAt : List ℕ → ℕ → List ℕ
+unfoldable pub digits_at : List ℕ → ℕ → List ℕ
 unfolding leading
-digitsAt text at = leading (drop at text)
+digits_at text at = leading (drop at text)
 
 unfoldable pub value_at : List ℕ → ℕ → ℕ
-unfolding digitsAt valueFrom
-value_at text at = value (digitsAt text at)
+unfolding digits_at value_from
+value_at text at = value (digits_at text at)
 
 unfoldable pub end_at : List ℕ → ℕ → ℕ
-unfolding digitsAt
-end_at text at = at + length (digitsAt text at)
+unfolding digits_at
+end_at text at = at + length (digits_at text at)
 
 -- A number of 16 bits: 1 to 5 digits, which say at most 65,535.
 unfoldable pub is_number : List ℕ → ℕ → Bool
-unfolding digitsAt value_at
-is_number text at = leb 1 (length (digitsAt text at)) && leb (length (digitsAt text at)) 5 && leb (value_at text at) 65535
+unfolding digits_at value_at
+is_number text at = leb 1 (length (digits_at text at)) && leb (length (digits_at text at)) 5 && leb (value_at text at) 65535
 
 -- The number at a place, and the place after its digits.
 unfoldable pub number_at : List ℕ → ℕ → Reading
@@ -49,24 +49,24 @@ unfolding is_number value_at end_at
 number_at text at = pick (is_number text at) (Number (value_at text at) (end_at text at)) Nothing
 
 -- What `digit_at` promises: the digit at a place, or 10.
-unfoldable pub digitAt : List ℕ → ℕ → ℕ
-digitAt text at = pick (isDigit (get_or text at 0)) (get_or text at 0 - 48) 10
+unfoldable pub digit_at : List ℕ → ℕ → ℕ
+digit_at text at = pick (is_digit (get_or text at 0)) (get_or text at 0 - 48) 10
 
 -- ---- writing
 
 -- The last digits of a number, as many as it has and at most `most`.
-unfoldable pub lastDigits : ℕ → ℕ → List ℕ
-lastDigits zero n = []
-lastDigits (suc most) n =
-    elim (ltb n 10) [ true ↦ (48 + n) ∷ [] | false ↦ lastDigits most (n / 10) ++ ((48 + n % 10) ∷ []) ]
+unfoldable pub last_digits : ℕ → ℕ → List ℕ
+last_digits zero n = []
+last_digits (suc most) n =
+    elim (ltb n 10) [ true ↦ (48 + n) ∷ [] | false ↦ last_digits most (n / 10) ++ ((48 + n % 10) ∷ []) ]
 
 -- A number in decimal, without leading zeros; n + 1 digits are always enough for n.
 unfoldable pub digits : ℕ → List ℕ
-unfolding lastDigits
-digits n = lastDigits (n + 1) n
+unfolding last_digits
+digits n = last_digits (n + 1) n
 
 -- What `number_len` promises of a number below 65,536.
 pub record DigitsLength (n r : ℕ) : Type 0 where
-  pub is-length : r ≡ length (digits n)
+  pub is_length : r ≡ length (digits n)
   pub some : 1 ≤ r
   pub few : r ≤ 5

@@ -8,7 +8,7 @@ use Rattle.text.specs.declared.decimal.Reading.TheVariants.{Number, Nothing}
 -- Theorem.
 pub record ExamplesHold : Type 0 where
   -- keys 0, 1 and 2, with 1, 2 and 3 times their number
-  pub in-turn : joined (λ k. replicate (k + 1) k) 3 ≡ 0 ∷ 1 ∷ 1 ∷ 2 ∷ 2 ∷ 2 ∷ []
+  pub in_turn_lem : joined (λ k. replicate (k + 1) k) 3 ≡ 0 ∷ 1 ∷ 1 ∷ 2 ∷ 2 ∷ 2 ∷ []
   pub numbers : map digits (0 ∷ 9 ∷ 10 ∷ 4096 ∷ 65535 ∷ [])
       ≡ (48 ∷ []) ∷ (57 ∷ []) ∷ (49 ∷ 48 ∷ []) ∷ (52 ∷ 48 ∷ 57 ∷ 54 ∷ []) ∷ (54 ∷ 53 ∷ 53 ∷ 51 ∷ 53 ∷ []) ∷ []
   -- "a12", from each of its places and past its end; "007", "65536", "000001"

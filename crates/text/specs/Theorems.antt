@@ -1,6 +1,6 @@
 -- What is written is read back: statements; their proofs stand in proofs/.
 use Rattle.std.specs.Prelude.{ℕ, ◌+◌, ◌<◌, false, List, ◌∷◌, ◌++◌, ◌≡◌, length}
-use Rattle.text.specs.Decimal.{isDigit, value, digits, DigitsLength, number_at}
+use Rattle.text.specs.Decimal.{is_digit, value, digits, DigitsLength, number_at}
 use Rattle.text.specs.LittleEndian.{le32, value32}
 use Rattle.text.specs.declared.decimal.Reading.TheVariants.{Number}
 
@@ -9,7 +9,7 @@ use Rattle.text.specs.declared.decimal.Reading.TheVariants.{Number}
 pub record DigitsReadBack : Type 0 where
   pub back : (n : ℕ) → value (digits n) ≡ n
   pub lengths : (n : ℕ) → n < 65536 → DigitsLength n (length (digits n))
-  pub in-text : (n byte : ℕ) (before rest : List ℕ) → n < 65536 → isDigit byte ≡ false
+  pub in_text : (n byte : ℕ) (before rest : List ℕ) → n < 65536 → is_digit byte ≡ false
       → number_at (before ++ (digits n ++ byte ∷ rest)) (length before) ≡ Number n (length before + length (digits n))
 
 -- Theorem: a number below 2³² is read back from its four bytes, whatever stands before and behind them.

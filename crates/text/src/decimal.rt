@@ -5,7 +5,7 @@
 ghost use Rattle.std.specs.Prelude.{◌≡◌, ◌+◌, ◌/◌, ◌≤◌, ◌<◌, ltb, [], ◌∷◌, ◌++◌};
 ghost use Rattle.answer.specs.Choice.{pick};
 ghost use Rattle.text.specs.Writing.{Room, Wrote};
-ghost use Rattle.text.specs.Decimal.{digits, DigitsLength, digitAt, number_at};
+ghost use Rattle.text.specs.Decimal.{digits, DigitsLength, digit_at, number_at};
 
 use crate::writer::put_byte;
 
@@ -117,7 +117,7 @@ pub fn put_number_then(out: &mut [u8], at: usize, n: u16, behind: u8) -> usize
 
 // The digit at a place, or 10 where there is none.
 fn digit_at(text: &[u8], at: usize) -> u32
-    ensures { result ≡ digitAt text.now at }
+    ensures { result ≡ digit_at text.now at }
 {
     if text.len() <= at {
         return 10;

@@ -5,6 +5,8 @@
 // entry point tests by question 10. Reading a decimal number asks for nothing.
 // specs/: what writing means, and texts joined over a range of keys (Writing); digits (Decimal); four bytes (LittleEndian); that
 // what is written is read back (Theorems). Nothing is assumed.
+#![tactic(auto)]
+
 pub mod decimal;
 pub mod little_endian;
 pub mod writer;

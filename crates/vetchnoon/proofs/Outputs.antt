@@ -12,149 +12,149 @@ use borrow.Author.Tests.{leb-true}
 use mir.Syntax.{w16, w32}
 use mir.Val.{SFits, to_z, of_z}
 use Rattle.answer.specs.Outcome.{Outcome, given, refused, ask, and_then}
-use Rattle.answer.specs.Lent.{heldIn, inRoom}
-use Rattle.answer.proofs.Asked.{given-same, asked-yes, asked-rest, ask-then}
-use Rattle.answer.proofs.Questions.{ask-none, ask-some}
-use Rattle.genchain.specs.Answers.{lettersOutcome, nameOutcome}
-use Rattle.genchain.specs.Chains.{chainOf}
-use Rattle.mos_layers.specs.Answers.{layersOutcome}
-use Rattle.mos_layers.specs.Layers.{layersOf}
-use Rattle.layout.specs.Answers.{getNoteName}
-use Rattle.layout.specs.Layouts.{Layout, layoutOutcome, Accepted}
-use Rattle.layout.specs.Names.{nameIn}
+use Rattle.answer.specs.Lent.{held_in, in_room}
+use Rattle.answer.proofs.Asked.{given_same, asked_yes, asked_rest, ask_then}
+use Rattle.answer.proofs.Questions.{ask_none, ask_some}
+use Rattle.genchain.specs.Answers.{letters_outcome, name_outcome}
+use Rattle.genchain.specs.Chains.{chain_of}
+use Rattle.mos_layers.specs.Answers.{layers_outcome}
+use Rattle.mos_layers.specs.Layers.{layers_of}
+use Rattle.layout.specs.Answers.{get_note_name}
+use Rattle.layout.specs.Layouts.{Layout, layout_outcome, Accepted}
+use Rattle.layout.specs.Names.{name_in}
 use Rattle.layout.specs.declared.IsomorphicLayout.{IsomorphicLayout}
-use Rattle.layout.proofs.Calls.{of-refused, of-given}
-use Rattle.layout.proofs.Finding.{accepted, octave-is}
-use Rattle.layout_book.specs.LayoutBooks.{bookIn, getBook}
-use Rattle.layout_book.proofs.NameBounds.{name-short}
-use Rattle.layout_book.proofs.Theorems.{offsets-fit}
+use Rattle.layout.proofs.Calls.{of_refused, of_given}
+use Rattle.layout.proofs.Finding.{accepted, octave_is}
+use Rattle.layout_book.specs.LayoutBooks.{book_in, get_book}
+use Rattle.layout_book.proofs.NameBounds.{name_short}
+use Rattle.layout_book.proofs.Theorems.{offsets_fit}
 use Rattle.layout_layers.specs.declared.Layer.{Layer}
-use Rattle.math.proofs.Signed.{read_back}
-use Rattle.mos.specs.Answers.{ofPattern, genesisOutcome, listingOutcome}
-use Rattle.mos.specs.Patterns.{isPattern, genesis, key_at}
-use Rattle.mos.specs.Walks.{children, firstWith, fields, listed}
+use Rattle.math.proofs.Signed.{read_back_lem}
+use Rattle.mos.specs.Answers.{of_pattern, genesis_outcome, listing_outcome}
+use Rattle.mos.specs.Patterns.{is_pattern, genesis, key_at}
+use Rattle.mos.specs.Walks.{children, first_with, fields, listed}
 use Rattle.mos.specs.declared.Mos.{Mos}
-use Rattle.mos.proofs.Theorems.{made-patterns}
-use Rattle.pergen.specs.Parts.{solvedOf}
-use Rattle.pergen.specs.Spelling.{starsOf}
+use Rattle.mos.proofs.Theorems.{made_patterns}
+use Rattle.pergen.specs.Parts.{solved_of}
+use Rattle.pergen.specs.Spelling.{stars_of}
 use Rattle.pergen.specs.declared.Generation.{Generation}
 use Rattle.pergen.specs.declared.euclid.Solved.{Solved}
-use Rattle.vetchnoon_codes.specs.Numbers.{asNumbers, walkNumbers}
-use Rattle.vetchnoon.specs.Written.{pergenNumbers, pergenOutput, presence, generationNumbers, findOutput, lettersOutput, nameOutput, layoutNumbers, layoutOutput, kindNumber, kindLevel, kindNumbers}
+use Rattle.vetchnoon_codes.specs.Numbers.{as_numbers, walk_numbers}
+use Rattle.vetchnoon.specs.Written.{pergen_numbers, pergen_output, presence, generation_numbers, find_output, letters_output, name_output, layout_numbers, layout_output, kind_number, kind_level, kind_numbers}
 
 -- ---- pergens
 
-abbrev solvedNumbers : Solved → List ℕ
-solvedNumbers s = s.num_cycles ∷ s.reduced_period ∷ s.generator_inverse ∷ []
+abbrev solved_numbers : Solved → List ℕ
+solved_numbers s = s.num_cycles ∷ s.reduced_period ∷ s.generator_inverse ∷ []
 
-solved-numbers : (P G : ℕ) (s : Solved) → s ≡ solvedOf P G → solvedNumbers s ≡ pergenNumbers P G
-unfolding pergenNumbers solvedOf
-solved-numbers P G s is = ap solvedNumbers is
+solved_numbers_lem : (P G : ℕ) (s : Solved) → s ≡ solved_of P G → solved_numbers s ≡ pergen_numbers P G
+unfolding pergen_numbers solved_of
+solved_numbers_lem P G s is = ap solved_numbers is
 
-pub pergen-refused : (P G : ℕ) → P ≡ 0 → refused 2 ≡ pergenOutput P G
-unfolding pergenOutput
-pergen-refused P G none = sym (ask-none 2 P _ none)
+pub pergen_refused : (P G : ℕ) → P ≡ 0 → refused 2 ≡ pergen_output P G
+unfolding pergen_output
+pergen_refused P G none = sym (ask_none 2 P _ none)
 
-pub pergen-given : (P G : ℕ) (s : Solved) → (P ≡ 0 → ⊥) → s ≡ solvedOf P G → given (solvedNumbers s) ≡ pergenOutput P G
-unfolding pergenOutput
-pergen-given P G s some is = ap given (solved-numbers P G s is) ∙ sym (ask-some 2 P _ some)
+pub pergen_given : (P G : ℕ) (s : Solved) → (P ≡ 0 → ⊥) → s ≡ solved_of P G → given (solved_numbers s) ≡ pergen_output P G
+unfolding pergen_output
+pergen_given P G s some is = ap given (solved_numbers_lem P G s is) ∙ sym (ask_some 2 P _ some)
 
-pub generation-given : {o : Outcome Generation} (g : Generation) (p s : ℕ) → given g ≡ o → p ≡ presence g.cycle → s ≡ starsOf g.cycle
-    → given (g.degree ∷ p ∷ s ∷ []) ≡ asNumbers generationNumbers o
-generation-given g p s e q r =
-    ap₂ (λ (x y : ℕ). given (g.degree ∷ x ∷ y ∷ [])) q r ∙ ap (asNumbers generationNumbers) e
+pub generation_given : {o : Outcome Generation} (g : Generation) (p s : ℕ) → given g ≡ o → p ≡ presence g.cycle → s ≡ stars_of g.cycle
+    → given (g.degree ∷ p ∷ s ∷ []) ≡ as_numbers generation_numbers o
+generation_given g p s e q r =
+    ap₂ (λ (x y : ℕ). given (g.degree ∷ x ∷ y ∷ [])) q r ∙ ap (as_numbers generation_numbers) e
 
 -- ---- step patterns
 
 module _ (P G steps : ℕ) where
   abbrev walked : Mos → Outcome (List ℕ)
-  walked m = given (walkNumbers (firstWith steps (children m)))
+  walked m = given (walk_numbers (first_with steps (children m)))
 
-  pub find-refused : (n : ℕ) → refused n ≡ genesisOutcome P G → refused n ≡ findOutput P G steps
-  unfolding findOutput
-  find-refused n e = ap (λ (o : Outcome Mos). and_then o walked) e
+  pub find_refused : (n : ℕ) → refused n ≡ genesis_outcome P G → refused n ≡ find_output P G steps
+  unfolding find_output
+  find_refused n e = ap (λ (o : Outcome Mos). and_then o walked) e
 
   -- a genesis is a pattern
-  genesis-pattern : (m : Mos) → P ≤ 65535 → given m ≡ genesisOutcome P G → isPattern m ≡ true
-  unfolding genesisOutcome
-  genesis-pattern m small e =
-      subst (λ (x : Mos). isPattern x ≡ true) (given-same (asked-rest 2 (leb 1 P) _ (sym e)))
-      (made-patterns.of-genesis P G (leb-true 1 P (asked-yes 2 (leb 1 P) _ (sym e))) small)
+  genesis_pattern : (m : Mos) → P ≤ 65535 → given m ≡ genesis_outcome P G → is_pattern m ≡ true
+  unfolding genesis_outcome
+  genesis_pattern m small e =
+      subst (λ (x : Mos). is_pattern x ≡ true) (given_same (asked_rest 2 (leb 1 P) _ (sym e)))
+      (made_patterns.of_genesis P G (leb-true 1 P (asked_yes 2 (leb 1 P) _ (sym e))) small)
 
-  pub find-given : (m : Mos) (w : Outcome (Option Mos)) → P ≤ 65535 → given m ≡ genesisOutcome P G
-      → w ≡ ofPattern m (firstWith steps (children m)) → asNumbers walkNumbers w ≡ findOutput P G steps
-  unfolding findOutput ofPattern
-  find-given m w small e q =
-      ap (asNumbers walkNumbers)
-      (q ∙ ap (λ (b : Bool). ask 7 b (given (firstWith steps (children m)))) (genesis-pattern m small e))
+  pub find_given : (m : Mos) (w : Outcome (Option Mos)) → P ≤ 65535 → given m ≡ genesis_outcome P G
+      → w ≡ of_pattern m (first_with steps (children m)) → as_numbers walk_numbers w ≡ find_output P G steps
+  unfolding find_output of_pattern
+  find_given m w small e q =
+      ap (as_numbers walk_numbers)
+      (q ∙ ap (λ (b : Bool). ask 7 b (given (first_with steps (children m)))) (genesis_pattern m small e))
       ∙ ap (λ (o : Outcome Mos). and_then o walked) e
 
-pub listing-in-room : (room : ℕ) (m : Mos) (patterns : List Mos) → inRoom room (ofPattern m (listed patterns)) ≡ listingOutcome m patterns room
-unfolding ofPattern listingOutcome
-listing-in-room room m patterns = ask-then 7 (isPattern m) (given (listed patterns)) (heldIn room)
+pub listing_in_room : (room : ℕ) (m : Mos) (patterns : List Mos) → in_room room (of_pattern m (listed patterns)) ≡ listing_outcome m patterns room
+unfolding of_pattern listing_outcome
+listing_in_room room m patterns = ask_then 7 (is_pattern m) (given (listed patterns)) (held_in room)
 
-pub layers-in-room : (room : ℕ) (m : Mos) → inRoom room (ofPattern m (layersOf m)) ≡ layersOutcome m room
-unfolding ofPattern layersOutcome
-layers-in-room room m = ask-then 7 (isPattern m) (given (layersOf m)) (heldIn room)
+pub layers_in_room : (room : ℕ) (m : Mos) → in_room room (of_pattern m (layers_of m)) ≡ layers_outcome m room
+unfolding of_pattern layers_outcome
+layers_in_room room m = ask_then 7 (is_pattern m) (given (layers_of m)) (held_in room)
 
 -- a key is a signed number, which comes as it is read back
-pub key-handed-on : {A : Type 0} (answer : ℤ → A) (key : ℤ) → SFits w32 key → answer (to_z w32 (of_z w32 key)) ≡ answer key
-key-handed-on answer key f = ap answer (read_back w32 key f)
+pub key_handed_on : {A : Type 0} (answer : ℤ → A) (key : ℤ) → SFits w32 key → answer (to_z w32 (of_z w32 key)) ≡ answer key
+key_handed_on answer key f = ap answer (read_back_lem w32 key f)
 
 -- a key's place is two signed numbers, which come as they are read back
-pub key-read-back : (m : Mos) (p s : ℤ) → SFits w16 p → SFits w16 s
-    → ofPattern m (key_at m (to_z w16 (of_z w16 p)) (to_z w16 (of_z w16 s))) ≡ ofPattern m (key_at m p s)
-key-read-back m p s f g = ap₂ (λ (x y : ℤ). ofPattern m (key_at m x y)) (read_back w16 p f) (read_back w16 s g)
+pub key_read_back : (m : Mos) (p s : ℤ) → SFits w16 p → SFits w16 s
+    → of_pattern m (key_at m (to_z w16 (of_z w16 p)) (to_z w16 (of_z w16 s))) ≡ of_pattern m (key_at m p s)
+key_read_back m p s f g = ap₂ (λ (x y : ℤ). of_pattern m (key_at m x y)) (read_back_lem w16 p f) (read_back_lem w16 s g)
 
 -- ---- chains
 
-pub letters-in-room : (room code : ℕ) → inRoom room (lettersOutput code) ≡ lettersOutcome code room
-unfolding lettersOutput lettersOutcome
-letters-in-room room code = ask-then 1 (ltb code 6) (given (chainOf code).letters) (heldIn room)
+pub letters_in_room : (room code : ℕ) → in_room room (letters_output code) ≡ letters_outcome code room
+unfolding letters_output letters_outcome
+letters_in_room room code = ask_then 1 (ltb code 6) (given (chain_of code).letters) (held_in room)
 
-pub name-in-room : (room code : ℕ) → inRoom room (nameOutput code) ≡ nameOutcome code room
-unfolding nameOutput nameOutcome
-name-in-room room code = ask-then 1 (ltb code 6) (given (chainOf code).name) (heldIn room)
+pub name_in_room : (room code : ℕ) → in_room room (name_output code) ≡ name_outcome code room
+unfolding name_output name_outcome
+name_in_room room code = ask_then 1 (ltb code 6) (given (chain_of code).name) (held_in room)
 
 -- ---- layers
 
-pub kind-given : {layer kind : Layer} (n k : ℕ) → layer ≡ kind → n ≡ kindNumber layer → k ≡ kindLevel layer → given (n ∷ k ∷ []) ≡ given (kindNumbers kind)
-kind-given n k is p q = ap₂ (λ (x y : ℕ). given (x ∷ y ∷ [])) p q ∙ ap (λ (l : Layer). given (kindNumbers l)) is
+pub kind_given : {layer kind : Layer} (n k : ℕ) → layer ≡ kind → n ≡ kind_number layer → k ≡ kind_level layer → given (n ∷ k ∷ []) ≡ given (kind_numbers kind)
+kind_given n k is p q = ap₂ (λ (x y : ℕ). given (x ∷ y ∷ [])) p q ∙ ap (λ (l : Layer). given (kind_numbers l)) is
 
 -- ---- layouts
 
 module _ (r : IsomorphicLayout) where
-  pub layout-refused : (n : ℕ) → refused n ≡ layoutOutcome r → refused n ≡ layoutOutput r
-  unfolding layoutOutput
-  layout-refused n e = of-refused r _ n e
+  pub layout_refused : (n : ℕ) → refused n ≡ layout_outcome r → refused n ≡ layout_output r
+  unfolding layout_output
+  layout_refused n e = of_refused r _ n e
 
-  pub layout-given : (l : Layout) (s : Solved) → given l ≡ layoutOutcome r → s ≡ solvedOf l.octave l.generator
-      → given (l.generator ∷ (solvedNumbers s ++ fields l.pattern)) ≡ layoutOutput r
-  unfolding layoutOutput layoutNumbers
-  layout-given l s e is =
-      ap (λ (x : List ℕ). given (l.generator ∷ (x ++ fields l.pattern))) (solved-numbers l.octave l.generator s is) ∙ of-given r _ l e
+  pub layout_given : (l : Layout) (s : Solved) → given l ≡ layout_outcome r → s ≡ solved_of l.octave l.generator
+      → given (l.generator ∷ (solved_numbers s ++ fields l.pattern)) ≡ layout_output r
+  unfolding layout_output layout_numbers
+  layout_given l s e is =
+      ap (λ (x : List ℕ). given (l.generator ∷ (x ++ fields l.pattern))) (solved_numbers_lem l.octave l.generator s is) ∙ of_given r _ l e
 
 -- ---- names and books are short enough to be counted
 
-fits-given : (o : Outcome Layout) (f : Layout → List ℕ) → ((l : Layout) → o ≡ given l → length (f l) < 2 ^ 63)
+fits_given : (o : Outcome Layout) (f : Layout → List ℕ) → ((l : Layout) → o ≡ given l → length (f l) < 2 ^ 63)
     → (text : List ℕ) → and_then o (λ (l : Layout). given (f l)) ≡ given text → length text < 2 ^ 63
-fits-given (given l) f h text e = subst (λ (t : List ℕ). length t < 2 ^ 63) (given-same e) (h l refl)
-fits-given (refused n) f h text e = absurd (let z : ◌≡◌ {A = ℕ} 0 1 = cc in omega arith)
+fits_given (given l) f h text e = subst (λ (t : List ℕ). length t < 2 ^ 63) (given_same e) (h l refl)
+fits_given (refused n) f h text e = absurd (let z : ◌≡◌ {A = ℕ} 0 1 = cc in omega arith)
 
 module _ (r : IsomorphicLayout) (small : r.octave ≤ 65535) where
-  octave-fits : (l : Layout) → Accepted r l → l.octave ≤ 65535
-  octave-fits l e = omega (arith, octave-is r l e)
+  octave_fits : (l : Layout) → Accepted r l → l.octave ≤ 65535
+  octave_fits l e = omega (arith, octave_is r l e)
 
-  name-fits : (key : ℤ) (l : Layout) → Accepted r l → length (nameIn l key) < 2 ^ 63
-  name-fits key l e = omega (arith, name-short l (accepted r l e) (octave-fits l e) key)
+  name_fits : (key : ℤ) (l : Layout) → Accepted r l → length (name_in l key) < 2 ^ 63
+  name_fits key l e = omega (arith, name_short l (accepted r l e) (octave_fits l e) key)
 
-  pub names-fit : (key : ℤ) (text : List ℕ) → getNoteName r key ≡ given text → length text < 2 ^ 63
-  unfolding getNoteName
-  names-fit key = fits-given _ (λ (l : Layout). nameIn l key) (name-fits key)
+  pub names_fit : (key : ℤ) (text : List ℕ) → get_note_name r key ≡ given text → length text < 2 ^ 63
+  unfolding get_note_name
+  names_fit key = fits_given _ (λ (l : Layout). name_in l key) (name_fits key)
 
-  book-fits : (l : Layout) → Accepted r l → length (bookIn l) < 2 ^ 63
-  book-fits l e = omega (arith, (offsets-fit r l e (octave-fits l e)).whole)
+  book_fits : (l : Layout) → Accepted r l → length (book_in l) < 2 ^ 63
+  book_fits l e = omega (arith, (offsets_fit r l e (octave_fits l e)).whole)
 
-  pub books-fit : (text : List ℕ) → getBook r ≡ given text → length text < 2 ^ 63
-  unfolding getBook
-  books-fit = fits-given _ bookIn book-fits
+  pub books_fit : (text : List ℕ) → get_book r ≡ given text → length text < 2 ^ 63
+  unfolding get_book
+  books_fit = fits_given _ book_in book_fits

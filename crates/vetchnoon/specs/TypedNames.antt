@@ -14,23 +14,23 @@ as_signed numbers (given a) = given (numbers a)
 as_signed numbers (refused n) = refused n
 
 -- As many sharps as the number is above 0, or flats as it is below.
-abbrev pub signsNumber : Signs → ℤ
-signsNumber (Sharps k) = pos k
-signsNumber (Flats k) = neg_ℤ (pos k)
+abbrev pub signs_number : Signs → ℤ
+signs_number (Sharps k) = pos k
+signs_number (Flats k) = neg_ℤ (pos k)
 
 -- A letter's index along the chain, signs and stars.
-abbrev pub spellingNumbers : Spelling → List ℤ
-spellingNumbers x = pos x.index ∷ signsNumber x.signs ∷ pos x.stars ∷ []
+abbrev pub spelling_numbers : Spelling → List ℤ
+spelling_numbers x = pos x.index ∷ signs_number x.signs ∷ pos x.stars ∷ []
 
 -- A verdict as a number.
-abbrev pub verdictNumber : Verdict → ℕ
-verdictNumber OneKey = 0
-verdictNumber OneChain = 1
-verdictNumber TwoChains = 2
+abbrev pub verdict_number : Verdict → ℕ
+verdict_number OneKey = 0
+verdict_number OneChain = 1
+verdict_number TwoChains = 2
 
 -- Both places, both stars, both keys, how far apart the places are, the reduced period, the verdict.
-abbrev pub explanationNumbers : Explanation → List ℤ
-explanationNumbers e =
+abbrev pub explanation_numbers : Explanation → List ℤ
+explanation_numbers e =
     e.first.place
     ∷ e.second.place
     ∷ pos e.first.stars
@@ -39,5 +39,5 @@ explanationNumbers e =
     ∷ pos e.second.key
     ∷ pos e.apart
     ∷ pos e.reduced_period
-    ∷ pos (verdictNumber e.verdict)
+    ∷ pos (verdict_number e.verdict)
     ∷ []

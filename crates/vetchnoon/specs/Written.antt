@@ -2,19 +2,19 @@
 use Rattle.std.specs.Prelude.{ℕ, List, [], ◌∷◌, ◌++◌, leb, ℤ}
 use Rattle.answer.specs.Outcome.{Outcome, given, ask, and_then}
 use Rattle.book.specs.declared.Place.{Place}
-use Rattle.book.specs.Books.{findOutcome}
-use Rattle.vetchnoon_codes.specs.Numbers.{asNumbers, walkNumbers}
-use Rattle.genchain.specs.Answers.{askChain}
-use Rattle.genchain.specs.Chains.{chainOf}
+use Rattle.book.specs.Books.{find_outcome}
+use Rattle.vetchnoon_codes.specs.Numbers.{as_numbers, walk_numbers}
+use Rattle.genchain.specs.Answers.{ask_chain}
+use Rattle.genchain.specs.Chains.{chain_of}
 use Rattle.layout.specs.declared.IsomorphicLayout.{IsomorphicLayout}
-use Rattle.layout.specs.Layouts.{Layout, layoutOutcome}
-use Rattle.layout.specs.Answers.{ofLayout}
+use Rattle.layout.specs.Layouts.{Layout, layout_outcome}
+use Rattle.layout.specs.Answers.{of_layout}
 use Rattle.layout_layers.specs.declared.Layer.{Layer}
 use Rattle.layout_layers.specs.declared.Layer.TheVariants.{Natural, Sharp, Enharmonic, Flat}
 use Rattle.layout_retuning.specs.declared.Retuning.{Retuning}
 use Rattle.mos.specs.declared.Mos.{Mos}
-use Rattle.mos.specs.Walks.{children, firstWith, fields}
-use Rattle.mos.specs.Answers.{genesisOutcome}
+use Rattle.mos.specs.Walks.{children, first_with, fields}
+use Rattle.mos.specs.Answers.{genesis_outcome}
 use Rattle.pergen.specs.declared.AccidentalsFormat.{AccidentalsFormat}
 use Rattle.pergen.specs.declared.Cycle.{Cycle}
 use Rattle.pergen.specs.declared.Cycle.TheVariants.{Absent, Number}
@@ -22,7 +22,7 @@ use Rattle.pergen.specs.declared.Generation.{Generation}
 use Rattle.pergen.specs.declared.PerGen.{PerGen}
 use Rattle.pergen.specs.declared.Spelling.{Spelling}
 use Rattle.pergen.specs.Pergen.{cycles, reduced, inverse}
-use Rattle.pergen.specs.Spelling.{signsOf, starsOf}
+use Rattle.pergen.specs.Spelling.{signs_of, stars_of}
 
 -- ---- the records that a call's numbers make
 
@@ -45,19 +45,19 @@ retuning code octave start from to =
 
 -- A letter's index along the chain, a signed number of signs, and stars.
 abbrev pub spelling : ℕ → ℤ → ℕ → Spelling
-spelling letter signs stars = record { index = letter; signs = signsOf signs; stars = stars }
+spelling letter signs stars = record { index = letter; signs = signs_of signs; stars = stars }
 
 -- ---- pergens
 
 -- "n their greatest common divisor (cycles), R = P / n the reduced period", the inverse.
-unfoldable pub pergenNumbers : ℕ → ℕ → List ℕ
+unfoldable pub pergen_numbers : ℕ → ℕ → List ℕ
 unfolding inverse
-pergenNumbers P G = cycles P G ∷ reduced P G ∷ inverse P G ∷ []
+pergen_numbers P G = cycles P G ∷ reduced P G ∷ inverse P G ∷ []
 
 -- Question 2, then these.
-unfoldable pub pergenOutput : ℕ → ℕ → Outcome (List ℕ)
-unfolding pergenNumbers
-pergenOutput P G = ask 2 (leb 1 P) (given (pergenNumbers P G))
+unfoldable pub pergen_output : ℕ → ℕ → Outcome (List ℕ)
+unfolding pergen_numbers
+pergen_output P G = ask 2 (leb 1 P) (given (pergen_numbers P G))
 
 -- 1 if a cycle is present, else 0.
 abbrev pub presence : Cycle → ℕ
@@ -65,62 +65,62 @@ presence Absent = 0
 presence (Number c) = 1
 
 -- The degree, whether a cycle is present, and the cycle, 0 where it is absent.
-abbrev pub generationNumbers : Generation → List ℕ
-generationNumbers g = g.degree ∷ presence g.cycle ∷ starsOf g.cycle ∷ []
+abbrev pub generation_numbers : Generation → List ℕ
+generation_numbers g = g.degree ∷ presence g.cycle ∷ stars_of g.cycle ∷ []
 
 -- ---- step patterns
 
 -- Question 2, then the pattern with so many steps on the walk from the genesis.
-unfoldable pub findOutput : ℕ → ℕ → ℕ → Outcome (List ℕ)
-unfolding genesisOutcome children
-findOutput P G steps =
-    and_then (genesisOutcome P G) (λ (m : Mos). given (walkNumbers (firstWith steps (children m))))
+unfoldable pub find_output : ℕ → ℕ → ℕ → Outcome (List ℕ)
+unfolding genesis_outcome children
+find_output P G steps =
+    and_then (genesis_outcome P G) (λ (m : Mos). given (walk_numbers (first_with steps (children m))))
 
 -- ---- chains: question 1, then the column "letters" or "chain" of the table
 
-unfoldable pub lettersOutput : ℕ → Outcome (List ℕ)
-unfolding chainOf
-lettersOutput code = askChain code (given (chainOf code).letters)
+unfoldable pub letters_output : ℕ → Outcome (List ℕ)
+unfolding chain_of
+letters_output code = ask_chain code (given (chain_of code).letters)
 
-unfoldable pub nameOutput : ℕ → Outcome (List ℕ)
-unfolding chainOf
-nameOutput code = askChain code (given (chainOf code).name)
+unfoldable pub name_output : ℕ → Outcome (List ℕ)
+unfolding chain_of
+name_output code = ask_chain code (given (chain_of code).name)
 
 -- ---- layouts
 
 -- The generator, the pergen's numbers and the pattern's.
-unfoldable pub layoutNumbers : Layout → List ℕ
-unfolding pergenNumbers
-layoutNumbers l = l.generator ∷ (pergenNumbers l.octave l.generator ++ fields l.pattern)
+unfoldable pub layout_numbers : Layout → List ℕ
+unfolding pergen_numbers
+layout_numbers l = l.generator ∷ (pergen_numbers l.octave l.generator ++ fields l.pattern)
 
 -- Questions 1 to 4 and 18, then these.
-unfoldable pub layoutOutput : IsomorphicLayout → Outcome (List ℕ)
-unfolding layoutOutcome layoutNumbers
-layoutOutput r = ofLayout r (λ (l : Layout). given (layoutNumbers l))
+unfoldable pub layout_output : IsomorphicLayout → Outcome (List ℕ)
+unfolding layout_outcome layout_numbers
+layout_output r = of_layout r (λ (l : Layout). given (layout_numbers l))
 
 -- A layer's kind as a number, in the order in which "Step patterns" names the kinds.
-abbrev pub kindNumber : Layer → ℕ
-kindNumber Natural = 0
-kindNumber (Sharp k) = 1
-kindNumber (Enharmonic k) = 2
-kindNumber (Flat k) = 3
+abbrev pub kind_number : Layer → ℕ
+kind_number Natural = 0
+kind_number (Sharp k) = 1
+kind_number (Enharmonic k) = 2
+kind_number (Flat k) = 3
 
 -- "sharp j − 1", "enharmonic j − 1", "flat T − j − 1": which of its kind it is; the natural layer is the only one.
-abbrev pub kindLevel : Layer → ℕ
-kindLevel Natural = 0
-kindLevel (Sharp k) = k
-kindLevel (Enharmonic k) = k
-kindLevel (Flat k) = k
+abbrev pub kind_level : Layer → ℕ
+kind_level Natural = 0
+kind_level (Sharp k) = k
+kind_level (Enharmonic k) = k
+kind_level (Flat k) = k
 
-abbrev pub kindNumbers : Layer → List ℕ
-kindNumbers layer = kindNumber layer ∷ kindLevel layer ∷ []
+abbrev pub kind_numbers : Layer → List ℕ
+kind_numbers layer = kind_number layer ∷ kind_level layer ∷ []
 
 -- ---- books
 
 -- "an offset and a length"
-abbrev pub placeNumbers : Place → List ℕ
-placeNumbers place = place.offset ∷ place.length ∷ []
+abbrev pub place_numbers : Place → List ℕ
+place_numbers place = place.offset ∷ place.length ∷ []
 
 -- Question 10, of a slice with `room` elements: two numbers are written, whatever the book. Then 11 to 13, and the place of the name.
-abbrev pub pairOutput : ℕ → List ℕ → ℤ → Outcome (List ℕ)
-pairOutput room book key = ask 10 (leb 2 room) (asNumbers placeNumbers (findOutcome book key))
+abbrev pub pair_output : ℕ → List ℕ → ℤ → Outcome (List ℕ)
+pair_output room book key = ask 10 (leb 2 room) (as_numbers place_numbers (find_outcome book key))

@@ -1,7 +1,7 @@
 // The board: a list in chain order and back in key order, and the moves of a layout and of a whole walk.
-ghost use Rattle.layout_moves.specs.Answers.{getMoveNumbers};
-ghost use Rattle.layout_order.specs.Answers.{getChainOrder, getKeyOrder};
-ghost use Rattle.mos_moves.specs.Answers.{getWalkMoves};
+ghost use Rattle.layout_moves.specs.Answers.{get_move_numbers};
+ghost use Rattle.layout_order.specs.Answers.{get_chain_order, get_key_order};
+ghost use Rattle.mos_moves.specs.Answers.{get_walk_moves};
 ghost use Rattle.vetchnoon_codes.specs.Codes.{Fills};
 ghost use Rattle.vetchnoon.specs.Written.{layout};
 
@@ -17,7 +17,7 @@ pub extern "C" fn vn_to_chain_order(
     keys: &[u16],
     out: &mut [u16],
 ) -> i64
-    ensures { Fills (getChainOrder (layout chain octave tritave start) keys.now) result out.old out.new }
+    ensures { Fills (get_chain_order (layout chain octave tritave start) keys.now) result out.old out.new }
 {
     let layout = IsomorphicLayout {
         genchain: chain,
@@ -38,7 +38,7 @@ pub extern "C" fn vn_to_key_order(
     keys: &[u16],
     out: &mut [u16],
 ) -> i64
-    ensures { Fills (getKeyOrder (layout chain octave tritave start) keys.now) result out.old out.new }
+    ensures { Fills (get_key_order (layout chain octave tritave start) keys.now) result out.old out.new }
 {
     let layout = IsomorphicLayout {
         genchain: chain,
@@ -58,7 +58,7 @@ pub extern "C" fn vn_moves(
     start: u16,
     out: &mut [i32],
 ) -> i64
-    ensures { Fills (getMoveNumbers (layout chain octave tritave start)) result out.old out.new }
+    ensures { Fills (get_move_numbers (layout chain octave tritave start)) result out.old out.new }
 {
     let layout = IsomorphicLayout {
         genchain: chain,
@@ -72,7 +72,7 @@ pub extern "C" fn vn_moves(
 // The moves of all patterns of the walk from a genesis, four numbers each (2, 10).
 #[unsafe(no_mangle)]
 pub extern "C" fn vn_walk_moves(period: u16, generator: u16, out: &mut [i32]) -> i64
-    ensures { Fills (getWalkMoves period generator) result out.old out.new }
+    ensures { Fills (get_walk_moves period generator) result out.old out.new }
 {
     vetchnoon_codes::count(mos_moves::walk_moves(period, generator, out))
 }

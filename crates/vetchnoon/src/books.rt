@@ -2,10 +2,10 @@
 ghost use Rattle.std.specs.Prelude.{◌≡◌, length};
 ghost use Rattle.answer.specs.Lent.{counted};
 ghost use Rattle.answer.specs.Outcome.{given};
-ghost use Rattle.layout_book.specs.LayoutBooks.{getBook};
+ghost use Rattle.layout_book.specs.LayoutBooks.{get_book};
 ghost use Rattle.layout_table.specs.Tables.{output};
 ghost use Rattle.vetchnoon_codes.specs.Codes.{code_of, Fills};
-ghost use Rattle.vetchnoon.specs.Written.{layout, pairOutput};
+ghost use Rattle.vetchnoon.specs.Written.{layout, pair_output};
 
 use answer::Refusal;
 use book::FindAnswer;
@@ -14,7 +14,7 @@ use layout::IsomorphicLayout;
 // How many bytes a layout's book has (1, 2, 3, 4, 18).
 #[unsafe(no_mangle)]
 pub extern "C" fn vn_book_len(chain: u16, octave: u16, tritave: u16, start: u16) -> i64
-    ensures { result ≡ code_of (counted (getBook (layout chain octave tritave start))) }
+    ensures { result ≡ code_of (counted (get_book (layout chain octave tritave start))) }
 {
     let layout = IsomorphicLayout {
         genchain: chain,
@@ -28,7 +28,7 @@ pub extern "C" fn vn_book_len(chain: u16, octave: u16, tritave: u16, start: u16)
 // The book of a layout's key names (1, 2, 3, 4, 18, 10).
 #[unsafe(no_mangle)]
 pub extern "C" fn vn_book(chain: u16, octave: u16, tritave: u16, start: u16, out: &mut [u8]) -> i64
-    ensures { Fills (getBook (layout chain octave tritave start)) result out.old out.new }
+    ensures { Fills (get_book (layout chain octave tritave start)) result out.old out.new }
 {
     let layout = IsomorphicLayout {
         genchain: chain,
@@ -42,7 +42,7 @@ pub extern "C" fn vn_book(chain: u16, octave: u16, tritave: u16, start: u16, out
 // Offset and length of a key's name in a book (10, 11, 12, 13).
 #[unsafe(no_mangle)]
 pub extern "C" fn vn_book_find(book: &[u8], key: i32, out: &mut [u32]) -> i64
-    ensures { Fills (pairOutput (length out.old) book.now key) result out.old out.new }
+    ensures { Fills (pair_output (length out.old) book.now key) result out.old out.new }
 {
     if out.len() < 2 {
         return vetchnoon_codes::refused(Refusal::Room);

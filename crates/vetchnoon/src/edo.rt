@@ -1,16 +1,16 @@
 // Octave divisions: the choices for the tritave, the layouts of all chains, and the report over all divisions.
 ghost use Rattle.answer.specs.Outcome.{given};
-ghost use Rattle.edo_tritaves.specs.Tritaves.{choiceNumbers, tritavesOf};
-ghost use Rattle.edo_layouts.specs.Layouts.{findByEdo};
+ghost use Rattle.edo_tritaves.specs.Tritaves.{choice_numbers, tritaves_of};
+ghost use Rattle.edo_layouts.specs.Layouts.{find_by_edo};
 ghost use Rattle.edo_counts.specs.Counts.{report};
 ghost use Rattle.vetchnoon_codes.specs.Codes.{Fills};
-ghost use Rattle.vetchnoon_codes.specs.Numbers.{asNumbers};
+ghost use Rattle.vetchnoon_codes.specs.Numbers.{as_numbers};
 
 use edo_tritaves::{Choices, TritavesAnswer};
 
 // One number, or two (10).
 fn put_choices(out: &mut [u16], choices: Choices) -> i64
-    ensures { Fills (given (choiceNumbers choices)) result out.old out.new }
+    ensures { Fills (given (choice_numbers choices)) result out.old out.new }
 {
     if choices.second == 0 {
         let numbers: [u16; 1] = [choices.first];
@@ -23,7 +23,7 @@ fn put_choices(out: &mut [u16], choices: Choices) -> i64
 // How many steps make a tritave where n make an octave: the first choice, and the second where there is one (15, 10).
 #[unsafe(no_mangle)]
 pub extern "C" fn vn_tritaves(n: u16, out: &mut [u16]) -> i64
-    ensures { Fills (asNumbers choiceNumbers (tritavesOf n)) result out.old out.new }
+    ensures { Fills (as_numbers choice_numbers (tritaves_of n)) result out.old out.new }
 {
     match edo_tritaves::tritaves(n) {
         TritavesAnswer::Refused(q) => vetchnoon_codes::refused(q),
@@ -35,7 +35,7 @@ pub extern "C" fn vn_tritaves(n: u16, out: &mut [u16]) -> i64
 // (15, 10).
 #[unsafe(no_mangle)]
 pub extern "C" fn vn_find_by_edo(n: u16, out: &mut [u16]) -> i64
-    ensures { Fills (findByEdo n) result out.old out.new }
+    ensures { Fills (find_by_edo n) result out.old out.new }
 {
     vetchnoon_codes::count(edo_layouts::find_by_edo(n, out))
 }

@@ -2,10 +2,10 @@
 ghost use Rattle.std.specs.Prelude.{◌≡◌, ◌<◌, ◌^◌, pos};
 ghost use Rattle.answer.specs.Lent.{counted};
 ghost use Rattle.answer.specs.Outcome.{given};
-ghost use Rattle.layout_explaining.specs.Answers.{getExplanation, getExplanationText};
+ghost use Rattle.layout_explaining.specs.Answers.{get_explanation, get_explanation_text};
 ghost use Rattle.vetchnoon_codes.specs.Codes.{code_of, Fills};
 ghost use Rattle.vetchnoon.specs.Written.{layout};
-ghost use Rattle.vetchnoon.specs.TypedNames.{as_signed, verdictNumber, explanationNumbers};
+ghost use Rattle.vetchnoon.specs.TypedNames.{as_signed, verdict_number, explanation_numbers};
 
 use answer::Refusal;
 use layout::IsomorphicLayout;
@@ -13,7 +13,7 @@ use layout_explaining::{Explanation, ExplanationAnswer, Verdict};
 
 // A verdict: the numbers of VN_ONE_KEY, VN_TWO_ON_ONE_CHAIN and VN_TWO_ON_DIFFERENT_CHAINS.
 fn verdict_number(verdict: Verdict) -> u16
-    ensures { result ≡ verdictNumber verdict }
+    ensures { result ≡ verdict_number verdict }
 {
     match verdict {
         Verdict::OneKey => 0,
@@ -25,7 +25,7 @@ fn verdict_number(verdict: Verdict) -> u16
 // Both places, both stars, both keys, how far apart, the reduced period and the verdict (10).
 fn put_explanation(out: &mut [i64], explanation: Explanation) -> i64
     requires { explanation.apart < 2 ^ 63 }
-    ensures { Fills (given (explanationNumbers explanation)) result out.old out.new }
+    ensures { Fills (given (explanation_numbers explanation)) result out.old out.new }
 {
     if out.len() < 9 {
         return vetchnoon_codes::refused(Refusal::Room);
@@ -60,7 +60,7 @@ pub extern "C" fn vn_explain(
     second: &[u8],
     out: &mut [i64],
 ) -> i64
-    ensures { Fills (as_signed explanationNumbers (getExplanation (layout chain octave tritave start) first.now second.now)) result out.old out.new }
+    ensures { Fills (as_signed explanation_numbers (get_explanation (layout chain octave tritave start) first.now second.now)) result out.old out.new }
 {
     let layout = IsomorphicLayout {
         genchain: chain,
@@ -84,7 +84,7 @@ pub extern "C" fn vn_explain_text_len(
     first: &[u8],
     second: &[u8],
 ) -> i64
-    ensures { result ≡ code_of (counted (getExplanationText (layout chain octave tritave start) first.now second.now)) }
+    ensures { result ≡ code_of (counted (get_explanation_text (layout chain octave tritave start) first.now second.now)) }
 {
     let layout = IsomorphicLayout {
         genchain: chain,
@@ -106,7 +106,7 @@ pub extern "C" fn vn_explain_text(
     second: &[u8],
     out: &mut [u8],
 ) -> i64
-    ensures { Fills (getExplanationText (layout chain octave tritave start) first.now second.now) result out.old out.new }
+    ensures { Fills (get_explanation_text (layout chain octave tritave start) first.now second.now) result out.old out.new }
 {
     let layout = IsomorphicLayout {
         genchain: chain,

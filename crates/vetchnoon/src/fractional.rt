@@ -1,11 +1,11 @@
 // Step patterns from a fractional generator (document 02, W-213): a pattern is a struct of its counts and its steps.
 ghost use Rattle.std.specs.Prelude.{◌≡◌};
 ghost use Rattle.answer.specs.Outcome.{given};
-ghost use Rattle.mos_fractional.specs.Fractional.{childOf};
-ghost use Rattle.mos_fractional.specs.Walk.{childrenFrom};
-ghost use Rattle.mos_fractional.specs.Answers.{ofGenerator, lengthOutcome};
+ghost use Rattle.mos_fractional.specs.Fractional.{child_of};
+ghost use Rattle.mos_fractional.specs.Walk.{children_from};
+ghost use Rattle.mos_fractional.specs.Answers.{of_generator, length_outcome};
 ghost use Rattle.vetchnoon_codes.specs.Codes.{code_of, Fills};
-ghost use Rattle.vetchnoon.specs.FractionalPatterns.{childPatterns, PlansChild};
+ghost use Rattle.vetchnoon.specs.FractionalPatterns.{child_patterns, PlansChild};
 
 use answer::Refusal;
 use mos_fractional::{ChildAnswer, FractionalMos};
@@ -49,7 +49,7 @@ pub(crate) fn plan_child(pattern: FractionalMos, room: usize) -> ChildPlan
 // The child, or nothing (10).
 #[unsafe(no_mangle)]
 pub extern "C" fn vn_fractional_child(pattern: FractionalMos, out: &mut [FractionalMos]) -> i64
-    ensures { Fills (given (childPatterns (childOf pattern))) result out.old out.new }
+    ensures { Fills (given (child_patterns (child_of pattern))) result out.old out.new }
 {
     let plan = plan_child(pattern, out.len());
     let stores = plan.stores;
@@ -62,7 +62,7 @@ pub extern "C" fn vn_fractional_child(pattern: FractionalMos, out: &mut [Fractio
 // How many patterns a generator's walk has (22).
 #[unsafe(no_mangle)]
 pub extern "C" fn vn_fractional_children_len(generator: f64) -> i64
-    ensures { result ≡ code_of (lengthOutcome generator) }
+    ensures { result ≡ code_of (length_outcome generator) }
 {
     vetchnoon_codes::count(mos_fractional::children_len(generator))
 }
@@ -70,7 +70,7 @@ pub extern "C" fn vn_fractional_children_len(generator: f64) -> i64
 // All patterns of that walk, the genesis first (22, 10).
 #[unsafe(no_mangle)]
 pub extern "C" fn vn_fractional_children(generator: f64, out: &mut [FractionalMos]) -> i64
-    ensures { Fills (ofGenerator generator (childrenFrom generator)) result out.old out.new }
+    ensures { Fills (of_generator generator (children_from generator)) result out.old out.new }
 {
     vetchnoon_codes::count(mos_fractional::children(generator, out))
 }

@@ -1,7 +1,7 @@
 // Scala keyboard mappings: the file of a layout, how long it is, and which keys such a file maps.
 ghost use Rattle.std.specs.Prelude.{◌≡◌};
 ghost use Rattle.answer.specs.Lent.{counted};
-ghost use Rattle.layout_kbm.specs.Mappings.{getKbm, getMappedKeys};
+ghost use Rattle.layout_kbm.specs.Mappings.{get_kbm, get_mapped_keys};
 ghost use Rattle.vetchnoon_codes.specs.Codes.{code_of, Fills};
 ghost use Rattle.vetchnoon.specs.Written.{layout};
 
@@ -10,7 +10,7 @@ use layout::IsomorphicLayout;
 // How many bytes the keyboard mapping of a layout has (1, 2, 3, 4, 18).
 #[unsafe(no_mangle)]
 pub extern "C" fn vn_kbm_len(chain: u16, octave: u16, tritave: u16, start: u16) -> i64
-    ensures { result ≡ code_of (counted (getKbm (layout chain octave tritave start))) }
+    ensures { result ≡ code_of (counted (get_kbm (layout chain octave tritave start))) }
 {
     let layout = IsomorphicLayout {
         genchain: chain,
@@ -24,7 +24,7 @@ pub extern "C" fn vn_kbm_len(chain: u16, octave: u16, tritave: u16, start: u16) 
 // The keyboard mapping of a layout, which maps its natural keys (1, 2, 3, 4, 18, 10).
 #[unsafe(no_mangle)]
 pub extern "C" fn vn_kbm(chain: u16, octave: u16, tritave: u16, start: u16, out: &mut [u8]) -> i64
-    ensures { Fills (getKbm (layout chain octave tritave start)) result out.old out.new }
+    ensures { Fills (get_kbm (layout chain octave tritave start)) result out.old out.new }
 {
     let layout = IsomorphicLayout {
         genchain: chain,
@@ -45,7 +45,7 @@ pub extern "C" fn vn_kbm_read(
     text: &[u8],
     out: &mut [u16],
 ) -> i64
-    ensures { Fills (getMappedKeys (layout chain octave tritave start) text.now) result out.old out.new }
+    ensures { Fills (get_mapped_keys (layout chain octave tritave start) text.now) result out.old out.new }
 {
     let layout = IsomorphicLayout {
         genchain: chain,

@@ -2,13 +2,13 @@
 ghost use Rattle.std.specs.Prelude.{◌≡◌};
 ghost use Rattle.answer.specs.Lent.{counted};
 ghost use Rattle.answer.specs.Outcome.{given};
-ghost use Rattle.layout_lamps.specs.Answers.{getStrip, getLamp};
-ghost use Rattle.layout.specs.Answers.{getAccidentals, getScaleName, getNoteName, getSoundedKey};
-ghost use Rattle.layout_layers.specs.Answers.{getLayers, getLayerCount, getLayer};
+ghost use Rattle.layout_lamps.specs.Answers.{get_strip, get_lamp};
+ghost use Rattle.layout.specs.Answers.{get_accidentals, get_scale_name, get_note_name, get_sounded_key};
+ghost use Rattle.layout_layers.specs.Answers.{get_layers, get_layer_count, get_layer};
 ghost use Rattle.layout_layers.specs.KeyLayers.{kind_of};
 ghost use Rattle.vetchnoon_codes.specs.Codes.{code_of, Fills};
-ghost use Rattle.vetchnoon_codes.specs.Numbers.{asNumbers, accidentalsNumbers};
-ghost use Rattle.vetchnoon.specs.Written.{layout, layoutOutput, spelling, kindNumber, kindLevel, kindNumbers};
+ghost use Rattle.vetchnoon_codes.specs.Numbers.{as_numbers, accidentals_numbers};
+ghost use Rattle.vetchnoon.specs.Written.{layout, layout_output, spelling, kind_number, kind_level, kind_numbers};
 
 use layout::IsomorphicLayout;
 use layout::parts::FoundAnswer;
@@ -24,7 +24,7 @@ pub extern "C" fn vn_layout(
     start: u16,
     out: &mut [u16],
 ) -> i64
-    ensures { Fills (layoutOutput (layout chain octave tritave start)) result out.old out.new }
+    ensures { Fills (layout_output (layout chain octave tritave start)) result out.old out.new }
 {
     let layout = IsomorphicLayout {
         genchain: chain,
@@ -62,7 +62,7 @@ pub extern "C" fn vn_scale_name(
     start: u16,
     out: &mut [u8],
 ) -> i64
-    ensures { Fills (getScaleName (layout chain octave tritave start)) result out.old out.new }
+    ensures { Fills (get_scale_name (layout chain octave tritave start)) result out.old out.new }
 {
     let layout = IsomorphicLayout {
         genchain: chain,
@@ -82,7 +82,7 @@ pub extern "C" fn vn_note_name_len(
     start: u16,
     key: i32,
 ) -> i64
-    ensures { result ≡ code_of (counted (getNoteName (layout chain octave tritave start) key)) }
+    ensures { result ≡ code_of (counted (get_note_name (layout chain octave tritave start) key)) }
 {
     let layout = IsomorphicLayout {
         genchain: chain,
@@ -103,7 +103,7 @@ pub extern "C" fn vn_note_name(
     key: i32,
     out: &mut [u8],
 ) -> i64
-    ensures { Fills (getNoteName (layout chain octave tritave start) key) result out.old out.new }
+    ensures { Fills (get_note_name (layout chain octave tritave start) key) result out.old out.new }
 {
     let layout = IsomorphicLayout {
         genchain: chain,
@@ -124,7 +124,7 @@ pub extern "C" fn vn_layout_accidentals(
     key: i32,
     out: &mut [u16],
 ) -> i64
-    ensures { Fills (asNumbers accidentalsNumbers (getAccidentals (layout chain octave tritave start) key)) result out.old out.new }
+    ensures { Fills (as_numbers accidentals_numbers (get_accidentals (layout chain octave tritave start) key)) result out.old out.new }
 {
     let layout = IsomorphicLayout {
         genchain: chain,
@@ -146,7 +146,7 @@ pub extern "C" fn vn_sounded_key(
     signs: i32,
     stars: u16,
 ) -> i64
-    ensures { result ≡ code_of (getSoundedKey (layout chain octave tritave start) (spelling letter signs stars)) }
+    ensures { result ≡ code_of (get_sounded_key (layout chain octave tritave start) (spelling letter signs stars)) }
 {
     let layout = IsomorphicLayout {
         genchain: chain,
@@ -165,7 +165,7 @@ pub extern "C" fn vn_sounded_key(
 // How many layer numbers there are (1, 2, 3, 4, 18).
 #[unsafe(no_mangle)]
 pub extern "C" fn vn_layer_count(chain: u16, octave: u16, tritave: u16, start: u16) -> i64
-    ensures { result ≡ code_of (getLayerCount (layout chain octave tritave start)) }
+    ensures { result ≡ code_of (get_layer_count (layout chain octave tritave start)) }
 {
     let layout = IsomorphicLayout {
         genchain: chain,
@@ -185,7 +185,7 @@ pub extern "C" fn vn_layout_layers(
     start: u16,
     out: &mut [u16],
 ) -> i64
-    ensures { Fills (getLayers (layout chain octave tritave start)) result out.old out.new }
+    ensures { Fills (get_layers (layout chain octave tritave start)) result out.old out.new }
 {
     let layout = IsomorphicLayout {
         genchain: chain,
@@ -199,7 +199,7 @@ pub extern "C" fn vn_layout_layers(
 // The layer number of one key (1, 2, 3, 4, 18).
 #[unsafe(no_mangle)]
 pub extern "C" fn vn_layer(chain: u16, octave: u16, tritave: u16, start: u16, key: i32) -> i64
-    ensures { result ≡ code_of (getLayer (layout chain octave tritave start) key) }
+    ensures { result ≡ code_of (get_layer (layout chain octave tritave start) key) }
 {
     let layout = IsomorphicLayout {
         genchain: chain,
@@ -212,7 +212,7 @@ pub extern "C" fn vn_layer(chain: u16, octave: u16, tritave: u16, start: u16, ke
 
 // A kind of layer: the numbers of VN_NATURAL, VN_SHARP, VN_ENHARMONIC and VN_FLAT.
 fn kind_number(layer: Layer) -> u16
-    ensures { result ≡ kindNumber layer }
+    ensures { result ≡ kind_number layer }
 {
     match layer {
         Layer::Natural => 0,
@@ -224,7 +224,7 @@ fn kind_number(layer: Layer) -> u16
 
 // Which of its kind a layer is, from 0; 0 for the natural one.
 fn kind_level(layer: Layer) -> u16
-    ensures { result ≡ kindLevel layer }
+    ensures { result ≡ kind_level layer }
 {
     match layer {
         Layer::Natural => 0,
@@ -237,7 +237,7 @@ fn kind_level(layer: Layer) -> u16
 // What a layer's number means, of as many as `total` says: its kind, and which of that kind (10).
 #[unsafe(no_mangle)]
 pub extern "C" fn vn_layer_kind(total: u16, number: u16, out: &mut [u16]) -> i64
-    ensures { Fills (given (kindNumbers (kind_of total number))) result out.old out.new }
+    ensures { Fills (given (kind_numbers (kind_of total number))) result out.old out.new }
 {
     let layer = layout_layers::kind(total, number);
     let numbers: [u16; 2] = [kind_number(layer), kind_level(layer)];
@@ -253,7 +253,7 @@ pub extern "C" fn vn_lamp_strip(
     start: u16,
     out: &mut [u16],
 ) -> i64
-    ensures { Fills (getStrip (layout chain octave tritave start)) result out.old out.new }
+    ensures { Fills (get_strip (layout chain octave tritave start)) result out.old out.new }
 {
     let layout = IsomorphicLayout {
         genchain: chain,
@@ -267,7 +267,7 @@ pub extern "C" fn vn_lamp_strip(
 // The lamp code of one key (1, 2, 3, 4, 18).
 #[unsafe(no_mangle)]
 pub extern "C" fn vn_lamp(chain: u16, octave: u16, tritave: u16, start: u16, key: i32) -> i64
-    ensures { result ≡ code_of (getLamp (layout chain octave tritave start) key) }
+    ensures { result ≡ code_of (get_lamp (layout chain octave tritave start) key) }
 {
     let layout = IsomorphicLayout {
         genchain: chain,

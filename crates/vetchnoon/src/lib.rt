@@ -7,6 +7,8 @@
 // specs/: Written says which numbers a call writes, TypedNames which signed ones, FractionalPatterns which patterns, Examples what some
 // calls answer.
 // Every call answers every input. Assumed is what the header asks of a caller: that a slice's pointer and length are good.
+#![tactic(auto)]
+
 pub mod board;
 pub mod books;
 pub mod chains;

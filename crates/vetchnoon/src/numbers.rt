@@ -1,11 +1,11 @@
 // Numbers, pergens and spellings in a free format (document 01, "Pergen and spelling").
 ghost use Rattle.std.specs.Prelude.{◌≡◌, ◌+◌, ◌*◌, pos};
-ghost use Rattle.math.specs.Answers.{remOutcome};
-ghost use Rattle.math.specs.Gcd.{gcdOrOne};
-ghost use Rattle.pergen.specs.Answers.{getGeneration, getAccidentals};
+ghost use Rattle.math.specs.Answers.{rem_outcome};
+ghost use Rattle.math.specs.Gcd.{gcd_or_one};
+ghost use Rattle.pergen.specs.Answers.{get_generation, get_accidentals};
 ghost use Rattle.vetchnoon_codes.specs.Codes.{code_of, Fills};
-ghost use Rattle.vetchnoon_codes.specs.Numbers.{asNumbers, accidentalsNumbers};
-ghost use Rattle.vetchnoon.specs.Written.{pergen, format, pergenOutput, presence, generationNumbers};
+ghost use Rattle.vetchnoon_codes.specs.Numbers.{as_numbers, accidentals_numbers};
+ghost use Rattle.vetchnoon.specs.Written.{pergen, format, pergen_output, presence, generation_numbers};
 
 use answer::Refusal;
 use pergen::{AccidentalsFormat, Cycle, GenerationAnswer, PerGen, euclid};
@@ -21,7 +21,7 @@ pub extern "C" fn vn_version() -> i64
 // The greatest common divisor; 0 and 0 give 1.
 #[unsafe(no_mangle)]
 pub extern "C" fn vn_gcd(x: u16, y: u16) -> i64
-    ensures { result ≡ pos (gcdOrOne x y) }
+    ensures { result ≡ pos (gcd_or_one x y) }
 {
     math::gcd_u16(x, y) as i64
 }
@@ -29,7 +29,7 @@ pub extern "C" fn vn_gcd(x: u16, y: u16) -> i64
 // The remainder, never negative (2).
 #[unsafe(no_mangle)]
 pub extern "C" fn vn_rem(numer: i32, denom: u16) -> i64
-    ensures { result ≡ code_of (remOutcome numer denom) }
+    ensures { result ≡ code_of (rem_outcome numer denom) }
 {
     vetchnoon_codes::number(math::i32_rem_u16(numer, denom))
 }
@@ -37,7 +37,7 @@ pub extern "C" fn vn_rem(numer: i32, denom: u16) -> i64
 // Cycles, reduced period and inverse (2, 10).
 #[unsafe(no_mangle)]
 pub extern "C" fn vn_pergen(period: u16, generator: u16, out: &mut [u16]) -> i64
-    ensures { Fills (pergenOutput period generator) result out.old out.new }
+    ensures { Fills (pergen_output period generator) result out.old out.new }
 {
     if period == 0 {
         return vetchnoon_codes::refused(Refusal::Period);
@@ -64,7 +64,7 @@ fn presence(cycle: Cycle) -> u16
 // A key's degree, whether it has a cycle, and the cycle (2, 10).
 #[unsafe(no_mangle)]
 pub extern "C" fn vn_generation(period: u16, generator: u16, key: i32, out: &mut [u16]) -> i64
-    ensures { Fills (asNumbers generationNumbers (getGeneration (pergen period generator) key)) result out.old out.new }
+    ensures { Fills (as_numbers generation_numbers (get_generation (pergen period generator) key)) result out.old out.new }
 {
     let pergen = PerGen { period, generator };
     match pergen.get_generation(key) {
@@ -87,7 +87,7 @@ pub extern "C" fn vn_accidentals(
     key: i32,
     out: &mut [u16],
 ) -> i64
-    ensures { Fills (asNumbers accidentalsNumbers (getAccidentals (pergen period generator) (format symbols origin) key)) result out.old out.new }
+    ensures { Fills (as_numbers accidentals_numbers (get_accidentals (pergen period generator) (format symbols origin) key)) result out.old out.new }
 {
     let pergen = PerGen { period, generator };
     let format = AccidentalsFormat {

@@ -1,11 +1,11 @@
 // Step patterns (document 01, "Step patterns"): a pattern is its primary and secondary count, then its steps.
-ghost use Rattle.mos_layers.specs.Layers.{layersOf};
-ghost use Rattle.mos.specs.Answers.{ofPattern, coprimeOutcome};
-ghost use Rattle.mos.specs.Patterns.{mos, childOf, parent_of, key_at};
-ghost use Rattle.mos.specs.Walks.{children, parents, genesisOf, fields, listed};
+ghost use Rattle.mos_layers.specs.Layers.{layers_of};
+ghost use Rattle.mos.specs.Answers.{of_pattern, coprime_outcome};
+ghost use Rattle.mos.specs.Patterns.{mos, child_of, parent_of, key_at};
+ghost use Rattle.mos.specs.Walks.{children, parents, genesis_of, fields, listed};
 ghost use Rattle.vetchnoon_codes.specs.Codes.{Fills, FillsOne};
-ghost use Rattle.vetchnoon_codes.specs.Numbers.{asNumbers, walkNumbers};
-ghost use Rattle.vetchnoon.specs.Written.{findOutput};
+ghost use Rattle.vetchnoon_codes.specs.Numbers.{as_numbers, walk_numbers};
+ghost use Rattle.vetchnoon.specs.Written.{find_output};
 
 use answer::Refusal;
 use mos::{KeyAnswer, Mos, MosAnswer};
@@ -19,7 +19,7 @@ pub extern "C" fn vn_mos_child(
     secondary_step: u16,
     out: &mut [u16],
 ) -> i64
-    ensures { Fills (asNumbers walkNumbers (ofPattern (mos primary_count secondary_count primary_step secondary_step) (childOf (mos primary_count secondary_count primary_step secondary_step)))) result out.old out.new }
+    ensures { Fills (as_numbers walk_numbers (of_pattern (mos primary_count secondary_count primary_step secondary_step) (child_of (mos primary_count secondary_count primary_step secondary_step)))) result out.old out.new }
 {
     let mos = Mos {
         num_primary_steps: primary_count,
@@ -39,7 +39,7 @@ pub extern "C" fn vn_mos_parent(
     secondary_step: u16,
     out: &mut [u16],
 ) -> i64
-    ensures { Fills (asNumbers walkNumbers (ofPattern (mos primary_count secondary_count primary_step secondary_step) (parent_of (mos primary_count secondary_count primary_step secondary_step)))) result out.old out.new }
+    ensures { Fills (as_numbers walk_numbers (of_pattern (mos primary_count secondary_count primary_step secondary_step) (parent_of (mos primary_count secondary_count primary_step secondary_step)))) result out.old out.new }
 {
     let mos = Mos {
         num_primary_steps: primary_count,
@@ -59,7 +59,7 @@ pub extern "C" fn vn_mos_genesis(
     secondary_step: u16,
     out: &mut [u16],
 ) -> i64
-    ensures { Fills (asNumbers fields (ofPattern (mos primary_count secondary_count primary_step secondary_step) (genesisOf (mos primary_count secondary_count primary_step secondary_step)))) result out.old out.new }
+    ensures { Fills (as_numbers fields (of_pattern (mos primary_count secondary_count primary_step secondary_step) (genesis_of (mos primary_count secondary_count primary_step secondary_step)))) result out.old out.new }
 {
     let mos = Mos {
         num_primary_steps: primary_count,
@@ -79,7 +79,7 @@ pub extern "C" fn vn_mos_coprime(
     secondary_step: u16,
     out: &mut [u16],
 ) -> i64
-    ensures { Fills (asNumbers fields (coprimeOutcome (mos primary_count secondary_count primary_step secondary_step))) result out.old out.new }
+    ensures { Fills (as_numbers fields (coprime_outcome (mos primary_count secondary_count primary_step secondary_step))) result out.old out.new }
 {
     let mos = Mos {
         num_primary_steps: primary_count,
@@ -93,7 +93,7 @@ pub extern "C" fn vn_mos_coprime(
 // The first pattern with so many steps on the walk from a genesis, or nothing (2, 10).
 #[unsafe(no_mangle)]
 pub extern "C" fn vn_mos_find(period: u16, generator: u16, steps: u16, out: &mut [u16]) -> i64
-    ensures { Fills (findOutput period generator steps) result out.old out.new }
+    ensures { Fills (find_output period generator steps) result out.old out.new }
 {
     match Mos::new_genesis(period, generator) {
         MosAnswer::Refused(question) => vetchnoon_codes::refused(question),
@@ -113,7 +113,7 @@ pub extern "C" fn vn_mos_children(
     secondary_step: u16,
     out: &mut [u16],
 ) -> i64
-    ensures { Fills (ofPattern (mos primary_count secondary_count primary_step secondary_step) (listed (children (mos primary_count secondary_count primary_step secondary_step)))) result out.old out.new }
+    ensures { Fills (of_pattern (mos primary_count secondary_count primary_step secondary_step) (listed (children (mos primary_count secondary_count primary_step secondary_step)))) result out.old out.new }
 {
     let mos = Mos {
         num_primary_steps: primary_count,
@@ -133,7 +133,7 @@ pub extern "C" fn vn_mos_parents(
     secondary_step: u16,
     out: &mut [u16],
 ) -> i64
-    ensures { Fills (ofPattern (mos primary_count secondary_count primary_step secondary_step) (listed (parents (mos primary_count secondary_count primary_step secondary_step)))) result out.old out.new }
+    ensures { Fills (of_pattern (mos primary_count secondary_count primary_step secondary_step) (listed (parents (mos primary_count secondary_count primary_step secondary_step)))) result out.old out.new }
 {
     let mos = Mos {
         num_primary_steps: primary_count,
@@ -153,7 +153,7 @@ pub extern "C" fn vn_mos_layers(
     secondary_step: u16,
     out: &mut [u16],
 ) -> i64
-    ensures { Fills (ofPattern (mos primary_count secondary_count primary_step secondary_step) (layersOf (mos primary_count secondary_count primary_step secondary_step))) result out.old out.new }
+    ensures { Fills (of_pattern (mos primary_count secondary_count primary_step secondary_step) (layers_of (mos primary_count secondary_count primary_step secondary_step))) result out.old out.new }
 {
     let mos = Mos {
         num_primary_steps: primary_count,
@@ -175,7 +175,7 @@ pub extern "C" fn vn_mos_key(
     s: i16,
     out: &mut [i64],
 ) -> i64
-    ensures { FillsOne (ofPattern (mos primary_count secondary_count primary_step secondary_step) (key_at (mos primary_count secondary_count primary_step secondary_step) p s)) result out.old out.new }
+    ensures { FillsOne (of_pattern (mos primary_count secondary_count primary_step secondary_step) (key_at (mos primary_count secondary_count primary_step secondary_step) p s)) result out.old out.new }
 {
     let mos = Mos {
         num_primary_steps: primary_count,

@@ -1,6 +1,6 @@
 // Keys by their distance: the nearest key of a letter, and the keys in reach of a key.
 ghost use Rattle.std.specs.Prelude.{◌≡◌};
-ghost use Rattle.layout_reach.specs.Answers.{getNearest, getReach};
+ghost use Rattle.layout_reach.specs.Answers.{get_nearest, get_reach};
 ghost use Rattle.vetchnoon_codes.specs.Codes.{code_of, Fills};
 ghost use Rattle.vetchnoon.specs.Written.{layout};
 
@@ -16,7 +16,7 @@ pub extern "C" fn vn_nearest_natural(
     key: i32,
     letter: u16,
 ) -> i64
-    ensures { result ≡ code_of (getNearest (layout chain octave tritave start) key letter) }
+    ensures { result ≡ code_of (get_nearest (layout chain octave tritave start) key letter) }
 {
     let layout = IsomorphicLayout {
         genchain: chain,
@@ -38,7 +38,7 @@ pub extern "C" fn vn_keys_in_reach(
     distance: u16,
     out: &mut [u16],
 ) -> i64
-    ensures { Fills (getReach (layout chain octave tritave start) key distance) result out.old out.new }
+    ensures { Fills (get_reach (layout chain octave tritave start) key distance) result out.old out.new }
 {
     let layout = IsomorphicLayout {
         genchain: chain,

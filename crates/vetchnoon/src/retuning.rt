@@ -1,6 +1,6 @@
 // How far a retuning moves a note: one spelling's move, the table of moves, and the largest of them.
 ghost use Rattle.std.specs.Prelude.{◌≡◌};
-ghost use Rattle.layout_retuning.specs.Answers.{getMoved, getMoveTable, getLargestMove};
+ghost use Rattle.layout_retuning.specs.Answers.{get_moved, get_move_table, get_largest_move};
 ghost use Rattle.vetchnoon_codes.specs.Codes.{code_of, Fills};
 ghost use Rattle.vetchnoon.specs.Written.{retuning, spelling};
 
@@ -19,7 +19,7 @@ pub extern "C" fn vn_moved(
     signs: i32,
     stars: u16,
 ) -> i64
-    ensures { result ≡ code_of (getMoved (retuning chain octave start from_tritave to_tritave) (spelling letter signs stars)) }
+    ensures { result ≡ code_of (get_moved (retuning chain octave start from_tritave to_tritave) (spelling letter signs stars)) }
 {
     let retuning = Retuning {
         genchain: chain,
@@ -42,7 +42,7 @@ pub extern "C" fn vn_move_table(
     to_tritave: u16,
     out: &mut [u16],
 ) -> i64
-    ensures { Fills (getMoveTable (retuning chain octave start from_tritave to_tritave)) result out.old out.new }
+    ensures { Fills (get_move_table (retuning chain octave start from_tritave to_tritave)) result out.old out.new }
 {
     let retuning = Retuning {
         genchain: chain,
@@ -63,7 +63,7 @@ pub extern "C" fn vn_largest_move(
     from_tritave: u16,
     to_tritave: u16,
 ) -> i64
-    ensures { result ≡ code_of (getLargestMove (retuning chain octave start from_tritave to_tritave)) }
+    ensures { result ≡ code_of (get_largest_move (retuning chain octave start from_tritave to_tritave)) }
 {
     let retuning = Retuning {
         genchain: chain,

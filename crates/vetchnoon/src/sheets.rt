@@ -1,5 +1,5 @@
 // A sheet of keys in one call. The list is its own room, so question 10 always has the answer yes.
-ghost use Rattle.layout_sheet.specs.Answers.{getSheet};
+ghost use Rattle.layout_sheet.specs.Answers.{get_sheet};
 ghost use Rattle.vetchnoon_codes.specs.Codes.{Fills};
 ghost use Rattle.vetchnoon.specs.Written.{layout};
 
@@ -15,7 +15,7 @@ pub extern "C" fn vn_sheet(
     start: u16,
     records: &mut [Record],
 ) -> i64
-    ensures { Fills (getSheet (layout chain octave tritave start) records.old) result records.old records.new }
+    ensures { Fills (get_sheet (layout chain octave tritave start) records.old) result records.old records.new }
 {
     let layout = IsomorphicLayout {
         genchain: chain,

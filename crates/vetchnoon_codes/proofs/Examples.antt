@@ -2,5 +2,5 @@
 use mathlib.Core.Path.{refl}
 use Rattle.vetchnoon_codes.specs.Examples.{ExamplesHold}
 
-pub examples-hold : ExamplesHold
-examples-hold = record { codes = refl; one-room = refl; one-short = refl; one-counts = refl; numbers = refl }
+pub examples_hold : ExamplesHold
+examples_hold = record { codes = refl; one_room = refl; one_short = refl; one_counts = refl; numbers = refl }

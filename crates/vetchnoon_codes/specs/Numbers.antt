@@ -7,15 +7,15 @@ use Rattle.mos.specs.Walks.{fields}
 use Rattle.pergen.specs.declared.Accidentals.{Accidentals}
 
 -- The numbers of a value, where it is given.
-abbrev pub asNumbers : {A : Type 0} → (A → List ℕ) → Outcome A → Outcome (List ℕ)
-asNumbers numbers (given a) = given (numbers a)
-asNumbers numbers (refused n) = refused n
+abbrev pub as_numbers : {A : Type 0} → (A → List ℕ) → Outcome A → Outcome (List ℕ)
+as_numbers numbers (given a) = given (numbers a)
+as_numbers numbers (refused n) = refused n
 
 -- "No child" and "no parent" are ordinary answers: no numbers. A pattern has four, its `fields`.
-abbrev pub walkNumbers : Option Mos → List ℕ
-walkNumbers none = []
-walkNumbers (some m) = fields m
+abbrev pub walk_numbers : Option Mos → List ℕ
+walk_numbers none = []
+walk_numbers (some m) = fields m
 
 -- "The sharp index and count .. The flat index .. the flat count"
-abbrev pub accidentalsNumbers : Accidentals → List ℕ
-accidentalsNumbers a = a.sharp_index ∷ a.sharp_count ∷ a.flat_index ∷ a.flat_count ∷ []
+abbrev pub accidentals_numbers : Accidentals → List ℕ
+accidentals_numbers a = a.sharp_index ∷ a.sharp_count ∷ a.flat_index ∷ a.flat_count ∷ []

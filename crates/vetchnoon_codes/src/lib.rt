@@ -4,14 +4,16 @@
 // All of them are parts, and no entry points: the calls of `vetchnoon` are made of them.
 // specs/: Codes says what a code means and what a lent slice then holds, Numbers which numbers stand for an answer.
 // Nothing is assumed.
+#![tactic(auto)]
+
 ghost use Rattle.std.specs.Prelude.{◌≡◌, pos, neg_ℤ};
 ghost use Rattle.answer.specs.Outcome.{given};
-ghost use Rattle.answer.specs.Refusals.{number_of, numberOutcome, countOutcome};
-ghost use Rattle.mos.specs.Answers.{mosOutcome, walkOutcome};
+ghost use Rattle.answer.specs.Refusals.{number_of, number_outcome, count_outcome};
+ghost use Rattle.mos.specs.Answers.{mos_outcome, walk_outcome};
 ghost use Rattle.mos.specs.Walks.{fields};
-ghost use Rattle.pergen.specs.Answers.{accidentalsOutcome};
+ghost use Rattle.pergen.specs.Answers.{accidentals_outcome};
 ghost use Rattle.vetchnoon_codes.specs.Codes.{code_of, SmallCount, Fills};
-ghost use Rattle.vetchnoon_codes.specs.Numbers.{asNumbers, walkNumbers, accidentalsNumbers};
+ghost use Rattle.vetchnoon_codes.specs.Numbers.{as_numbers, walk_numbers, accidentals_numbers};
 
 use answer::{CountAnswer, NumberAnswer, Refusal};
 use mos::{Mos, MosAnswer, WalkAnswer};
@@ -26,7 +28,7 @@ pub fn refused(question: Refusal) -> i64
 
 // A number, or a refusal.
 pub fn number(answer: NumberAnswer) -> i64
-    ensures { result ≡ code_of (numberOutcome answer) }
+    ensures { result ≡ code_of (number_outcome answer) }
 {
     match answer {
         NumberAnswer::Given(number) => number as i64,
@@ -37,7 +39,7 @@ pub fn number(answer: NumberAnswer) -> i64
 // How many elements were written, or a refusal.
 pub fn count(answer: CountAnswer) -> i64
     requires { SmallCount answer }
-    ensures { result ≡ code_of (countOutcome answer) }
+    ensures { result ≡ code_of (count_outcome answer) }
 {
     match answer {
         CountAnswer::Given(elements) => elements as i64,
@@ -76,7 +78,7 @@ pub fn put_pattern(out: &mut [u16], pattern: Mos) -> i64
 
 // A pattern, or a refusal (10).
 pub fn pattern(out: &mut [u16], answer: MosAnswer) -> i64
-    ensures { Fills (asNumbers fields (mosOutcome answer)) result out.old out.new }
+    ensures { Fills (as_numbers fields (mos_outcome answer)) result out.old out.new }
 {
     match answer {
         MosAnswer::Given(pattern) => put_pattern(out, pattern),
@@ -86,7 +88,7 @@ pub fn pattern(out: &mut [u16], answer: MosAnswer) -> i64
 
 // A pattern of a walk, nothing, or a refusal (10).
 pub fn walk(out: &mut [u16], answer: WalkAnswer) -> i64
-    ensures { Fills (asNumbers walkNumbers (walkOutcome answer)) result out.old out.new }
+    ensures { Fills (as_numbers walk_numbers (walk_outcome answer)) result out.old out.new }
 {
     match answer {
         WalkAnswer::Found(pattern) => put_pattern(out, pattern),
@@ -97,7 +99,7 @@ pub fn walk(out: &mut [u16], answer: WalkAnswer) -> i64
 
 // Sharp index and count, flat index and count, or a refusal (10).
 pub fn accidentals(out: &mut [u16], answer: AccidentalsAnswer) -> i64
-    ensures { Fills (asNumbers accidentalsNumbers (accidentalsOutcome answer)) result out.old out.new }
+    ensures { Fills (as_numbers accidentals_numbers (accidentals_outcome answer)) result out.old out.new }
 {
     match answer {
         AccidentalsAnswer::Given(spelled) => {

@@ -1,10 +1,10 @@
 -- The place that is found, or the question that refuses, told as a part and a number.
 use mathlib.Core.Path.{sym, ap, ◌∙◌}
 use mir.Syntax.{w32}
-use Rattle.math.proofs.Signed.{read_back}
-use Rattle.book.specs.Books.{findOutcome}
-use Rattle.book.specs.Answers.{findAnswered}
-use Rattle.book.proofs.Lookup.{extent-found, extent-refused}
+use Rattle.math.proofs.Signed.{read_back_lem}
+use Rattle.book.specs.Books.{find_outcome}
+use Rattle.book.specs.Answers.{find_answered}
+use Rattle.book.proofs.Lookup.{extent_found, extent_refused}
 use borrow.Author.Rules.{rules}
 use Rattle.book.proofs.extent_of.Statement.{statement}
 use Rattle.book.proofs.extent_of.Tie as tie
@@ -34,15 +34,15 @@ returns : tie.Need-returns
 returns c =
     let b = c.before.before.before in
     let start = b.before.before.before.before in
-    extent-found _ start.args.key _
-    (sym (ap findAnswered b.place.given.1) ∙ b.before.before.find.ensures ∙ ap (findOutcome _) (read_back w32 start.args.key start.ranges.key))
+    extent_found _ start.args.key _
+    (sym (ap find_answered b.place.given.1) ∙ b.before.before.find.ensures ∙ ap (find_outcome _) (read_back_lem w32 start.args.key start.ranges.key))
 
 returns-2 : tie.Need-returns-2
 returns-2 c =
     let b = c.before.before in
     let start = b.before.before.before.before in
-    extent-refused _ start.args.key _ _
-    (sym (ap findAnswered b.question.given.1) ∙ b.before.before.find.ensures ∙ ap (findOutcome _) (read_back w32 start.args.key start.ranges.key))
+    extent_refused _ start.args.key _ _
+    (sym (ap find_answered b.question.given.1) ∙ b.before.before.find.ensures ∙ ap (find_outcome _) (read_back_lem w32 start.args.key start.ranges.key))
     c.number.ensures
 
 pub extent-of-spec : {M : Type 1} → statement M

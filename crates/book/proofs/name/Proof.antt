@@ -46,9 +46,9 @@ use denote.Triple.Clauses.{ensured, lasts}
 use denote.Exit.{yes}
 use Rattle.book.specs.declared.NameAnswer.{NameAnswer}
 use Rattle.book.specs.declared.Extent.{Extent}
-use Rattle.book.specs.Books.{findOutcome}
-use Rattle.book.specs.Lookups.{slice, part, extentAt, LookedUp}
-use Rattle.book.proofs.Lookup.{extent-inside, extent-looked-up}
+use Rattle.book.specs.Books.{find_outcome}
+use Rattle.book.specs.Lookups.{slice, part, extent_at, LookedUp}
+use Rattle.book.proofs.Lookup.{extent_inside, extent_looked_up}
 use Rattle.book.specs.contracts.NameAnswer as T
 use Rattle.book.proofs.NameAnswer.TheLaws as T'
 use Rattle.book.specs.contracts.Extent as E
@@ -126,7 +126,7 @@ module _ {M : Type 1} {𝓤 : Ura M} (𝓛 : Logic 𝓤) (mem : Memory → SProp
       frame ! $ done !
 
   abbrev IsExtent : Extent → Type 0
-  IsExtent r = r ≡ extentAt (findOutcome s.now z)
+  IsExtent r = r ≡ extent_at (find_outcome s.now z)
 
   abbrev ExtentEnsured : Extent → SProp 𝓤
   ExtentEnsured r = ensured 𝓛 extent-of.ended (extent-of.clauses 𝓛 mem run) (κ, tt) (s, (z, tt)) tt r
@@ -207,7 +207,7 @@ module _ {M : Type 1} {𝓤 : Ura M} (𝓛 : Logic 𝓤) (mem : Memory → SProp
         -- `part_between`
         move ! (1 ∷ 0 ∷ []) $
         use2 𝓛 (raw ((PartBetween 𝓛 mem run).pre (to_part r.start r.end)) ⊛ ‵ Own)
-        (goes-part r.start r.end fields.0.1 fields.1.0.1 (extent-inside s.now z r e)) $ split ! $
+        (goes-part r.start r.end fields.0.1 fields.1.0.1 (extent_inside s.now z r e)) $ split ! $
         calls_at ! fm (PartBetween 𝓛 mem run) known-part (to_part r.start r.end)
         (and_then ! (load ! (from ! (stop !)) (look ! 8 refl))
         (and_then ! (load ! (from ! (fld ! refl (stop !))) (look_in ! 4 (sub ! 0 refl (whole !))))
@@ -233,7 +233,7 @@ module _ {M : Type 1} {𝓤 : Ura M} (𝓛 : Logic 𝓤) (mem : Memory → SProp
         returns ! (look ! 11 refl) $ forget ! 3 refl $ forget ! 5 refl $ forget ! 7 refl $ forget ! 9 refl $ forget ! 11 refl $
         move ! (11 ∷ 12 ∷ []) $ free1 ! $ move ! (9 ∷ 10 ∷ []) $ free1 ! $ move ! (7 ∷ 8 ∷ []) $ free1 ! $ move ! (5 ∷ 6 ∷ []) $ free1 ! $
         move ! (3 ∷ 4 ∷ []) $ free1 ! $ free0 ! $
-        by ! (exits t r.refusal fields.1.1.0.1 (extent-looked-up (slice s) z r (slice t) e there)))))))))))))))
+        by ! (exits t r.refusal fields.1.1.0.1 (extent_looked_up (slice s) z r (slice t) e there)))))))))))))))
 
 module _ {M : Type 1} {𝓤 : Ura M} (𝓛 : Logic 𝓤) (mem : Memory → SProp 𝓤) (run : Routine → Fun 𝓤) (𝓣 : Tables 𝓤 𝓛.H)
     (known-extent : Triple 𝓤 (𝓣.C #book·extent-of) (ExtentOf 𝓛 mem run))

@@ -1,12 +1,12 @@
-use Rattle.layout_retuning.proofs.Calls.{moves-are-distances}
-use Rattle.layout_retuning.proofs.Bound.{moves-are-bounded}
-use Rattle.layout_retuning.proofs.Largest.{back-is-as-far, largest-is-the-largest}
-use Rattle.layout_retuning.proofs.Tables.{table-is-of-single-calls}
+use Rattle.layout_retuning.proofs.Calls.{moves_are_distances}
+use Rattle.layout_retuning.proofs.Bound.{moves_are_bounded}
+use Rattle.layout_retuning.proofs.Largest.{back_is_as_far, largest_is_the_largest}
+use Rattle.layout_retuning.proofs.Tables.{table_is_of_single_calls}
 use Rattle.claims.proofs.w_212.Statement.{statement}
 use Rattle.claims.proofs.w_212.Tie as tie
 
 returns : tie.Need-returns
-returns c = (moves-are-distances, moves-are-bounded, back-is-as-far, table-is-of-single-calls, largest-is-the-largest)
+returns c = (moves_are_distances, moves_are_bounded, back_is_as_far, table_is_of_single_calls, largest_is_the_largest)
 
 pub w-212-spec : {M : Type 1} → statement M
 w-212-spec = tie.close (tie.spec returns)

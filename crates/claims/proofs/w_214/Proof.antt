@@ -1,14 +1,14 @@
-use Rattle.layout_order.proofs.Places.{chain-order-is-a-permutation}
-use Rattle.layout_order.proofs.Placing.{entries-go-to-their-places, each-undoes-the-other}
-use Rattle.layout_order.proofs.Ordering.{calls-undo-each-other}
-use Rattle.mos_moves.proofs.Walking.{moves-beside-patterns, moves-stand-beside-the-pattern}
-use Rattle.mos_moves.proofs.Theorems.{moves-reach-their-steps}
+use Rattle.layout_order.proofs.Places.{chain_order_is_a_permutation}
+use Rattle.layout_order.proofs.Placing.{entries_go_to_their_places, each_undoes_the_other}
+use Rattle.layout_order.proofs.Ordering.{calls_undo_each_other}
+use Rattle.mos_moves.proofs.Walking.{moves_beside_patterns, moves_stand_beside_the_pattern}
+use Rattle.mos_moves.proofs.Theorems.{moves_reach_their_steps}
 use Rattle.claims.proofs.w_214.Statement.{statement}
 use Rattle.claims.proofs.w_214.Tie as tie
 
 returns : tie.Need-returns
 returns c =
-    (chain-order-is-a-permutation, entries-go-to-their-places, each-undoes-the-other, calls-undo-each-other, moves-beside-patterns, moves-reach-their-steps, moves-stand-beside-the-pattern)
+    (chain_order_is_a_permutation, entries_go_to_their_places, each_undoes_the_other, calls_undo_each_other, moves_beside_patterns, moves_reach_their_steps, moves_stand_beside_the_pattern)
 
 pub w-214-spec : {M : Type 1} → statement M
 w-214-spec = tie.close (tie.spec returns)

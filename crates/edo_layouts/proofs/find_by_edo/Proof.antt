@@ -1,9 +1,9 @@
 -- Question 15, then the numbers of all chains, which ask 10.
 use mathlib.Core.Path.{refl, sym, ap, ◌∙◌}
-use Rattle.answer.proofs.Lent.{filled-refused}
-use Rattle.layout.proofs.Calls.{filled-as, refused-in-room}
-use Rattle.edo_tritaves.specs.Tritaves.{tritavesOutcome}
-use Rattle.edo_layouts.proofs.Listing.{find-refused, find-in-room}
+use Rattle.answer.proofs.Lent.{filled_refused}
+use Rattle.layout.proofs.Calls.{filled_as, refused_in_room}
+use Rattle.edo_tritaves.specs.Tritaves.{tritaves_outcome}
+use Rattle.edo_layouts.proofs.Listing.{find_refused, find_in_room}
 use borrow.Author.Rules.{rules}
 use Rattle.edo_layouts.proofs.find_by_edo.Statement.{statement}
 use Rattle.edo_layouts.proofs.find_by_edo.Tie as tie
@@ -22,9 +22,9 @@ write-layouts-requires c κs = search rules
 
 returns : tie.Need-returns
 returns c =
-    filled-refused _ _
-    (refused-in-room _ _ _
-    (find-refused _ _ (sym (ap tritavesOutcome c.before.q.given.1) ∙ c.before.before.before.tritaves.ensures)))
+    filled_refused _ _
+    (refused_in_room _ _ _
+    (find_refused _ _ (sym (ap tritaves_outcome c.before.q.given.1) ∙ c.before.before.before.tritaves.ensures)))
     refl
 
 same_length : tie.Need-same-length
@@ -32,9 +32,9 @@ same_length c = search rules
 
 returns-2 : tie.Need-returns-2
 returns-2 c =
-    filled-as
-    (find-in-room _ _
-    (sym (ap tritavesOutcome c.before.before.before.before.before.choices.given.1)
+    filled_as
+    (find_in_room _ _
+    (sym (ap tritaves_outcome c.before.before.before.before.before.choices.given.1)
     ∙ c.before.before.before.before.before.before.before.tritaves.ensures)
     _)
     c.before.before.write-layouts.ensures

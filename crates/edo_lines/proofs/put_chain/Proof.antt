@@ -2,8 +2,8 @@
 use mathlib.Core.Path.{sym, ap, ◌∙◌}
 use native.Mathlib.Omega.{arith}
 use Rattle.text.proofs.Writing.{wrote_none, wrote_as}
-use Rattle.edo_layouts.specs.Layouts.{edoOutcome}
-use Rattle.edo_lines.proofs.LineLaws.{no_line, line-is}
+use Rattle.edo_layouts.specs.Layouts.{edo_outcome}
+use Rattle.edo_lines.proofs.LineLaws.{no_line_lem, line_is}
 use borrow.Author.Rules.{rules}
 use Rattle.edo_lines.proofs.put_chain.Statement.{statement}
 use Rattle.edo_lines.proofs.put_chain.Tie as tie
@@ -26,7 +26,7 @@ put-line-requires c κs = search rules
 returns : tie.Need-returns
 returns c = (
   wrote_as
-      (no_line _ _ _ _ (sym (ap edoOutcome c.enum_told.given.1) ∙ c.before.before.serve.ensures))
+      (no_line_lem _ _ _ _ (sym (ap edo_outcome c.enum_told.given.1) ∙ c.before.before.serve.ensures))
       (wrote_none _ _),
   omega arith,
 )
@@ -37,9 +37,9 @@ same_length c = search rules
 returns-2 : tie.Need-returns-2
 returns-2 c =
     let s = c.before.before.before.before.before.before.before.before.before.before.before.before in
-    let e = (sym (ap edoOutcome c.before.before.before.before.before.before.before.before.found.given.1) ∙ c.before.before.before.before.before.before.before.before.before.before.serve.ensures) in
+    let e = (sym (ap edo_outcome c.before.before.before.before.before.before.before.before.found.given.1) ∙ c.before.before.before.before.before.before.before.before.before.before.serve.ensures) in
     let w = c.before.before.put-line.ensures in (
-      wrote_as (line-is s.args.n s.args.choices s.args.genchain s.requires.0 _ e _ c.before.before.before.before.place_of.ensures) w.0,
+      wrote_as (line_is s.args.n s.args.choices s.args.genchain s.requires.0 _ e _ c.before.before.before.before.place_of.ensures) w.0,
       w.1,
     )
 

@@ -6,20 +6,20 @@ use native.Mathlib.Nat.{le_antisymm}
 use lib.ListN.{length}
 use Rattle.text.specs.Writing.{Wrote, joined}
 use Rattle.text.proofs.Writing.{wrote_as}
-use Rattle.text.proofs.Joined.{joined-start, joined_step}
-use Rattle.edo_lines.specs.Parts.{servedLine}
+use Rattle.text.proofs.Joined.{joined_start, joined_step}
+use Rattle.edo_lines.specs.Parts.{served_line}
 use Rattle.edo_lines.proofs.put_chains.Statement.{statement}
 use Rattle.edo_lines.proofs.put_chains.Tie as tie
 
 abbrev invariant-loop : tie.invariant-loop
 invariant-loop out₀ n choices place₀ genchain₀ out place genchain =
-    Wrote out₀ 0 (joined (servedLine n choices) genchain) out place × (place ≤ 44 * genchain) × (genchain ≤ 6) × (length out ≡ length out₀)
+    Wrote out₀ 0 (joined (served_line n choices) genchain) out place × (place ≤ 44 * genchain) × (genchain ≤ 6) × (length out ≡ length out₀)
 
 abbrev decreases-loop : tie.decreases-loop
 decreases-loop out₀ n choices place₀ genchain₀ out place genchain = 6 - genchain
 
 loop-holds : tie.Need-loop-init invariant-loop decreases-loop
-loop-holds c = (joined-start _ _ _, omega arith, omega arith, refl)
+loop-holds c = (joined_start _ _ _, omega arith, omega arith, refl)
 
 put-chain-requires : tie.Need-put-chain-requires invariant-loop decreases-loop
 put-chain-requires c κs = (omega arith, omega arith)
@@ -46,7 +46,7 @@ same_length c = omega arith
 returns : tie.Need-returns invariant-loop decreases-loop
 returns c =
     let s = c.before.before.before in (
-      wrote_as (ap (joined (servedLine s.args.n s.args.choices)) (le_antisymm c.before.loop.invariant.2 c.loop-test.false)) c.before.loop.invariant.0,
+      wrote_as (ap (joined (served_line s.args.n s.args.choices)) (le_antisymm c.before.loop.invariant.2 c.loop-test.false)) c.before.loop.invariant.0,
       omega arith,
     )
 

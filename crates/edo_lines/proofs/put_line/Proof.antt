@@ -1,7 +1,7 @@
 -- The numbers, then the names.
 use native.Mathlib.Omega.{arith}
 use Rattle.text.proofs.Writing.{then}
-use Rattle.edo_lines.specs.Lines.{lineWith}
+use Rattle.edo_lines.specs.Lines.{line_with}
 use borrow.Author.Rules.{rules}
 use Rattle.edo_lines.proofs.put_line.Statement.{statement}
 use Rattle.edo_lines.proofs.put_line.Tie as tie
@@ -25,7 +25,7 @@ same_length : tie.Need-same-length
 same_length c = search rules
 
 returns : tie.Need-returns
-unfolding lineWith
+unfolding line_with
 returns c =
     let d = c.before.before in
     let e = d.before.before.before.before in

@@ -1,7 +1,7 @@
 -- Two names and the byte behind each.
 use native.Mathlib.Omega.{arith}
 use Rattle.text.proofs.Writing.{then}
-use Rattle.edo_lines.proofs.LineLaws.{short-name}
+use Rattle.edo_lines.proofs.LineLaws.{short_name}
 use borrow.Author.Rules.{rules}
 use Rattle.edo_lines.proofs.put_names.Statement.{statement}
 use Rattle.edo_lines.proofs.put_names.Tie as tie
@@ -9,29 +9,29 @@ use Rattle.edo_lines.proofs.put_names.Tie as tie
 put-requires : tie.Need-put-requires
 put-requires c κs =
     let s = c.before.before in
-    let x = short-name s.args.chain s.requires.0 in
-    let y = short-name s.args.scale s.requires.1 in
+    let x = short_name s.args.chain s.requires.0 in
+    let y = short_name s.args.scale s.requires.1 in
     (s.requires.0, omega (arith, x))
 
 put-byte-requires : tie.Need-put-byte-requires
 put-byte-requires c κs =
     let s = c.before.before.before.before.before.before in
-    let x = short-name s.args.chain s.requires.0 in
-    let y = short-name s.args.scale s.requires.1 in
+    let x = short_name s.args.chain s.requires.0 in
+    let y = short_name s.args.scale s.requires.1 in
     omega (arith, x)
 
 put-requires-2 : tie.Need-put-requires-2
 put-requires-2 c κs =
     let s = c.before.before.before.before.before.before.before.before.before.before in
-    let x = short-name s.args.chain s.requires.0 in
-    let y = short-name s.args.scale s.requires.1 in
+    let x = short_name s.args.chain s.requires.0 in
+    let y = short_name s.args.scale s.requires.1 in
     (s.requires.1, omega (arith, x, y))
 
 put-byte-requires-2 : tie.Need-put-byte-requires-2
 put-byte-requires-2 c κs =
     let s = c.before.before.before.before.before.before.before.before.before.before.before.before.before.before in
-    let x = short-name s.args.chain s.requires.0 in
-    let y = short-name s.args.scale s.requires.1 in
+    let x = short_name s.args.chain s.requires.0 in
+    let y = short_name s.args.scale s.requires.1 in
     omega (arith, x, y)
 
 same_length : tie.Need-same-length
@@ -40,8 +40,8 @@ same_length c = search rules
 returns : tie.Need-returns
 returns c =
     let s = c.before.before.before.before.before.before.before.before.before.before.before.before.before.before.before.before.before in
-    let x = short-name s.args.chain s.requires.0 in
-    let y = short-name s.args.scale s.requires.1 in
+    let x = short_name s.args.chain s.requires.0 in
+    let y = short_name s.args.scale s.requires.1 in
     let d = c.before.before in
     let e = d.before.before.before.before in
     let f = e.before.before.before.before in

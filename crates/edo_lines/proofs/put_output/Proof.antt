@@ -2,9 +2,9 @@
 use Prim.Native.Nat.{◌≤◌}
 use mathlib.Core.Path.{sym, ap, ◌∙◌}
 use native.Mathlib.Omega.{arith}
-use Rattle.answer.specs.Refusals.{numberOutcome}
+use Rattle.answer.specs.Refusals.{number_outcome}
 use Rattle.text.proofs.Writing.{wrote_as}
-use Rattle.edo_lines.proofs.Outputs.{output-refused, output-given, refusal-short}
+use Rattle.edo_lines.proofs.Outputs.{output_refused, output_given, refusal_short}
 use borrow.Author.Rules.{rules}
 use Rattle.edo_lines.proofs.put_output.Statement.{statement}
 use Rattle.edo_lines.proofs.put_output.Tie as tie
@@ -24,7 +24,7 @@ cast-put-refusal c = search rules
 put-refusal-requires : tie.Need-put-refusal-requires
 put-refusal-requires c κs =
     let few : c.number.result ≤ 65535 = search rules in
-    omega (arith, refusal-short c.number.result few)
+    omega (arith, refusal_short c.number.result few)
 
 enum-known-n : tie.Need-enum-known-n
 enum-known-n c = search rules
@@ -40,8 +40,8 @@ returns c =
     let n = c.before.before.before in
     let few : n.number.result ≤ 65535 = search rules in
     let w = c.before.before.put-refusal.ensures in (
-      wrote_as (output-refused _ _ _ n.number.ensures (sym (ap numberOutcome n.before.before.before.q.given.1) ∙ n.before.before.before.before.before.parse-number.ensures)) w,
-      omega (arith, w.end, refusal-short n.number.result few),
+      wrote_as (output_refused _ _ _ n.number.ensures (sym (ap number_outcome n.before.before.before.q.given.1) ∙ n.before.before.before.before.before.parse-number.ensures)) w,
+      omega (arith, w.end, refusal_short n.number.result few),
     )
 
 same-length-2 : tie.Need-same-length-2
@@ -51,8 +51,8 @@ returns-2 : tie.Need-returns-2
 returns-2 c =
     let w = c.before.before.put-division.ensures in (
       wrote_as
-          (output-given _ _
-          (sym (ap numberOutcome c.before.before.before.before.before.n.given.1)
+          (output_given _ _
+          (sym (ap number_outcome c.before.before.before.before.before.n.given.1)
           ∙ c.before.before.before.before.before.before.before.parse-number.ensures))
           w.0,
       w.1,

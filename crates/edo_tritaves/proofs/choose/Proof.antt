@@ -1,7 +1,7 @@
 -- The entry for n, and the small numbers that stand for the powers.
 use native.Mathlib.Omega.{arith}
 use Rattle.edo_tritaves.proofs.TableRule.{handed_out}
-use Rattle.edo_tritaves.proofs.Choosing.{tritave-is, chosen-up, chosen-down, chosen-first}
+use Rattle.edo_tritaves.proofs.Choosing.{tritave_is, chosen_up, chosen_down, chosen_first}
 use borrow.Author.Rules.{rules}
 use Rattle.edo_tritaves.proofs.choose.Statement.{statement}
 use Rattle.edo_tritaves.proofs.choose.Tie as tie
@@ -48,7 +48,7 @@ returns c =
     let l = c.before.before.requires.0 in
     let h = c.before.before.requires.1 in
     let k = (handed_out c.before.table.ensures).sides n l h in
-    chosen-up n _ k (tritave-is n _ k.few ((handed_out c.before.table.ensures).entry n l h)) c.if1.true
+    chosen_up n _ k (tritave_is n _ k.few ((handed_out c.before.table.ensures).entry n l h)) c.if1.true
 
 sub-if2 : tie.Need-overflow-sub-if2
 sub-if2 c = search rules
@@ -67,7 +67,7 @@ returns-2 c =
     let l = c.before.before.before.requires.0 in
     let h = c.before.before.before.requires.1 in
     let k = (handed_out c.before.before.table.ensures).sides n l h in
-    chosen-down n _ k (tritave-is n _ k.few ((handed_out c.before.before.table.ensures).entry n l h)) c.before.if1.false c.if2.true
+    chosen_down n _ k (tritave_is n _ k.few ((handed_out c.before.before.table.ensures).entry n l h)) c.before.if1.false c.if2.true
 
 returns-3 : tie.Need-returns-3
 returns-3 c =
@@ -75,7 +75,7 @@ returns-3 c =
     let l = c.before.before.before.requires.0 in
     let h = c.before.before.before.requires.1 in
     let k = (handed_out c.before.before.table.ensures).sides n l h in
-    chosen-first n _ k (tritave-is n _ k.few ((handed_out c.before.before.table.ensures).entry n l h)) c.before.if1.false c.if2.false
+    chosen_first n _ k (tritave_is n _ k.few ((handed_out c.before.before.table.ensures).entry n l h)) c.before.if1.false c.if2.false
 
 pub choose_spec : {M : Type 1} → statement M
 choose_spec =

@@ -2,8 +2,8 @@
 use Prim.Native.Nat.{ℕ}
 use mathlib.Core.Path.{sym, ap, ◌∙◌}
 use native.Mathlib.Omega.{arith}
-use Rattle.genchain.specs.Chains.{chainOf}
-use Rattle.genchain.proofs.Calls.{is-chain, is_none, generator-no-chain, generator-no-octave, generator-by-chain, chains-of-fifths}
+use Rattle.genchain.specs.Chains.{chain_of}
+use Rattle.genchain.proofs.Calls.{is_chain, is_none, generator_no_chain, generator_no_octave, generator_by_chain, chains_of_fifths}
 use borrow.Author.Tests.{not-true, not-false}
 use borrow.Author.Rules.{rules}
 use Rattle.genchain.proofs.generator.Statement.{statement}
@@ -13,10 +13,10 @@ is-chain-requires : tie.Need-is-chain-requires
 is-chain-requires c κs = search rules
 
 returns : tie.Need-returns
-returns c = generator-no-chain _ _ _ (is_none _ c.before.is-chain.ensures (not-true _ c.if1.true))
+returns c = generator_no_chain _ _ _ (is_none _ c.before.is_chain.ensures (not-true _ c.if1.true))
 
 returns-2 : tie.Need-returns-2
-returns-2 c = generator-no-octave _ _ _ (is-chain _ c.before.before.is-chain.ensures (not-false _ c.before.if1.false)) c.if2.true
+returns-2 c = generator_no_octave _ _ _ (is_chain _ c.before.before.is_chain.ensures (not-false _ c.before.if1.false)) c.if2.true
 
 third-of-fourth-requires : tie.Need-third-of-fourth-requires
 third-of-fourth-requires c κs = search rules
@@ -31,28 +31,28 @@ fifth-requires : tie.Need-fifth-requires
 fifth-requires c κs = search rules
 
 returns-3 : tie.Need-returns-3
-unfolding chainOf
+unfolding chain_of
 returns-3 c =
     let a = c.before.before.before.before.before.args in
     c.third-of-fourth.ensures
-    ∙ ap (λ (code : ℕ). (chainOf code).generator a.octave a.tritave) (sym c.before.match.keys1)
-    ∙ generator-by-chain _ _ _ (is-chain _ c.before.before.before.before.is-chain.ensures (not-false _ c.before.before.before.if1.false)) c.before.before.if2.false
+    ∙ ap (λ (code : ℕ). (chain_of code).generator a.octave a.tritave) (sym c.before.match.keys1)
+    ∙ generator_by_chain _ _ _ (is_chain _ c.before.before.before.before.is_chain.ensures (not-false _ c.before.before.before.if1.false)) c.before.before.if2.false
 
 returns-4 : tie.Need-returns-4
-unfolding chainOf
+unfolding chain_of
 returns-4 c =
     let a = c.before.before.before.before.before.args in
     c.quarter-of-fifth.ensures
-    ∙ ap (λ (code : ℕ). (chainOf code).generator a.octave a.tritave) (sym c.before.match.keys2)
-    ∙ generator-by-chain _ _ _ (is-chain _ c.before.before.before.before.is-chain.ensures (not-false _ c.before.before.before.if1.false)) c.before.before.if2.false
+    ∙ ap (λ (code : ℕ). (chain_of code).generator a.octave a.tritave) (sym c.before.match.keys2)
+    ∙ generator_by_chain _ _ _ (is_chain _ c.before.before.before.before.is_chain.ensures (not-false _ c.before.before.before.if1.false)) c.before.before.if2.false
 
 returns-5 : tie.Need-returns-5
-unfolding chainOf
+unfolding chain_of
 returns-5 c =
     let a = c.before.before.before.before.before.args in
     c.octave-less-sixth.ensures
-    ∙ ap (λ (code : ℕ). (chainOf code).generator a.octave a.tritave) (sym c.before.match.keys3)
-    ∙ generator-by-chain _ _ _ (is-chain _ c.before.before.before.before.is-chain.ensures (not-false _ c.before.before.before.if1.false)) c.before.before.if2.false
+    ∙ ap (λ (code : ℕ). (chain_of code).generator a.octave a.tritave) (sym c.before.match.keys3)
+    ∙ generator_by_chain _ _ _ (is_chain _ c.before.before.before.before.is_chain.ensures (not-false _ c.before.before.before.if1.false)) c.before.before.if2.false
 
 returns-6 : tie.Need-returns-6
 returns-6 c =
@@ -60,10 +60,10 @@ returns-6 c =
     let no3 = c.before.match.rest.0.0.1 in
     let no4 = c.before.match.rest.0.1 in
     let no5 = c.before.match.rest.1 in
-    let below = is-chain _ c.before.before.before.before.is-chain.ensures (not-false _ c.before.before.before.if1.false) in
+    let below = is_chain _ c.before.before.before.before.is_chain.ensures (not-false _ c.before.before.before.if1.false) in
     c.fifth.ensures
-    ∙ chains-of-fifths a.code _ _ (omega (arith, below))
-    ∙ generator-by-chain _ _ _ below c.before.before.if2.false
+    ∙ chains_of_fifths a.code _ _ (omega (arith, below))
+    ∙ generator_by_chain _ _ _ below c.before.before.if2.false
 
 pub generator-spec : {M : Type 1} → statement M
 generator-spec =

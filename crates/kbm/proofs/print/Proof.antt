@@ -1,7 +1,7 @@
 -- The output for what is kept is the output for the line: a refusal, or a mapping.
 use mathlib.Core.Path.{sym, ap, ◌∙◌}
-use Rattle.layout.specs.Parts.{foundOutcome}
-use Rattle.line.proofs.AskedLayouts.{line-laid}
+use Rattle.layout.specs.Parts.{found_outcome}
+use Rattle.line.proofs.AskedLayouts.{line_laid}
 use Rattle.streams.proofs.Enough.{kept_there}
 use Rattle.kbm.proofs.Printing.{refusing, mapping}
 use borrow.Author.Rules.{rules}
@@ -30,7 +30,7 @@ print-refusal-requires : tie.Need-print-refusal-requires
 print-refusal-requires c κs =
     let q = c.before.before in
     let kept = c.before.before.before.before.before.before in
-    let e = sym (ap foundOutcome q.q.given.1) ∙ q.before.before.ask-line.ensures in
+    let e = sym (ap found_outcome q.q.given.1) ∙ q.before.before.ask-line.ensures in
     refusing _ _ _ kept.before.before.requires kept.kept.ensures _ _ c.number.ensures e
 
 enum-known-found : tie.Need-enum-known-found
@@ -38,13 +38,13 @@ enum-known-found c = search rules
 
 prepare-requires : tie.Need-prepare-requires
 prepare-requires c κs =
-    let e = sym (ap foundOutcome c.before.found.given.1) ∙ c.before.before.before.ask-line.ensures in
-    (line-laid _ _ e).is-laid
+    let e = sym (ap found_outcome c.before.found.given.1) ∙ c.before.before.before.ask-line.ensures in
+    (line_laid _ _ e).is_laid
 
 print-mapping-requires : tie.Need-print-mapping-requires
 print-mapping-requires c κs =
     let found = c.before.before in
-    let e = sym (ap foundOutcome found.found.given.1) ∙ found.before.before.ask-line.ensures in
+    let e = sym (ap found_outcome found.found.given.1) ∙ found.before.before.ask-line.ensures in
     let kept = c.before.before.before.before.before.before in
     mapping _ _ _ kept.before.before.requires kept.kept.ensures _ e c.prepare.result c.prepare.ensures.0 c.prepare.ensures.1
 

@@ -1,10 +1,10 @@
 -- The output for what is kept is the output for the line: a refusal, or a table.
 use mathlib.Core.Path.{sym, ap, ◌∙◌}
 use native.Mathlib.Omega.{arith}
-use Rattle.layout.specs.Parts.{foundOutcome}
-use Rattle.line.proofs.AskedLayouts.{line-laid}
+use Rattle.layout.specs.Parts.{found_outcome}
+use Rattle.line.proofs.AskedLayouts.{line_laid}
 use Rattle.streams.proofs.Enough.{kept_there}
-use Rattle.key_table.proofs.Printing.{refusing, tabling, zeros-hold}
+use Rattle.key_table.proofs.Printing.{refusing, tabling, zeros_hold}
 use borrow.Author.Rules.{rules}
 use Rattle.key_table.proofs.print.Statement.{statement}
 use Rattle.key_table.proofs.print.Tie as tie
@@ -30,13 +30,13 @@ cast-print-refusal c = search rules
 print-refusal-requires : tie.Need-print-refusal-requires
 print-refusal-requires c κs =
     let q = c.before.before in
-    refusing _ _ _ c.before.before.before.before.before.before.before.before.requires c.before.before.before.before.before.before.kept.ensures _ _ c.number.ensures (sym (ap foundOutcome q.q.given.1) ∙ q.before.before.ask-line.ensures)
+    refusing _ _ _ c.before.before.before.before.before.before.before.before.requires c.before.before.before.before.before.before.kept.ensures _ _ c.number.ensures (sym (ap found_outcome q.q.given.1) ∙ q.before.before.ask-line.ensures)
 
 enum-known-found : tie.Need-enum-known-found
 enum-known-found c = search rules
 
 prepare-requires : tie.Need-prepare-requires
-prepare-requires c κs = (line-laid _ _ (sym (ap foundOutcome c.before.found.given.1) ∙ c.before.before.before.ask-line.ensures)).is-laid
+prepare-requires c κs = (line_laid _ _ (sym (ap found_outcome c.before.found.given.1) ∙ c.before.before.before.ask-line.ensures)).is_laid
 
 slice-aggregate-print-table : tie.Need-slice-aggregate-print-table
 slice-aggregate-print-table c = search rules
@@ -44,8 +44,8 @@ slice-aggregate-print-table c = search rules
 print-table-requires : tie.Need-print-table-requires
 print-table-requires c κs =
     let found = c.before.before.before in
-    let e = sym (ap foundOutcome found.found.given.1) ∙ found.before.before.ask-line.ensures in
-    (tabling _ _ _ c.before.before.before.before.before.before.before.before.before.requires c.before.before.before.before.before.before.before.kept.ensures _ e c.before.prepare.result c.before.prepare.ensures.0 c.before.prepare.ensures.1, zeros-hold 65536 65536 (omega arith))
+    let e = sym (ap found_outcome found.found.given.1) ∙ found.before.before.ask-line.ensures in
+    (tabling _ _ _ c.before.before.before.before.before.before.before.before.before.requires c.before.before.before.before.before.before.before.kept.ensures _ e c.before.prepare.result c.before.prepare.ensures.0 c.before.prepare.ensures.1, zeros_hold 65536 65536 (omega arith))
 
 returns : tie.Need-returns
 returns c = search rules

@@ -6,17 +6,17 @@ use native.Mathlib.Omega.{arith}
 use lib.ListN.{length}
 use borrow.Author.Tests.{not-true}
 use Rattle.text.specs.Writing.{joined}
-use Rattle.layout.specs.Parts.{layoutIn}
-use Rattle.layout_table.specs.Tables.{lineIn}
+use Rattle.layout.specs.Parts.{layout_in}
+use Rattle.layout_table.specs.Tables.{line_in}
 use Rattle.streams.specs.Streams.{Handed}
-use Rattle.key_table.proofs.Printing.{lines_start, lines-onward, table-printed, not_taken}
+use Rattle.key_table.proofs.Printing.{lines_start, lines_onward, table_printed, not_taken}
 use borrow.Author.Rules.{rules}
 use Rattle.key_table.proofs.print_table.Statement.{statement}
 use Rattle.key_table.proofs.print_table.Tie as tie
 
 abbrev invariant-loop : tie.invariant-loop
 invariant-loop line prepared out₀ octave done₀ from₀ out done from =
-    Handed (joined (lineIn (layoutIn prepared)) from) done × (from ≤ prepared.found.octave) × (length out ≡ length out₀)
+    Handed (joined (line_in (layout_in prepared)) from) done × (from ≤ prepared.found.octave) × (length out ≡ length out₀)
 
 abbrev decreases-loop : tie.decreases-loop
 decreases-loop line prepared out₀ octave done₀ from₀ out done from = prepared.found.octave - from
@@ -25,7 +25,7 @@ begin-requires : tie.Need-begin-requires invariant-loop decreases-loop
 begin-requires c κs = search rules
 
 loop-holds : tie.Need-loop-init invariant-loop decreases-loop
-loop-holds c = (lines_start (layoutIn c.before.before.before.args.prepared) _ c.begin.ensures.none, omega arith, refl)
+loop-holds c = (lines_start (layout_in c.before.before.before.args.prepared) _ c.begin.ensures.none, omega arith, refl)
 
 sub-at-once : tie.Need-overflow-sub-at-once invariant-loop decreases-loop
 sub-at-once c = search rules
@@ -65,7 +65,7 @@ loop-again : tie.Need-loop-preserved invariant-loop decreases-loop
 loop-again c =
     let loop = c.before.before.before.before.before.before.before.before.loop in
     let once = c.before.before.before.before.before.before.at_once.ensures in (
-      lines-onward _ _ _ _ _ loop.invariant.0 c.before.before.before.before.print-lines.ensures,
+      lines_onward _ _ _ _ _ loop.invariant.0 c.before.before.before.before.print-lines.ensures,
       omega (arith, once.0),
       search rules,
     )
@@ -78,8 +78,8 @@ returns-2 c =
     let loop = c.before.loop in
     let start = c.before.before.before.before.before in
     let p = start.args.prepared in
-    table-printed _ _ p start.requires.0 _
-    (subst (λ (k : ℕ). Handed (joined (lineIn (layoutIn p)) k) loop.done) (le_antisymm loop.invariant.1 c.loop-test.false) loop.invariant.0)
+    table_printed _ _ p start.requires.0 _
+    (subst (λ (k : ℕ). Handed (joined (line_in (layout_in p)) k) loop.done) (le_antisymm loop.invariant.1 c.loop-test.false) loop.invariant.0)
 
 pub print-table-spec : {M : Type 1} → statement M
 print-table-spec =

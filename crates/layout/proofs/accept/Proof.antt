@@ -1,7 +1,7 @@
 -- Questions 1 to 4 and 18, then the record as it came.
 use mathlib.Core.Path.{sym, ap, ◌∙◌}
-use Rattle.layout.specs.Parts.{foundOutcome}
-use Rattle.layout.proofs.Calls.{create-refused, create-given}
+use Rattle.layout.specs.Parts.{found_outcome}
+use Rattle.layout.proofs.Calls.{create_refused, create_given}
 use borrow.Author.Rules.{rules}
 use Rattle.layout.proofs.accept.Statement.{statement}
 use Rattle.layout.proofs.accept.Tie as tie
@@ -16,10 +16,10 @@ enum_told : tie.Need-enum-told
 enum_told c = search rules
 
 returns : tie.Need-returns
-returns c = create-refused _ _ (sym (ap foundOutcome c.before.q.given.1) ∙ c.before.before.before.ask.ensures)
+returns c = create_refused _ _ (sym (ap found_outcome c.before.q.given.1) ∙ c.before.before.before.ask.ensures)
 
 returns-2 : tie.Need-returns-2
-returns-2 c = create-given _ _ (sym (ap foundOutcome c.enum_told.given.1) ∙ c.before.before.ask.ensures)
+returns-2 c = create_given _ _ (sym (ap found_outcome c.enum_told.given.1) ∙ c.before.before.ask.ensures)
 
 pub accept-spec : {M : Type 1} → statement M
 accept-spec =

@@ -1,9 +1,9 @@
 -- Questions 1 to 4 and 18, then those of the texts, then 10.
 use mathlib.Core.Path.{refl, sym, ap, ◌∙◌}
-use Rattle.answer.proofs.Lent.{filled-refused}
-use Rattle.layout.specs.Parts.{foundOutcome}
-use Rattle.layout.proofs.Calls.{refused-in-room}
-use Rattle.layout_explaining.proofs.Calls.{asked_of, text-refused, text-held}
+use Rattle.answer.proofs.Lent.{filled_refused}
+use Rattle.layout.specs.Parts.{found_outcome}
+use Rattle.layout.proofs.Calls.{refused_in_room}
+use Rattle.layout_explaining.proofs.Calls.{asked_of, text_refused, text_held}
 use borrow.Author.Rules.{rules}
 use Rattle.layout_explaining.proofs.explain_text.Statement.{statement}
 use Rattle.layout_explaining.proofs.explain_text.Tie as tie
@@ -22,18 +22,18 @@ enum-known-found c = search rules
 
 tell-requires : tie.Need-tell-requires
 tell-requires c κs =
-    asked_of _ _ _ c.before.before.before.before.before.row.ensures (sym (ap foundOutcome c.before.before.found.given.1) ∙ c.before.before.before.before.ask-with-row.ensures)
+    asked_of _ _ _ c.before.before.before.before.before.row.ensures (sym (ap found_outcome c.before.before.found.given.1) ∙ c.before.before.before.before.ask-with-row.ensures)
 
 returns : tie.Need-returns
 returns c =
-    filled-refused _ _ (refused-in-room _ _ _ (text-refused _ _ _ _ (sym (ap foundOutcome c.before.q.given.1) ∙ c.before.before.before.ask-with-row.ensures))) refl
+    filled_refused _ _ (refused_in_room _ _ _ (text_refused _ _ _ _ (sym (ap found_outcome c.before.q.given.1) ∙ c.before.before.before.ask-with-row.ensures))) refl
 
 same_length : tie.Need-same-length
 same_length c = search rules
 
 returns-2 : tie.Need-returns-2
 returns-2 c =
-    text-held _ _ _ _ (sym (ap foundOutcome c.before.before.before.before.before.found.given.1) ∙ c.before.before.before.before.before.before.before.ask-with-row.ensures) c.before.before.tell.ensures
+    text_held _ _ _ _ (sym (ap found_outcome c.before.before.before.before.before.found.given.1) ∙ c.before.before.before.before.before.before.before.ask-with-row.ensures) c.before.before.tell.ensures
 
 pub explain-text-spec : {M : Type 1} → statement M
 explain-text-spec =

@@ -1,8 +1,8 @@
 -- Questions 1 to 4 and 18, then those of the texts.
 use mathlib.Core.Path.{sym, ap, ◌∙◌}
-use Rattle.layout.specs.Parts.{foundOutcome}
+use Rattle.layout.specs.Parts.{found_outcome}
 use Rattle.answer.specs.Lent.{counted}
-use Rattle.layout_explaining.proofs.Calls.{asked_of, text-refused, text-answered}
+use Rattle.layout_explaining.proofs.Calls.{asked_of, text_refused, text_answered}
 use borrow.Author.Rules.{rules}
 use Rattle.layout_explaining.proofs.explain_text_len.Statement.{statement}
 use Rattle.layout_explaining.proofs.explain_text_len.Tie as tie
@@ -21,20 +21,20 @@ enum-known-found c = search rules
 
 told-len-requires : tie.Need-told-len-requires
 told-len-requires c κs =
-    asked_of _ _ _ c.before.before.before.before.row.ensures (sym (ap foundOutcome c.before.found.given.1) ∙ c.before.before.before.ask-with-row.ensures)
+    asked_of _ _ _ c.before.before.before.before.row.ensures (sym (ap found_outcome c.before.found.given.1) ∙ c.before.before.before.ask-with-row.ensures)
 
 returns : tie.Need-returns
 returns c =
     record {
       answered =
-          ap counted (text-refused _ _ _ _ (sym (ap foundOutcome c.before.q.given.1) ∙ c.before.before.before.ask-with-row.ensures));
+          ap counted (text_refused _ _ _ _ (sym (ap found_outcome c.before.q.given.1) ∙ c.before.before.before.ask-with-row.ensures));
       short = tt;
     }
 
 returns-2 : tie.Need-returns-2
 returns-2 c =
     record {
-      answered = text-answered _ _ _ _ (sym (ap foundOutcome c.before.before.found.given.1) ∙ c.before.before.before.before.ask-with-row.ensures) _ c.told-len.ensures.0;
+      answered = text_answered _ _ _ _ (sym (ap found_outcome c.before.before.found.given.1) ∙ c.before.before.before.before.ask-with-row.ensures) _ c.told-len.ensures.0;
       short = c.told-len.ensures.1;
     }
 

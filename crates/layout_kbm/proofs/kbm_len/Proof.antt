@@ -1,9 +1,9 @@
 -- Questions 1 to 4 and 18, then the length of the layout's file.
 use mathlib.Core.Path.{sym, ap, ◌∙◌}
 use Rattle.answer.specs.Lent.{counted}
-use Rattle.layout.specs.Parts.{foundOutcome}
-use Rattle.layout.proofs.Calls.{laid_of, ready-given}
-use Rattle.layout_kbm.proofs.Calls.{kbm-refused, kbm-counted}
+use Rattle.layout.specs.Parts.{found_outcome}
+use Rattle.layout.proofs.Calls.{laid_of, ready_given}
+use Rattle.layout_kbm.proofs.Calls.{kbm_refused, kbm_counted}
 use borrow.Author.Rules.{rules}
 use Rattle.layout_kbm.proofs.kbm_len.Statement.{statement}
 use Rattle.layout_kbm.proofs.kbm_len.Tie as tie
@@ -18,20 +18,20 @@ enum-known-found : tie.Need-enum-known-found
 enum-known-found c = search rules
 
 prepare-requires : tie.Need-prepare-requires
-prepare-requires c κs = laid_of _ _ (sym (ap foundOutcome c.before.found.given.1) ∙ c.before.before.before.ask.ensures)
+prepare-requires c κs = laid_of _ _ (sym (ap found_outcome c.before.found.given.1) ∙ c.before.before.before.ask.ensures)
 
 file-len-requires : tie.Need-file-len-requires
 file-len-requires c κs = search rules
 
 returns : tie.Need-returns
-returns c = ap counted (kbm-refused _ _ (sym (ap foundOutcome c.before.q.given.1) ∙ c.before.before.before.ask.ensures))
+returns c = ap counted (kbm_refused _ _ (sym (ap found_outcome c.before.q.given.1) ∙ c.before.before.before.ask.ensures))
 
 returns-2 : tie.Need-returns-2
 returns-2 c =
     let found = c.before.before.before in
-    let e = sym (ap foundOutcome found.found.given.1) ∙ found.before.before.ask.ensures in
+    let e = sym (ap found_outcome found.found.given.1) ∙ found.before.before.ask.ensures in
     let ready = c.before.prepare in
-    kbm-counted _ _ (ready-given _ _ e ready.result ready.ensures.1) _ c.file-len.ensures
+    kbm_counted _ _ (ready_given _ _ e ready.result ready.ensures.1) _ c.file-len.ensures
 
 pub kbm-len-spec : {M : Type 1} → statement M
 kbm-len-spec =

@@ -1,9 +1,9 @@
 -- Questions 1 to 4 and 18, then those of the text.
 use mathlib.Core.Path.{refl, sym, ap, ◌∙◌}
-use Rattle.answer.proofs.Lent.{filled-refused}
-use Rattle.layout.specs.Parts.{foundOutcome}
-use Rattle.layout.proofs.Calls.{filled-as, refused-in-room}
-use Rattle.layout_kbm.proofs.Calls.{keys-refused, keys-in-room}
+use Rattle.answer.proofs.Lent.{filled_refused}
+use Rattle.layout.specs.Parts.{found_outcome}
+use Rattle.layout.proofs.Calls.{filled_as, refused_in_room}
+use Rattle.layout_kbm.proofs.Calls.{keys_refused, keys_in_room}
 use borrow.Author.Rules.{rules}
 use Rattle.layout_kbm.proofs.read_kbm.Statement.{statement}
 use Rattle.layout_kbm.proofs.read_kbm.Tie as tie
@@ -22,8 +22,8 @@ read-keys-requires c κs = search rules
 
 returns : tie.Need-returns
 returns c =
-    filled-refused _ _
-    (refused-in-room _ _ _ (keys-refused _ _ (sym (ap foundOutcome c.before.q.given.1) ∙ c.before.before.before.ask.ensures) _)) refl
+    filled_refused _ _
+    (refused_in_room _ _ _ (keys_refused _ _ (sym (ap found_outcome c.before.q.given.1) ∙ c.before.before.before.ask.ensures) _)) refl
 
 same_length : tie.Need-same-length
 same_length c = search rules
@@ -31,7 +31,7 @@ same_length c = search rules
 returns-2 : tie.Need-returns-2
 returns-2 c =
     let found = c.before.before.before.before.before in
-    filled-as (keys-in-room _ _ (sym (ap foundOutcome found.found.given.1) ∙ found.before.before.ask.ensures) _ _) c.before.before.read-keys.ensures
+    filled_as (keys_in_room _ _ (sym (ap found_outcome found.found.given.1) ∙ found.before.before.ask.ensures) _ _) c.before.before.read-keys.ensures
 
 pub read-kbm-spec : {M : Type 1} → statement M
 read-kbm-spec =

@@ -1,9 +1,9 @@
 -- Questions 1 to 4 and 18, then the layout's file.
 use mathlib.Core.Path.{refl, sym, ap, ◌∙◌}
-use Rattle.answer.proofs.Lent.{filled-refused}
-use Rattle.layout.specs.Parts.{foundOutcome}
-use Rattle.layout.proofs.Calls.{laid_of, ready-given, filled-as, refused-in-room}
-use Rattle.layout_kbm.proofs.Calls.{kbm-refused, kbm-in-room}
+use Rattle.answer.proofs.Lent.{filled_refused}
+use Rattle.layout.specs.Parts.{found_outcome}
+use Rattle.layout.proofs.Calls.{laid_of, ready_given, filled_as, refused_in_room}
+use Rattle.layout_kbm.proofs.Calls.{kbm_refused, kbm_in_room}
 use borrow.Author.Rules.{rules}
 use Rattle.layout_kbm.proofs.write_kbm.Statement.{statement}
 use Rattle.layout_kbm.proofs.write_kbm.Tie as tie
@@ -18,13 +18,13 @@ enum-known-found : tie.Need-enum-known-found
 enum-known-found c = search rules
 
 prepare-requires : tie.Need-prepare-requires
-prepare-requires c κs = laid_of _ _ (sym (ap foundOutcome c.before.found.given.1) ∙ c.before.before.before.ask.ensures)
+prepare-requires c κs = laid_of _ _ (sym (ap found_outcome c.before.found.given.1) ∙ c.before.before.before.ask.ensures)
 
 write-file-requires : tie.Need-write-file-requires
 write-file-requires c κs = search rules
 
 returns : tie.Need-returns
-returns c = filled-refused _ _ (refused-in-room _ _ _ (kbm-refused _ _ (sym (ap foundOutcome c.before.q.given.1) ∙ c.before.before.before.ask.ensures))) refl
+returns c = filled_refused _ _ (refused_in_room _ _ _ (kbm_refused _ _ (sym (ap found_outcome c.before.q.given.1) ∙ c.before.before.before.ask.ensures))) refl
 
 same_length : tie.Need-same-length
 same_length c = search rules
@@ -32,9 +32,9 @@ same_length c = search rules
 returns-2 : tie.Need-returns-2
 returns-2 c =
     let found = c.before.before.before.before.before.before in
-    let e = sym (ap foundOutcome found.found.given.1) ∙ found.before.before.ask.ensures in
+    let e = sym (ap found_outcome found.found.given.1) ∙ found.before.before.ask.ensures in
     let ready = c.before.before.before.before.prepare in
-    filled-as (kbm-in-room _ _ (ready-given _ _ e ready.result ready.ensures.1) _) c.before.before.write-file.ensures
+    filled_as (kbm_in_room _ _ (ready_given _ _ e ready.result ready.ensures.1) _) c.before.before.write-file.ensures
 
 pub write-kbm-spec : {M : Type 1} → statement M
 write-kbm-spec =

@@ -1,9 +1,9 @@
 -- Questions 1 to 4 and 18, then the number of entries.
 use mathlib.Core.Path.{sym, ap, ◌∙◌}
 use Rattle.answer.specs.Lent.{counted}
-use Rattle.layout.specs.Parts.{foundOutcome}
+use Rattle.layout.specs.Parts.{found_outcome}
 use Rattle.layout.proofs.Calls.{laid_of}
-use Rattle.layout_layers.proofs.Calls.{layers-refused, length-given}
+use Rattle.layout_layers.proofs.Calls.{layers_refused, length_given}
 use borrow.Author.Rules.{rules}
 use Rattle.layout_layers.proofs.layers_len.Statement.{statement}
 use Rattle.layout_layers.proofs.layers_len.Tie as tie
@@ -18,18 +18,18 @@ enum-known-found : tie.Need-enum-known-found
 enum-known-found c = search rules
 
 plan-of-requires : tie.Need-plan-of-requires
-plan-of-requires c κs = laid_of _ _ (sym (ap foundOutcome c.before.found.given.1) ∙ c.before.before.before.ask.ensures)
+plan-of-requires c κs = laid_of _ _ (sym (ap found_outcome c.before.found.given.1) ∙ c.before.before.before.ask.ensures)
 
 entries-requires : tie.Need-entries-requires
 entries-requires c κs = search rules
 
 returns : tie.Need-returns
-returns c = ap counted (layers-refused _ _ (sym (ap foundOutcome c.before.q.given.1) ∙ c.before.before.before.ask.ensures))
+returns c = ap counted (layers_refused _ _ (sym (ap found_outcome c.before.q.given.1) ∙ c.before.before.before.ask.ensures))
 
 returns-2 : tie.Need-returns-2
 returns-2 c =
-    let e = sym (ap foundOutcome c.before.before.before.found.given.1) ∙ c.before.before.before.before.before.ask.ensures in
-    length-given _ _ e _ c.before.plan-of.ensures _ c.entries.ensures
+    let e = sym (ap found_outcome c.before.before.before.found.given.1) ∙ c.before.before.before.before.before.ask.ensures in
+    length_given _ _ e _ c.before.plan-of.ensures _ c.entries.ensures
 
 pub layers-len-spec : {M : Type 1} → statement M
 layers-len-spec =

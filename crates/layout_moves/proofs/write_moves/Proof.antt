@@ -3,10 +3,10 @@ use mathlib.Core.Path.{sym, ap, ◌∙◌, subst}
 use lib.IntN.{ℤ}
 use borrow.Author.Rules.{rules}
 use Rattle.mos_moves.specs.Moves.{Table, SmallTable}
-use Rattle.mos_moves.proofs.Theorems.{own-small}
-use Rattle.layout.specs.Parts.{foundOutcome}
-use Rattle.layout.proofs.Calls.{parts-of}
-use Rattle.layout_moves.proofs.Theorems.{on-walk, numbers-refused, numbers-short, numbers-given}
+use Rattle.mos_moves.proofs.Theorems.{own_small}
+use Rattle.layout.specs.Parts.{found_outcome}
+use Rattle.layout.proofs.Calls.{parts_of}
+use Rattle.layout_moves.proofs.Theorems.{on_walk, numbers_refused, numbers_short, numbers_given}
 use Rattle.layout_moves.proofs.write_moves.Statement.{statement}
 use Rattle.layout_moves.proofs.write_moves.Tie as tie
 
@@ -20,31 +20,31 @@ enum-known-found : tie.Need-enum-known-found
 enum-known-found c = search rules
 
 returns : tie.Need-returns
-returns c = numbers-short _ _ _ (sym (ap foundOutcome c.before.before.found.given.1) ∙ c.before.before.before.before.ask.ensures) c.if1.true
+returns c = numbers_short _ _ _ (sym (ap found_outcome c.before.before.found.given.1) ∙ c.before.before.before.before.ask.ensures) c.if1.true
 
 pattern-moves-requires : tie.Need-pattern-moves-requires
 pattern-moves-requires c κs =
-    let parts = parts-of _ _ (sym (ap foundOutcome c.before.before.before.found.given.1) ∙ c.before.before.before.before.before.ask.ensures) in
-    (parts.positive, on-walk _ parts)
+    let parts = parts_of _ _ (sym (ap found_outcome c.before.before.before.found.given.1) ∙ c.before.before.before.before.before.ask.ensures) in
+    (parts.positive, on_walk _ parts)
 
 put-moves-requires : tie.Need-put-moves-requires
 put-moves-requires c κs =
     let found = c.before.before.before.before.before.found.given.0.0 in
-    let parts = parts-of _ _ (sym (ap foundOutcome c.before.before.before.before.before.found.given.1) ∙ c.before.before.before.before.before.before.before.ask.ensures) in (
+    let parts = parts_of _ _ (sym (ap found_outcome c.before.before.before.before.before.found.given.1) ∙ c.before.before.before.before.before.before.before.ask.ensures) in (
       c.before.before.before.if1.false,
       subst (λ (t : Table ℤ). SmallTable t) (sym c.before.pattern-moves.ensures)
-          (own-small found.octave found.generator parts.positive (search rules) (search rules) found.pattern (on-walk _ parts)),
+          (own_small found.octave found.generator parts.positive (search rules) (search rules) found.pattern (on_walk _ parts)),
     )
 
 returns-2 : tie.Need-returns-2
-returns-2 c = numbers-refused _ _ _ (sym (ap foundOutcome c.before.q.given.1) ∙ c.before.before.before.ask.ensures)
+returns-2 c = numbers_refused _ _ _ (sym (ap found_outcome c.before.q.given.1) ∙ c.before.before.before.ask.ensures)
 
 same_length : tie.Need-same-length
 same_length c = search rules
 
 returns-3 : tie.Need-returns-3
 returns-3 c =
-    numbers-given _ _ _ (sym (ap foundOutcome c.before.before.before.before.before.before.before.found.given.1) ∙ c.before.before.before.before.before.before.before.before.before.ask.ensures) c.before.before.before.before.before.if1.false _ c.before.before.before.pattern-moves.ensures c.before.put-moves.ensures
+    numbers_given _ _ _ (sym (ap found_outcome c.before.before.before.before.before.before.before.found.given.1) ∙ c.before.before.before.before.before.before.before.before.before.ask.ensures) c.before.before.before.before.before.if1.false _ c.before.before.before.pattern-moves.ensures c.before.put-moves.ensures
 
 pub write-moves-spec : {M : Type 1} → statement M
 write-moves-spec =

@@ -1,6 +1,6 @@
 -- In chain order, as the part that goes both ways gives it.
 use borrow.Author.Rules.{rules}
-use Rattle.layout_order.specs.Parts.{getOrder}
+use Rattle.layout_order.specs.Parts.{get_order}
 use Rattle.layout_order.proofs.to_chain_order.Statement.{statement}
 use Rattle.layout_order.proofs.to_chain_order.Tie as tie
 
@@ -11,7 +11,7 @@ same_length : tie.Need-same-length
 same_length c = search rules
 
 returns : tie.Need-returns
-unfolding getOrder
+unfolding get_order
 returns c = search rules
 
 pub to-chain-order-spec : {M : Type 1} → statement M

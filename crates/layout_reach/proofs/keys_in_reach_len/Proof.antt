@@ -1,7 +1,7 @@
 -- Questions 1 to 4 and 18, then the count.
 use mathlib.Core.Path.{sym, ap, ◌∙◌}
-use Rattle.layout.specs.Parts.{foundOutcome}
-use Rattle.layout_reach.proofs.Spans.{count-refused, count-given}
+use Rattle.layout.specs.Parts.{found_outcome}
+use Rattle.layout_reach.proofs.Spans.{count_refused, count_given}
 use borrow.Author.Rules.{rules}
 use Rattle.layout_reach.proofs.keys_in_reach_len.Statement.{statement}
 use Rattle.layout_reach.proofs.keys_in_reach_len.Tie as tie
@@ -19,10 +19,10 @@ reach-count-requires : tie.Need-reach-count-requires
 reach-count-requires c κs = search rules
 
 returns : tie.Need-returns
-returns c = count-refused _ _ _ (sym (ap foundOutcome c.before.q.given.1) ∙ c.before.before.before.ask.ensures)
+returns c = count_refused _ _ _ (sym (ap found_outcome c.before.q.given.1) ∙ c.before.before.before.ask.ensures)
 
 returns-2 : tie.Need-returns-2
-returns-2 c = count-given _ _ _ (sym (ap foundOutcome c.before.before.found.given.1) ∙ c.before.before.before.before.ask.ensures) _ c.reach-count.ensures
+returns-2 c = count_given _ _ _ (sym (ap found_outcome c.before.before.found.given.1) ∙ c.before.before.before.before.ask.ensures) _ c.reach-count.ensures
 
 pub keys-in-reach-len-spec : {M : Type 1} → statement M
 keys-in-reach-len-spec =

@@ -1,7 +1,7 @@
 -- Questions 1 to 4 and 18, then those of the text.
 use mathlib.Core.Path.{sym, ap, ◌∙◌}
-use Rattle.layout.specs.Parts.{foundOutcome}
-use Rattle.layout_reading.proofs.Calls.{asked_of, finding-refused, finding-given}
+use Rattle.layout.specs.Parts.{found_outcome}
+use Rattle.layout_reading.proofs.Calls.{asked_of, finding_refused, finding_given}
 use borrow.Author.Rules.{rules}
 use Rattle.layout_reading.proofs.find_key.Statement.{statement}
 use Rattle.layout_reading.proofs.find_key.Tie as tie
@@ -22,13 +22,13 @@ gcd-u16-requires : tie.Need-gcd-u16-requires
 gcd-u16-requires c κs = search rules
 
 find-requires : tie.Need-find-requires
-find-requires c κs = asked_of _ _ _ c.before.before.before.before.before.row.ensures (sym (ap foundOutcome c.before.before.found.given.1) ∙ c.before.before.before.before.ask-with-row.ensures) _ c.gcd-u16.ensures.is
+find-requires c κs = asked_of _ _ _ c.before.before.before.before.before.row.ensures (sym (ap found_outcome c.before.before.found.given.1) ∙ c.before.before.before.before.ask-with-row.ensures) _ c.gcd-u16.ensures.is
 
 returns : tie.Need-returns
-returns c = finding-refused _ _ _ (sym (ap foundOutcome c.before.q.given.1) ∙ c.before.before.before.ask-with-row.ensures)
+returns c = finding_refused _ _ _ (sym (ap found_outcome c.before.q.given.1) ∙ c.before.before.before.ask-with-row.ensures)
 
 returns-2 : tie.Need-returns-2
-returns-2 c = finding-given _ _ _ (sym (ap foundOutcome c.before.before.before.found.given.1) ∙ c.before.before.before.before.before.ask-with-row.ensures) _ c.find.ensures
+returns-2 c = finding_given _ _ _ (sym (ap found_outcome c.before.before.before.found.given.1) ∙ c.before.before.before.before.before.ask-with-row.ensures) _ c.find.ensures
 
 pub find-key-spec : {M : Type 1} → statement M
 find-key-spec =

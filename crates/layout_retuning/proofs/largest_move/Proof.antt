@@ -1,8 +1,8 @@
 -- The questions of both layouts, then the largest.
 use mathlib.Core.Path.{sym, ap, ◌∙◌}
-use Rattle.layout_retuning.specs.Parts.{tuningsOutcome}
+use Rattle.layout_retuning.specs.Parts.{tunings_outcome}
 use Rattle.layout_retuning.proofs.BothLayouts.{tuned}
-use Rattle.layout_retuning.proofs.Largest.{largest-refused, largest-given}
+use Rattle.layout_retuning.proofs.Largest.{largest_refused, largest_given}
 use borrow.Author.Rules.{rules}
 use Rattle.layout_retuning.proofs.largest_move.Statement.{statement}
 use Rattle.layout_retuning.proofs.largest_move.Tie as tie
@@ -17,14 +17,14 @@ enum-known-tunings : tie.Need-enum-known-tunings
 enum-known-tunings c = search rules
 
 largest-in-requires : tie.Need-largest-in-requires
-largest-in-requires c κs = tuned _ _ (sym (ap tuningsOutcome c.before.tunings.given.1) ∙ c.before.before.before.ask.ensures)
+largest-in-requires c κs = tuned _ _ (sym (ap tunings_outcome c.before.tunings.given.1) ∙ c.before.before.before.ask.ensures)
 
 returns : tie.Need-returns
-returns c = largest-refused _ _ (sym (ap tuningsOutcome c.before.q.given.1) ∙ c.before.before.before.ask.ensures)
+returns c = largest_refused _ _ (sym (ap tunings_outcome c.before.q.given.1) ∙ c.before.before.before.ask.ensures)
 
 returns-2 : tie.Need-returns-2
 returns-2 c =
-    largest-given _ _ (sym (ap tuningsOutcome c.before.before.tunings.given.1) ∙ c.before.before.before.before.ask.ensures) _
+    largest_given _ _ (sym (ap tunings_outcome c.before.before.tunings.given.1) ∙ c.before.before.before.before.ask.ensures) _
     c.largest-in.ensures
 
 pub largest-move-spec : {M : Type 1} → statement M

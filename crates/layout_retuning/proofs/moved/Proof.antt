@@ -1,10 +1,10 @@
 -- The questions of both layouts, then those of the spelling with these signs.
 use mathlib.Core.Path.{sym, ap, ◌∙◌}
 use mir.Syntax.{w32}
-use Rattle.math.proofs.Signed.{read_back}
-use Rattle.layout_retuning.specs.Parts.{tuningsOutcome}
+use Rattle.math.proofs.Signed.{read_back_lem}
+use Rattle.layout_retuning.specs.Parts.{tunings_outcome}
 use Rattle.layout_retuning.proofs.BothLayouts.{tuned}
-use Rattle.layout_retuning.proofs.Calls.{moved-refused, moved-with-signs}
+use Rattle.layout_retuning.proofs.Calls.{moved_refused, moved_with_signs}
 use borrow.Author.Rules.{rules}
 use Rattle.layout_retuning.proofs.moved.Statement.{statement}
 use Rattle.layout_retuning.proofs.moved.Tie as tie
@@ -23,17 +23,17 @@ from-number-requires c κs = search rules
 
 moved-in-requires : tie.Need-moved-in-requires
 moved-in-requires c κs =
-    tuned _ _ (sym (ap tuningsOutcome c.before.before.tunings.given.1) ∙ c.before.before.before.before.ask.ensures)
+    tuned _ _ (sym (ap tunings_outcome c.before.before.tunings.given.1) ∙ c.before.before.before.before.ask.ensures)
 
 returns : tie.Need-returns
-returns c = moved-refused _ _ _ (sym (ap tuningsOutcome c.before.q.given.1) ∙ c.before.before.before.ask.ensures)
+returns c = moved_refused _ _ _ (sym (ap tunings_outcome c.before.q.given.1) ∙ c.before.before.before.ask.ensures)
 
 returns-2 : tie.Need-returns-2
 returns-2 c =
     let asked = c.before.before.before.before.before in
     let start = asked.before in
-    moved-with-signs _ _ _ start.args.signs _ _ (read_back w32 start.args.signs start.ranges.signs) c.before.from-number.ensures
-    _ (sym (ap tuningsOutcome c.before.before.before.tunings.given.1) ∙ asked.ask.ensures) _ c.moved_in.ensures
+    moved_with_signs _ _ _ start.args.signs _ _ (read_back_lem w32 start.args.signs start.ranges.signs) c.before.from-number.ensures
+    _ (sym (ap tunings_outcome c.before.before.before.tunings.given.1) ∙ asked.ask.ensures) _ c.moved_in.ensures
 
 pub moved-spec : {M : Type 1} → statement M
 moved-spec =

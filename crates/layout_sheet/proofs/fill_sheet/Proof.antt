@@ -61,16 +61,16 @@ use Rattle.pergen.specs.declared.stepping.Key.{Key}
 use Rattle.pergen.specs.contracts.stepping.Key as K
 use Rattle.pergen.proofs.stepping.Key.TheLaws as K'
 use Rattle.layout.specs.declared.IsomorphicLayout.{IsomorphicLayout}
-use Rattle.layout.specs.Parts.{layoutIn}
+use Rattle.layout.specs.Parts.{layout_in}
 use Rattle.layout.specs.contracts.IsomorphicLayout as Q
 use Rattle.layout.proofs.IsomorphicLayout.TheLaws as Q'
 use Rattle.layout_sheet.specs.declared.Record.{Record}
 use Rattle.layout_sheet.specs.declared.parts.Sheet.{Sheet}
 use Rattle.layout_sheet.specs.declared.parts.Source.{Source}
 use Rattle.layout_sheet.specs.declared.parts.Turn.{Turn}
-use Rattle.layout_sheet.specs.Sheets.{recordIn}
-use Rattle.layout_sheet.specs.Parts.{Walking, filledTo, PreparedFor}
-use Rattle.layout_sheet.proofs.Changed.{changed-none, changed-length, changed-next, some_of}
+use Rattle.layout_sheet.specs.Sheets.{record_in}
+use Rattle.layout_sheet.specs.Parts.{Walking, filled_to, PreparedFor}
+use Rattle.layout_sheet.proofs.Changed.{changed_none, changed_length, changed_next, some_of}
 use Rattle.layout_sheet.specs.contracts.Record as T
 use Rattle.layout_sheet.proofs.Record.TheLaws as T'
 use Rattle.layout_sheet.specs.contracts.parts.Sheet as P
@@ -95,8 +95,8 @@ use Rattle.layout_sheet.proofs.fill_sheet.Code.Mir as mir
 
 -- ---- facts of lists and numbers
 -- the offset of element i fits where the elements, of s bytes each, have room
-offset-fits : (s i n : ℕ) → i < n → n * s < 2 ^ 63 → i * s < 2 ^ 64
-offset-fits s i n l g = lt_of_le_of_lt (mul-le-mul_right s (le_of_lt l)) (lt_of_lt_of_le g (le_of_lt (lit< tt)))
+offset_fits : (s i n : ℕ) → i < n → n * s < 2 ^ 63 → i * s < 2 ^ 64
+offset_fits s i n l g = lt_of_le_of_lt (mul-le-mul_right s (le_of_lt l)) (lt_of_lt_of_le g (le_of_lt (lit< tt)))
 
 holds : (t : Bool) → t ≡ true → Holds t
 holds t e = subst (λ (u : Bool). Holds u) (sym e) tt
@@ -108,7 +108,7 @@ fails t e = subst (λ (u : Bool). Holds (not u)) (sym e) tt
 
 -- how a record is filled, of what was prepared
 abbrev fill : Sheet → Record → Record
-fill p = recordIn (layoutIn p.source.prepared)
+fill p = record_in (layout_in p.source.prepared)
 
 abbrev R-vals : Record → List Val
 R-vals = LL.vals T.the_type T'.the_laws
@@ -150,7 +150,7 @@ module _ {M : Type 1} {𝓤 : Ura M} (𝓛 : Logic 𝓤) (at_mem : Memory → SP
 
   -- of each callee's `ensured`, the clause alone
   abbrev Said : Source → Record → Turn → Type 0
-  Said l r t = (t.record ≡ recordIn (layoutIn l.prepared) r) × Walking l t.key
+  Said l r t = (t.record ≡ record_in (layout_in l.prepared) r) × Walking l t.key
 
   one-says : (l : Source) (k : Key) (r : Record) (t : Turn)
       → ent 𝓤 (ensured 𝓛 one.ended (one.clauses 𝓛 at_mem run) tt (l, (k, (r, tt))) tt t) (fact 𝓤 (Said l r t))
@@ -179,13 +179,13 @@ module _ {M : Type 1} {𝓤 : Ura M} (𝓛 : Logic 𝓤) (at_mem : Memory → SP
 
   module _ (p : Sheet) (is : Is P.the_row p (P-val p ∷ [])) (e : PreparedFor rq n p) where
     abbrev after : ℕ → List Record
-    after i = filledTo p.source i xs
+    after i = filled_to p.source i xs
 
     abbrev m : ℕ
     m = p.count
 
     after-length : (i : ℕ) → length (after i) ≡ n
-    after-length i = changed-length (fill p) i xs
+    after-length i = changed_length (fill p) i xs
 
     -- the relations of the fields of what was prepared
     N-is : Is N.the_row p.answer (N-val p.answer ∷ [])
@@ -316,13 +316,13 @@ module _ {M : Type 1} {𝓤 : Ura M} (𝓛 : Logic 𝓤) (at_mem : Memory → SP
           (store_raw ! 1 refl ((LL.lawful T.the_type T'.the_laws 𝓛).typed t.record _ (record_is t u is-new)).0) $
           move ! (1 ∷ 0 ∷ []) $ elem_put ! T.the_row full_share (after i.0) i.0 t.record (R-vals t.record) b o here $
           assigns ! (of_opd ! (load ! (from ! (fld ! refl (stop !))) (look_in ! 16 (sub ! 1 refl (whole !))))) (from ! (stop !))
-          (store ! 20 refl ((LL.lawful K.the_type K'.the_laws 𝓛).typed t.key _ (key-is t u is-new)).0) $
+          (store ! 20 refl ((LL.lawful K.the_type K'.the_laws 𝓛).typed t.key _ (key_is t u is-new)).0) $
           assigns_last ! (bin ! (load ! (from ! (stop !)) (look ! 18 refl)) (lit ! tt) (record { fits = next_fits })) (from ! (stop !))
           (store ! 18 refl (tt, record { fits = next_fits })) $
           rewrite ! 0 (λ (zs : List Record). ‵ (row T.the_row full_share zs b o))
-          (ap (λ (z : Record). set (after i.0) i.0 z) new.0 ∙ changed-next (fill p) i.0 xs _ inside) refl $
+          (ap (λ (z : Record). set (after i.0) i.0 z) new.0 ∙ changed_next (fill p) i.0 xs _ inside) refl $
           forget ! 4 refl $ forget ! 6 refl $ forget ! 8 refl $ forget ! 10 refl $ forget ! 12 refl $ forget ! 16 refl $
-          again ! Nearer At i (i.0 + 1, add-one-le less, t.key, key-is t u is-new, λ _. new.1) (add-one-dec m i.0 less))))))
+          again ! Nearer At i (i.0 + 1, add-one-le less, t.key, key_is t u is-new, λ _. new.1) (add-one-dec m i.0 less))))))
         where
           less : i.0 < m
           less = ltb→lt i.0 m (holds (ltb i.0 m) yes-less)
@@ -334,7 +334,7 @@ module _ {M : Type 1} {𝓤 : Ura M} (𝓛 : Logic 𝓤) (at_mem : Memory → SP
           here = subst (λ (k : ℕ). i.0 < k) (sym (after-length i.0)) inside
 
           place-fits : i.0 * (mem T.the_row).size < 2 ^ 64
-          place-fits = offset-fits (mem T.the_row).size i.0 n inside g.1
+          place-fits = offset_fits (mem T.the_row).size i.0 n inside g.1
 
           next_fits : i.0 + 1 < 2 ^ 64
           next_fits = lt_of_le_of_lt (add-one-le inside) g.0
@@ -348,8 +348,8 @@ module _ {M : Type 1} {𝓤 : Ura M} (𝓛 : Logic 𝓤) (at_mem : Memory → SP
           record_is : (t : Turn) (u : Val) → Is U.the_row t (u ∷ []) → Is T.the_row t.record (R-vals t.record)
           record_is t u was = (LL.owed U.the_type U'.the_laws t _ (spelled t u was)).0
 
-          key-is : (t : Turn) (u : Val) → Is U.the_row t (u ∷ []) → Is K.the_row t.key (K-val t.key ∷ [])
-          key-is t u was = (LL.owed U.the_type U'.the_laws t _ (spelled t u was)).1.0
+          key_is : (t : Turn) (u : Val) → Is U.the_row t (u ∷ []) → Is K.the_row t.key (K-val t.key ∷ [])
+          key_is t u was = (LL.owed U.the_type U'.the_laws t _ (spelled t u was)).1.0
       turn_at i false no_less =
           assigns ! (bin ! (load ! (from ! (stop !)) (look ! 18 refl)) (load ! (from ! (stop !)) (look ! 22 refl)) tt) (from ! (stop !))
           (init ! 12 refl (tt, tt)) $
@@ -418,7 +418,7 @@ module _ {M : Type 1} {𝓤 : Ura M} (𝓛 : Logic 𝓤) (at_mem : Memory → SP
       (init ! 16 refl ((LL.lawful K.the_type K'.the_laws 𝓛).typed p.first _ (K-is p (spelled p v was) e)).0) $
       assigns ! (of_opd ! (lit ! tt)) (from ! (stop !)) (init ! 14 refl (tt, record { fits = lit< tt })) $
       move ! (30 ∷ 31 ∷ 32 ∷ []) $ opens_slice ! tt T.the_row xs b o $
-      rewrite ! 0 (λ (zs : List Record). ‵ (row T.the_row full_share zs b o)) (sym (changed-none (fill p) xs)) refl $
+      rewrite ! 0 (λ (zs : List Record). ‵ (row T.the_row full_share zs b o)) (sym (changed_none (fill p) xs)) refl $
       loops-at p (spelled p v was) e 𝓣 fm known-one l₀ l₁ l₂ l₃ l₄ l₅ l₆ l₇ l₈ l₉ l₁₀ l₁₁ l₁₂ l₁₃ l₁₄)))))))))))))))))))
     where
       spelled : (p : Sheet) (v : Val) → Is P.the_row p (v ∷ []) → Is P.the_row p (P-val p ∷ [])

@@ -1,9 +1,9 @@
 -- Questions 1 to 4 and 18, then the length of the layout's table.
 use mathlib.Core.Path.{sym, ap, ◌∙◌}
 use Rattle.answer.specs.Lent.{counted}
-use Rattle.layout.specs.Parts.{foundOutcome}
-use Rattle.layout.proofs.Calls.{laid_of, ready-given}
-use Rattle.layout_table.proofs.Calls.{table-refused, table_counted}
+use Rattle.layout.specs.Parts.{found_outcome}
+use Rattle.layout.proofs.Calls.{laid_of, ready_given}
+use Rattle.layout_table.proofs.Calls.{table_refused, table_counted}
 use borrow.Author.Rules.{rules}
 use Rattle.layout_table.proofs.table_len.Statement.{statement}
 use Rattle.layout_table.proofs.table_len.Tie as tie
@@ -18,20 +18,20 @@ enum-known-found : tie.Need-enum-known-found
 enum-known-found c = search rules
 
 prepare-requires : tie.Need-prepare-requires
-prepare-requires c κs = laid_of _ _ (sym (ap foundOutcome c.before.found.given.1) ∙ c.before.before.before.ask.ensures)
+prepare-requires c κs = laid_of _ _ (sym (ap found_outcome c.before.found.given.1) ∙ c.before.before.before.ask.ensures)
 
 lines-length-requires : tie.Need-lines-length-requires
 lines-length-requires c κs = search rules
 
 returns : tie.Need-returns
-returns c = ap counted (table-refused _ _ (sym (ap foundOutcome c.before.q.given.1) ∙ c.before.before.before.ask.ensures))
+returns c = ap counted (table_refused _ _ (sym (ap found_outcome c.before.q.given.1) ∙ c.before.before.before.ask.ensures))
 
 returns-2 : tie.Need-returns-2
 returns-2 c =
     let found = c.before.before.before in
     let ready = c.before.prepare in
-    let e = sym (ap foundOutcome found.found.given.1) ∙ found.before.before.ask.ensures in
-    table_counted _ _ (ready-given _ _ e ready.result ready.ensures.1) _ c.lines-length.ensures
+    let e = sym (ap found_outcome found.found.given.1) ∙ found.before.before.ask.ensures in
+    table_counted _ _ (ready_given _ _ e ready.result ready.ensures.1) _ c.lines-length.ensures
 
 pub table-len-spec : {M : Type 1} → statement M
 table-len-spec =

@@ -1,6 +1,6 @@
 -- The three numbers in turn, then the octave's bound.
 use mathlib.Core.Path.{sym, ◌∙◌}
-use Rattle.line.proofs.WholeLine.{no-first, no_second, no_third, octave-too-large, line-given}
+use Rattle.line.proofs.WholeLine.{no_first, no_second, no_third, octave_too_large, line_given}
 use borrow.Author.Rules.{rules}
 use Rattle.line.proofs.parse.Statement.{statement}
 use Rattle.line.proofs.parse.Tie as tie
@@ -15,7 +15,7 @@ enum_told : tie.Need-enum-told
 enum_told c = search rules
 
 returns : tie.Need-returns
-returns c = no-first _ (sym c.enum_told.given.1 ∙ c.before.before.read-field.ensures)
+returns c = no_first _ (sym c.enum_told.given.1 ∙ c.before.before.read-field.ensures)
 
 read-field-requires-2 : tie.Need-read-field-requires-2
 read-field-requires-2 c κs = search rules
@@ -54,7 +54,7 @@ returns-4 c =
     let t = c.before.before in
     let b = t.before.before.before.before in
     let a = b.before.before.before.before in
-    octave-too-large _ _ _ (sym a.genchain.given.1 ∙ a.before.before.read-field.ensures) _ _
+    octave_too_large _ _ _ (sym a.genchain.given.1 ∙ a.before.before.read-field.ensures) _ _
     (sym b.octave.given.1 ∙ b.before.before.read-field2.ensures) _ _
     (sym t.tritave.given.1 ∙ t.before.before.read-field3.ensures)
     c.if1.true
@@ -64,7 +64,7 @@ returns-5 c =
     let t = c.before.before in
     let b = t.before.before.before.before in
     let a = b.before.before.before.before in
-    line-given _ _ _ (sym a.genchain.given.1 ∙ a.before.before.read-field.ensures) _ _
+    line_given _ _ _ (sym a.genchain.given.1 ∙ a.before.before.read-field.ensures) _ _
     (sym b.octave.given.1 ∙ b.before.before.read-field2.ensures) _ _
     (sym t.tritave.given.1 ∙ t.before.before.read-field3.ensures)
     c.if1.false

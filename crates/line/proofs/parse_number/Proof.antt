@@ -1,6 +1,6 @@
 -- What is read at the front.
 use mathlib.Core.Path.{sym, ◌∙◌}
-use Rattle.line.proofs.OneNumber.{no-number-line, number-line}
+use Rattle.line.proofs.OneNumber.{no_number_line, number_line_lem}
 use borrow.Author.Rules.{rules}
 use Rattle.line.proofs.parse_number.Statement.{statement}
 use Rattle.line.proofs.parse_number.Tie as tie
@@ -15,10 +15,10 @@ enum_told : tie.Need-enum-told
 enum_told c = search rules
 
 returns : tie.Need-returns
-returns c = no-number-line _ (sym c.enum_told.given.1 ∙ c.before.before.read-field.ensures)
+returns c = no_number_line _ (sym c.enum_told.given.1 ∙ c.before.before.read-field.ensures)
 
 returns-2 : tie.Need-returns-2
-returns-2 c = number-line _ _ _ (sym c.before.number.given.1 ∙ c.before.before.before.read-field.ensures)
+returns-2 c = number_line_lem _ _ _ (sym c.before.number.given.1 ∙ c.before.before.before.read-field.ensures)
 
 pub parse-number-spec : {M : Type 1} → statement M
 parse-number-spec =

@@ -1,6 +1,6 @@
 -- No number, the end of the line, another byte, and the number with its byte.
 use mathlib.Core.Path.{sym, ◌∙◌}
-use Rattle.line.proofs.Fields.{nothing_read, line-ends, other_byte, field-read}
+use Rattle.line.proofs.Fields.{nothing_read, line_ends, other_byte, field_read}
 use borrow.Author.Rules.{rules}
 use Rattle.line.proofs.read_field.Statement.{statement}
 use Rattle.line.proofs.read_field.Tie as tie
@@ -20,7 +20,7 @@ returns c = nothing_read _ _ _ (sym c.enum_told.given.1 ∙ c.before.before.read
 returns-2 : tie.Need-returns-2
 returns-2 c =
     let b = c.before.before in
-    line-ends _ _ _ _ _ (sym b.value.given.1 ∙ b.before.before.read_number.ensures) b.before.before.before.before.requires c.if1.true
+    line_ends _ _ _ _ _ (sym b.value.given.1 ∙ b.before.before.read_number.ensures) b.before.before.before.before.requires c.if1.true
 
 shared-slice-read-if2 : tie.Need-shared-slice-read-if2
 shared-slice-read-if2 c = search rules
@@ -36,7 +36,7 @@ add-t7 c = search rules
 returns-4 : tie.Need-returns-4
 returns-4 c =
     let b = c.before.before.before.before in
-    field-read _ _ _ _ _ (sym b.value.given.1 ∙ b.before.before.read_number.ensures) c.if2.false
+    field_read _ _ _ _ _ (sym b.value.given.1 ∙ b.before.before.read_number.ensures) c.if2.false
 
 pub read-field-spec : {M : Type 1} → statement M
 read-field-spec =

@@ -3,7 +3,7 @@ use Prim.Native.Nat.{ℕ, ◌/◌}
 use mathlib.Core.Path.{ap}
 use borrow.Author.Rules.{rules}
 use Rattle.math.specs.declared.Fraction.{Fraction}
-use Rattle.math.specs.Gcd.{lowestTerms}
+use Rattle.math.specs.Gcd.{lowest_terms}
 use Rattle.math.proofs.simplify_u16.Statement.{statement}
 use Rattle.math.proofs.simplify_u16.Tie as tie
 
@@ -20,7 +20,7 @@ abbrev divided : ℕ → ℕ → ℕ → Fraction
 divided x y g = record { numer = x / g; denom = y / g }
 
 returns : tie.Need-returns
-unfolding lowestTerms
+unfolding lowest_terms
 returns c = ap (divided c.before.args.numer c.before.args.denom) c.gcd-u16.ensures.is
 
 pub simplify-u16-spec : {M : Type 1} → statement M

@@ -1,6 +1,6 @@
 -- `children` meets its contract: a walk of its MIR, by hand, since a slice of structs has no other proof. The borrow of the slice is opened
 -- once, before the loop, and closed once, after it. The loop's invariant: after i turns the slice has the first i patterns stored at its
--- front (`stored`), and the turn at hand is the i-th (`nth-turn`). Nothing of a pattern's fields is used: it is stored whole, and passed
+-- front (`stored`), and the turn at hand is the i-th (`nth_turn`). Nothing of a pattern's fields is used: it is stored whole, and passed
 -- whole to `next`.
 use mathlib.Core.Path.{◌≡◌, refl, sym, ◌∙◌, ap, subst}
 use Prim.Native.Nat.{ℕ, ◌+◌, ◌-◌, ◌*◌, ◌<◌, ◌≤◌, ◌^◌, zero-le}
@@ -54,15 +54,15 @@ use denote.Triple.Clauses.{ensured, lasts}
 use denote.Exit.{yes}
 use denote.Enum.Laws as EL
 use Rattle.answer.specs.Lent.{Filled}
-use Rattle.answer.specs.Refusals.{countOutcome}
+use Rattle.answer.specs.Refusals.{count_outcome}
 use Rattle.answer.specs.declared.CountAnswer.{CountAnswer}
 use Rattle.answer.specs.contracts.CountAnswer as N
 use Rattle.answer.proofs.CountAnswer.TheLaws as N'
 use Rattle.mos_fractional.specs.declared.FractionalMos.{FractionalMos}
 use Rattle.mos_fractional.specs.declared.walks.Turn.{Turn}
-use Rattle.mos_fractional.specs.Answers.{listingOutcome}
-use Rattle.mos_fractional.specs.Parts.{nextTurn, Turns, answeredOf}
-use Rattle.mos_fractional.proofs.Storing.{nth-turn, nth-turn-none, nth-turn-more, stored, stored-length, stored-none, stored_more, still-stores, no-more-stored, listed, listed-fits, listing-filled}
+use Rattle.mos_fractional.specs.Answers.{listing_outcome}
+use Rattle.mos_fractional.specs.Parts.{next_turn, Turns, answered_of}
+use Rattle.mos_fractional.proofs.Storing.{nth_turn, nth_turn_none, nth_turn_more, stored, stored_length, stored_none, stored_more, still_stores, no_more_stored, listed, listed_fits, listing_filled}
 use Rattle.mos_fractional.specs.contracts.FractionalMos as T
 use Rattle.mos_fractional.proofs.FractionalMos.TheLaws as T'
 use Rattle.mos_fractional.specs.contracts.walks.Turn as U
@@ -88,8 +88,8 @@ use Rattle.mos_fractional.proofs.children.Code.Mir as mir
 -- ---- facts of numbers
 
 -- the offset of element i fits where the elements, of s bytes each, have room
-offset-fits : (s i n : ℕ) → i < n → n * s < 2 ^ 63 → i * s < 2 ^ 64
-offset-fits s i n l g = lt_of_le_of_lt (mul-le-mul_right s (le_of_lt l)) (lt_of_lt_of_le g (le_of_lt (lit< tt)))
+offset_fits : (s i n : ℕ) → i < n → n * s < 2 ^ 63 → i * s < 2 ^ 64
+offset_fits s i n l g = lt_of_le_of_lt (mul-le-mul_right s (le_of_lt l)) (lt_of_lt_of_le g (le_of_lt (lit< tt)))
 
 -- ---- the function
 
@@ -110,8 +110,8 @@ typed : (t : Turn) (v : Val) → Is U.the_row t (v ∷ []) → Typed t
 typed t v was = subst (Is U.the_row t) (LL.tells U.the_type U'.the_laws t _ was) was
 
 -- .. and so is its pattern
-pattern-is : (t : Turn) → Typed t → Is T.the_row t.pattern (T-vals t.pattern)
-pattern-is t is = (LL.owed U.the_type U'.the_laws t _ is).1.0
+pattern_is : (t : Turn) → Typed t → Is T.the_row t.pattern (T-vals t.pattern)
+pattern_is t is = (LL.owed U.the_type U'.the_laws t _ is).1.0
 
 abbrev slice : Ty
 slice = slice_ty (ty_ref (named 0) mut (pointee (T.the_row).written))
@@ -136,14 +136,14 @@ module _ {M : Type 1} {𝓤 : Ura M} (𝓛 : Logic 𝓤) (at_mem : Memory → SP
   first_says g n t = ex_e 𝓤 _ (λ ws. snd∗ 𝓤 (sem 𝓛 (lasts firsts.ended tt (g, (n, tt)) ws)) (fact 𝓤 (Turns t (listed g n))))
 
   next-says : (m : FractionalMos) (t : Turn) → ent 𝓤 (ensured 𝓛 nexts.ended (nexts.clauses 𝓛 at_mem run) tt (m, tt) tt t)
-      (fact 𝓤 (t ≡ nextTurn m))
-  next-says m t = ex_e 𝓤 _ (λ ws. snd∗ 𝓤 (sem 𝓛 (lasts nexts.ended tt (m, tt) ws)) (fact 𝓤 (t ≡ nextTurn m)))
+      (fact 𝓤 (t ≡ next_turn m))
+  next-says m t = ex_e 𝓤 _ (λ ws. snd∗ 𝓤 (sem 𝓛 (lasts nexts.ended tt (m, tt) ws)) (fact 𝓤 (t ≡ next_turn m)))
 
   answer-says : (g : Float) (n : ℕ) (a : CountAnswer)
       → ent 𝓤 (ensured 𝓛 answers.ended (answers.clauses 𝓛 at_mem run) tt (g, (n, tt)) tt a)
-      (fact 𝓤 (countOutcome a ≡ answeredOf g n))
+      (fact 𝓤 (count_outcome a ≡ answered_of g n))
   answer-says g n a =
-      ex_e 𝓤 _ (λ ws. snd∗ 𝓤 (sem 𝓛 (lasts answers.ended tt (g, (n, tt)) ws)) (fact 𝓤 (countOutcome a ≡ answeredOf g n)))
+      ex_e 𝓤 _ (λ ws. snd∗ 𝓤 (sem 𝓛 (lasts answers.ended tt (g, (n, tt)) ws)) (fact 𝓤 (count_outcome a ≡ answered_of g n)))
 
 module _ {M : Type 1} {𝓤 : Ura M} (𝓛 : Logic 𝓤) (at_mem : Memory → SProp 𝓤) (run : Routine → Fun 𝓤) (κ : Lft)
     (q : Share) (b o : ℕ) (γ : GName) (xs : List FractionalMos) (gen : Float) (g-gen : Is f64 gen (float_vals binary64 gen))
@@ -158,7 +158,7 @@ module _ {M : Type 1} {𝓤 : Ura M} (𝓛 : Logic 𝓤) (at_mem : Memory → SP
   m = length (listed gen n)
 
   m-fits : m < 2 ^ 64
-  m-fits = lt_of_le_of_lt (listed-fits gen n) g.0
+  m-fits = lt_of_le_of_lt (listed_fits gen n) g.0
 
   abbrev x : Float × (MutBor (List FractionalMos) × Unit {0})
   x = (gen, (record { ref_ptr = (b, o); ghost_name = γ; now = xs }, tt))
@@ -194,12 +194,12 @@ module _ {M : Type 1} {𝓤 : Ura M} (𝓛 : Logic 𝓤) (at_mem : Memory → SP
     after i = stored i t xs
 
     abbrev turn : ℕ → Turn
-    turn i = nth-turn i t
+    turn i = nth_turn i t
 
     after-length : (i : ℕ) → length (after i) ≡ n
-    after-length i = stored-length i t xs
+    after-length i = stored_length i t xs
 
-    exits : (a : CountAnswer) → Is N.the_row a (N-val a ∷ []) → countOutcome a ≡ answeredOf gen m
+    exits : (a : CountAnswer) → Is N.the_row a (N-val a ∷ []) → count_outcome a ≡ answered_of gen m
         → ent 𝓤 (⋆ 𝓛 (‵ (fobs γ ((coded_holeys T.the_row).code (heres T.the_row (after m))))
         ∷ ‵ (fbor κ (Held T.the_row (length (after m)) b o γ)) ∷ ‵ (flft κ q) ∷ [])) (Post (N-val a))
     exits a a-is told =
@@ -216,8 +216,8 @@ module _ {M : Type 1} {𝓤 : Ura M} (𝓛 : Logic 𝓤) (at_mem : Memory → SP
         nothing ! $ move ! (1 ∷ 0 ∷ []) $ fjoin ! $ owned ! f64 (Is f64) (float_Makes 𝓛 binary64) gen _ g-gen $ fjoin ! $ frame ! $
         owned ! N.the_row (Is N.the_row) (EL.makes N.the_type N'.the_plain 𝓛) a _ a-is $ done !
       where
-        filled : Filled (listingOutcome gen n) (answeredOf gen m) xs (after m)
-        filled = listing-filled gen xs t e
+        filled : Filled (listing_outcome gen n) (answered_of gen m) xs (after m)
+        filled = listing_filled gen xs t e
 
     abbrev to-next : ℕ → (Next 𝓛 at_mem run).Ghost
     to-next i = ((tt, tt, tt, ((turn i).pattern, tt), (T-vals (turn i).pattern, tt)), tt)
@@ -225,7 +225,7 @@ module _ {M : Type 1} {𝓤 : Ura M} (𝓛 : Logic 𝓤) (at_mem : Memory → SP
     goes-next : (i : ℕ) → Typed (turn i) → ent 𝓤 (emp 𝓤) ((Next 𝓛 at_mem run).pre (to-next i))
     goes-next i h =
         qed 𝓛 [] ∵ nothing ! $
-        owned ! T.the_row (Is T.the_row) (LL.makes T.the_type T'.the_plain 𝓛) (turn i).pattern _ (pattern-is (turn i) h) $ fjoin ! $
+        owned ! T.the_row (Is T.the_row) (LL.makes T.the_type T'.the_plain 𝓛) (turn i).pattern _ (pattern_is (turn i) h) $ fjoin ! $
         nothing ! $ join ! $ nothing ! $ move ! (1 ∷ 0 ∷ []) $ frame ! $ done !
 
     -- so many turns, no more than there are patterns, and the turn at hand is a value of its type
@@ -239,7 +239,7 @@ module _ {M : Type 1} {𝓤 : Ura M} (𝓛 : Logic 𝓤) (at_mem : Memory → SP
     Nearer-wf = InvImage.wf (λ (i : Upto). m - i.0) lt-wf_rel.wf
 
     begins : Upto
-    begins = (0, zero-le, subst Typed (nth-turn-none t) is)
+    begins = (0, zero-le, subst Typed (nth_turn_none t) is)
 
     module _ (𝓣 : Tables 𝓤 H) (fm : FmC 𝓤 H 𝓛.laws 𝓣.C) (known_next : Triple 𝓤 (𝓣.C #next) (Next 𝓛 at_mem run))
         (known-answer : Triple 𝓤 (𝓣.C #answer) (Answer 𝓛 at_mem run)) (l₀ l₁ l₂ l₃ l₄ l₅ l₆ l₇ k₀ : ℕ) where
@@ -301,38 +301,38 @@ module _ {M : Type 1} {𝓤 : Ura M} (𝓛 : Logic 𝓤) (at_mem : Memory → SP
           use1 𝓛 (later (some (λ (t : Turn). (‵ ftrue ⊛ ‵ ((U.the_row).own_val t (u ∷ [])))
           ⊛ raw (ensured 𝓛 nexts.ended (nexts.clauses 𝓛 at_mem run) tt (pattern, tt) tt t)))) (id⊢ 𝓤 _) $
           await ! tt $ pick ! (λ t'.
-          split ! $ move ! (1 ∷ []) $ use1 𝓛 (raw (fact 𝓤 (t' ≡ nextTurn pattern))) (next-says 𝓛 at_mem run pattern t') $
-          heard ! (t' ≡ nextTurn pattern) (λ new. split ! $ drop ! $
+          split ! $ move ! (1 ∷ []) $ use1 𝓛 (raw (fact 𝓤 (t' ≡ next_turn pattern))) (next-says 𝓛 at_mem run pattern t') $
+          heard ! (t' ≡ next_turn pattern) (λ new. split ! $ drop ! $
           facts ! U.the_row (Is U.the_row) (shows 𝓛 U.the_row) t' (u ∷ []) (λ is-new.
           land ! (from ! (stop !)) (store ! 14 refl ((LL.lawful U.the_type U'.the_laws 𝓛).typed t' _ is-new).0) $
           rewrite ! 14 (λ (w : Val). ‵ (fat full_share U'.mir l₃ 0 w)) (ap only (LL.tells U.the_type U'.the_laws t' _ is-new)) refl $
-          rewrite ! 14 (λ (z : Turn). ‵ (fat full_share U'.mir l₃ 0 (U-val z))) (new ∙ nth-turn-more i.0 t) refl $
+          rewrite ! 14 (λ (z : Turn). ‵ (fat full_share U'.mir l₃ 0 (U-val z))) (new ∙ nth_turn_more i.0 t) refl $
           assigns_last ! (bin ! (load ! (from ! (stop !)) (look ! 12 refl)) (lit ! tt) (record { fits = next_fits })) (from ! (stop !))
           (store ! 12 refl (tt, record { fits = next_fits })) $
           forget ! 4 refl $ forget ! 6 refl $ forget ! 8 refl $
           again ! Nearer At i (
             i.0 + 1,
             add-one-le less,
-            subst Typed (new ∙ nth-turn-more i.0 t) (typed t' u is-new),
+            subst Typed (new ∙ nth_turn_more i.0 t) (typed t' u is-new),
           ) (add-one-dec m i.0 less))))))
         where
           pattern : FractionalMos
           pattern = (turn i.0).pattern
 
           this : Is T.the_row pattern (T-vals pattern)
-          this = pattern-is (turn i.0) i.2
+          this = pattern_is (turn i.0) i.2
 
           less : i.0 < m
-          less = still-stores e i.0 i.1 yes-stores
+          less = still_stores e i.0 i.1 yes-stores
 
           inside : i.0 < n
-          inside = lt_of_lt_of_le less (listed-fits gen n)
+          inside = lt_of_lt_of_le less (listed_fits gen n)
 
           here : i.0 < length (after i.0)
           here = subst (λ (k : ℕ). i.0 < k) (sym (after-length i.0)) inside
 
           place-fits : i.0 * (mem T.the_row).size < 2 ^ 64
-          place-fits = offset-fits (mem T.the_row).size i.0 n inside g.1
+          place-fits = offset_fits (mem T.the_row).size i.0 n inside g.1
 
           next_fits : i.0 + 1 < 2 ^ 64
           next_fits = lt_of_le_of_lt (add-one-le inside) g.0
@@ -353,8 +353,8 @@ module _ {M : Type 1} {𝓤 : Ura M} (𝓛 : Logic 𝓤) (at_mem : Memory → SP
           ⊛ raw (ensured 𝓛 answers.ended (answers.clauses 𝓛 at_mem run) tt (with_number m) tt a)))) (id⊢ 𝓤 _) $
           await ! tt $ pick ! (λ a.
           split ! $ move ! (1 ∷ []) $
-          use1 𝓛 (raw (fact 𝓤 (countOutcome a ≡ answeredOf gen m))) (answer-says 𝓛 at_mem run gen m a) $
-          heard ! (countOutcome a ≡ answeredOf gen m) (λ told. split ! $ drop ! $
+          use1 𝓛 (raw (fact 𝓤 (count_outcome a ≡ answered_of gen m))) (answer-says 𝓛 at_mem run gen m a) $
+          heard ! (count_outcome a ≡ answered_of gen m) (λ told. split ! $ drop ! $
           facts ! N.the_row (Is N.the_row) (shows 𝓛 N.the_row) a (u ∷ []) (λ a-is.
           land ! (from ! (stop !)) (init ! 19 refl ((EL.lawful N.the_type N'.the_laws 𝓛 tt).typed a _ a-is).0) $
           rewrite ! 19 (λ (w : Val). ‵ (fat full_share N'.mir l₀ 0 w)) (ap only (EL.tells N.the_type N'.the_laws a _ a-is)) refl $
@@ -366,7 +366,7 @@ module _ {M : Type 1} {𝓤 : Ura M} (𝓛 : Logic 𝓤) (at_mem : Memory → SP
           by ! (exits a (subst (Is N.the_row a) (EL.tells N.the_type N'.the_laws a _ a-is) a-is) told)))))
         where
           all : i.0 ≡ m
-          all = no-more-stored e i.0 i.1 no_store
+          all = no_more_stored e i.0 i.1 no_store
 
       loops-at : Sq 𝓛 (At begins) (runs C Λ En mir.t-4 (at_ret En Post))
       loops-at = first ! $ blocks ! $ loops ! 𝓣 Nearer Nearer-wf At (λ i. turn_at i (turn i.0).stores refl) begins
@@ -401,10 +401,10 @@ module _ {M : Type 1} {𝓤 : Ura M} (𝓛 : Logic 𝓤) (at_mem : Memory → SP
       facts ! U.the_row (Is U.the_row) (shows 𝓛 U.the_row) t (v ∷ []) (λ was.
       land ! (from ! (stop !)) (init ! 10 refl ((LL.lawful U.the_type U'.the_laws 𝓛).typed t _ was).0) $
       rewrite ! 10 (λ (w : Val). ‵ (fat full_share U'.mir l₃ 0 w)) (ap only (LL.tells U.the_type U'.the_laws t _ was)) refl $
-      rewrite ! 10 (λ (z : Turn). ‵ (fat full_share U'.mir l₃ 0 (U-val z))) (nth-turn-none t) refl $
+      rewrite ! 10 (λ (z : Turn). ‵ (fat full_share U'.mir l₃ 0 (U-val z))) (nth_turn_none t) refl $
       assigns ! (of_opd ! (lit ! tt)) (from ! (stop !)) (init ! 8 refl (tt, record { fits = lit< tt })) $
       move ! (18 ∷ 19 ∷ 20 ∷ []) $ opens_slice ! tt T.the_row xs b o $
-      rewrite ! 0 (λ (zs : List FractionalMos). ‵ (row T.the_row full_share zs b o)) (sym (stored-none t xs)) refl $
+      rewrite ! 0 (λ (zs : List FractionalMos). ‵ (row T.the_row full_share zs b o)) (sym (stored_none t xs)) refl $
       loops-at t (typed t v was) e 𝓣 fm known_next known-answer l₀ l₁ l₂ l₃ l₄ l₅ l₆ l₇ k₀)))))))))))))
 
 module _ {M : Type 1} {𝓤 : Ura M} (𝓛 : Logic 𝓤) (at_mem : Memory → SProp 𝓤) (run : Routine → Fun 𝓤)

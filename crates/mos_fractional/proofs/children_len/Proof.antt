@@ -4,9 +4,9 @@ use lib.ListN.{length}
 use borrow.Author.Rules.{rules}
 use Rattle.mos_fractional.specs.declared.FractionalMos.{FractionalMos}
 use Rattle.mos_fractional.specs.Walk.{children}
-use Rattle.mos_fractional.specs.Answers.{fractionalOutcome}
-use Rattle.mos_fractional.proofs.Descent.{same-refusal, fact-told}
-use Rattle.mos_fractional.proofs.Walking.{growing-told}
+use Rattle.mos_fractional.specs.Answers.{fractional_outcome}
+use Rattle.mos_fractional.proofs.Descent.{same_refusal, fact_told}
+use Rattle.mos_fractional.proofs.Walking.{growing_told}
 use Rattle.mos_fractional.proofs.children_len.Statement.{statement}
 use Rattle.mos_fractional.proofs.children_len.Tie as tie
 
@@ -21,18 +21,18 @@ enum-known-genesis-2 c = search rules
 
 count-from-requires : tie.Need-count-from-requires
 count-from-requires c κs =
-    growing-told c.before.before.before.before.args.generator
-    (sym (ap fractionalOutcome c.before.genesis2.given.1) ∙ c.before.before.before.new-genesis.ensures)
+    growing_told c.before.before.before.before.args.generator
+    (sym (ap fractional_outcome c.before.genesis2.given.1) ∙ c.before.before.before.new-genesis.ensures)
 
 returns : tie.Need-returns
 returns c =
-    same-refusal c.before.before.before.before.args.generator _
-    (sym (ap fractionalOutcome c.before.genesis.given.1) ∙ c.before.before.before.new-genesis.ensures)
+    same_refusal c.before.before.before.before.args.generator _
+    (sym (ap fractional_outcome c.before.genesis.given.1) ∙ c.before.before.before.new-genesis.ensures)
 
 returns-2 : tie.Need-returns-2
 returns-2 c =
-    fact-told c.before.before.before.before.before.args.generator (λ (m : FractionalMos). length (children m))
-    (sym (ap fractionalOutcome c.before.before.genesis2.given.1) ∙ c.before.before.before.before.new-genesis.ensures)
+    fact_told c.before.before.before.before.before.args.generator (λ (m : FractionalMos). length (children m))
+    (sym (ap fractional_outcome c.before.before.genesis2.given.1) ∙ c.before.before.before.before.new-genesis.ensures)
     c.count-from.ensures
 
 pub children-len-spec : {M : Type 1} → statement M

@@ -4,9 +4,9 @@ use lib.ListN.{get_elem?}
 use borrow.Author.Rules.{rules}
 use Rattle.mos_fractional.specs.declared.FractionalMos.{FractionalMos}
 use Rattle.mos_fractional.specs.Walk.{children}
-use Rattle.mos_fractional.specs.Answers.{fractionalOutcome, childIn}
-use Rattle.mos_fractional.proofs.Descent.{same-refusal, fact-told}
-use Rattle.mos_fractional.proofs.Walking.{growing-told}
+use Rattle.mos_fractional.specs.Answers.{fractional_outcome, child_in}
+use Rattle.mos_fractional.proofs.Descent.{same_refusal, fact_told}
+use Rattle.mos_fractional.proofs.Walking.{growing_told}
 use Rattle.mos_fractional.proofs.nth_child.Statement.{statement}
 use Rattle.mos_fractional.proofs.nth_child.Tie as tie
 
@@ -21,8 +21,8 @@ enum-known-genesis-2 c = search rules
 
 nth-from-requires : tie.Need-nth-from-requires
 nth-from-requires c κs =
-    growing-told c.before.before.before.before.args.generator
-    (sym (ap fractionalOutcome c.before.genesis2.given.1) ∙ c.before.before.before.new-genesis.ensures)
+    growing_told c.before.before.before.before.args.generator
+    (sym (ap fractional_outcome c.before.genesis2.given.1) ∙ c.before.before.before.new-genesis.ensures)
 
 enum-known-found : tie.Need-enum-known-found
 enum-known-found c = search rules
@@ -32,24 +32,24 @@ enum_told c = search rules
 
 returns : tie.Need-returns
 returns c =
-    same-refusal c.before.before.before.before.args.generator _
-    (sym (ap fractionalOutcome c.before.genesis.given.1) ∙ c.before.before.before.new-genesis.ensures)
+    same_refusal c.before.before.before.before.args.generator _
+    (sym (ap fractional_outcome c.before.genesis.given.1) ∙ c.before.before.before.new-genesis.ensures)
 
 returns-2 : tie.Need-returns-2
 returns-2 c =
     let start = c.before.before.before.before.before.before.before.before.args in
-    fact-told start.generator (λ (m : FractionalMos). get_elem? (children m) start.k)
-    (sym (ap fractionalOutcome c.before.before.before.before.before.genesis2.given.1)
+    fact_told start.generator (λ (m : FractionalMos). get_elem? (children m) start.k)
+    (sym (ap fractional_outcome c.before.before.before.before.before.genesis2.given.1)
     ∙ c.before.before.before.before.before.before.before.new-genesis.ensures)
-    (sym (ap childIn c.before.found.given.1) ∙ c.before.before.before.nth-from.ensures)
+    (sym (ap child_in c.before.found.given.1) ∙ c.before.before.before.nth-from.ensures)
 
 returns-3 : tie.Need-returns-3
 returns-3 c =
     let start = c.before.before.before.before.before.before.before.args in
-    fact-told start.generator (λ (m : FractionalMos). get_elem? (children m) start.k)
-    (sym (ap fractionalOutcome c.before.before.before.before.genesis2.given.1)
+    fact_told start.generator (λ (m : FractionalMos). get_elem? (children m) start.k)
+    (sym (ap fractional_outcome c.before.before.before.before.genesis2.given.1)
     ∙ c.before.before.before.before.before.before.new-genesis.ensures)
-    (sym (ap childIn c.enum_told.given.1) ∙ c.before.before.nth-from.ensures)
+    (sym (ap child_in c.enum_told.given.1) ∙ c.before.before.nth-from.ensures)
 
 pub nth-child-spec : {M : Type 1} → statement M
 nth-child-spec =

@@ -1,9 +1,9 @@
 -- Question 7, then four numbers a pattern.
 use Prim.Native.Nat.{ℕ, ◌*◌}
 use mathlib.Core.Path.{sym, ap, ◌∙◌}
-use Rattle.mos.proofs.Sizes.{pattern-given, pattern-refused}
+use Rattle.mos.proofs.Sizes.{pattern_given, pattern_refused}
 use Rattle.mos.specs.Walks.{children}
-use Rattle.mos.proofs.Sequences.{length-listed}
+use Rattle.mos.proofs.Sequences.{length_listed}
 use borrow.Author.Rules.{rules}
 use Rattle.mos_listings.proofs.children_len.Statement.{statement}
 use Rattle.mos_listings.proofs.children_len.Tie as tie
@@ -12,7 +12,7 @@ is-pattern-requires : tie.Need-is-pattern-requires
 is-pattern-requires c κs = search rules
 
 count-children-requires : tie.Need-count-children-requires
-count-children-requires c κs = sym c.before.is-pattern.ensures ∙ c.if1.true
+count-children-requires c κs = sym c.before.is_pattern_lem.ensures ∙ c.if1.true
 
 cast-t4 : tie.Need-overflow-cast-t4
 cast-t4 c = search rules
@@ -21,10 +21,10 @@ mul-t5 : tie.Need-overflow-mul-t5
 mul-t5 c = search rules
 
 returns : tie.Need-returns
-returns c = pattern-given _ c.before.before.is-pattern.ensures c.before.if1.true (ap (λ (n : ℕ). n * 4) c.count-children.ensures ∙ sym (length-listed (children c.before.before.before.args.mos)))
+returns c = pattern_given _ c.before.before.is_pattern_lem.ensures c.before.if1.true (ap (λ (n : ℕ). n * 4) c.count-children.ensures ∙ sym (length_listed (children c.before.before.before.args.mos)))
 
 returns-2 : tie.Need-returns-2
-returns-2 c = pattern-refused _ _ c.before.is-pattern.ensures c.if1.false
+returns-2 c = pattern_refused _ _ c.before.is_pattern_lem.ensures c.if1.false
 
 pub children-len-spec : {M : Type 1} → statement M
 children-len-spec =

@@ -2,7 +2,7 @@
 use native.Mathlib.Nat.{pos_of_ne-zero}
 use borrow.Author.Rules.{rules}
 use borrow.Author.Tests.{not-true, not-false}
-use Rattle.mos_moves.proofs.Answering.{genesis-pattern, walk_refused, walk-room, walk-short, walk-listed}
+use Rattle.mos_moves.proofs.Answering.{genesis_pattern, walk_refused, walk_room, walk_short, walk_listed}
 use Rattle.mos_moves.proofs.walk_moves.Statement.{statement}
 use Rattle.mos_moves.proofs.walk_moves.Tie as tie
 
@@ -13,17 +13,17 @@ genesis-of-requires : tie.Need-genesis-of-requires
 genesis-of-requires c κs = search rules
 
 children-fit-requires : tie.Need-children-fit-requires
-children-fit-requires c κs = genesis-pattern _ _ c.before.if1.false (search rules) c.genesis-of.ensures
+children-fit-requires c κs = genesis_pattern _ _ c.before.if1.false (search rules) c.genesis_of_lem.ensures
 
 returns-2 : tie.Need-returns-2
 returns-2 c =
-    walk-short _ _ c.before.before.before.if1.false _ c.before.before.genesis-of.ensures c.before.children-fit.ensures (not-true _ c.if2.true)
+    walk_short _ _ c.before.before.before.if1.false _ c.before.before.genesis_of_lem.ensures c.before.children-fit.ensures (not-true _ c.if2.true)
 
 list-moves-requires : tie.Need-list-moves-requires
 list-moves-requires c κs =
     let some = c.before.before.before.before.if1.false in (
       pos_of_ne-zero some,
-      walk-room _ _ some c.before.before.before.before.before.args.out.now c.before.before.before.genesis-of.ensures c.before.before.children-fit.ensures (not-false _ c.before.if2.false),
+      walk_room _ _ some c.before.before.before.before.before.args.out.now c.before.before.before.genesis_of_lem.ensures c.before.before.children-fit.ensures (not-false _ c.before.if2.false),
     )
 
 same_length : tie.Need-same-length
@@ -31,7 +31,7 @@ same_length c = search rules
 
 returns-3 : tie.Need-returns-3
 returns-3 c =
-    walk-listed _ _ c.before.before.before.before.before.before.if1.false _ c.before.before.before.before.before.genesis-of.ensures c.before.before.before.before.children-fit.ensures (not-false _ c.before.before.before.if2.false) c.before.list-moves.ensures
+    walk_listed _ _ c.before.before.before.before.before.before.if1.false _ c.before.before.before.before.before.genesis_of_lem.ensures c.before.before.before.before.children-fit.ensures (not-false _ c.before.before.before.if2.false) c.before.list-moves.ensures
 
 pub walk-moves-spec : {M : Type 1} → statement M
 walk-moves-spec =

@@ -1,8 +1,8 @@
 -- The output for what is kept is the output for the line.
 use mathlib.Core.Path.{sym, ap, ◌∙◌}
-use Rattle.line.specs.Lines.{lineAnswered}
+use Rattle.line.specs.Lines.{line_answered}
 use Rattle.streams.proofs.Enough.{kept_there}
-use Rattle.passed_patterns.proofs.Outputs.{printed-refused, printed-given}
+use Rattle.passed_patterns.proofs.Outputs.{printed_refused, printed_given}
 use borrow.Author.Rules.{rules}
 use Rattle.passed_patterns.proofs.print.Statement.{statement}
 use Rattle.passed_patterns.proofs.print.Tie as tie
@@ -38,15 +38,15 @@ returns : tie.Need-returns
 returns c =
     let q = c.before.before.before in
     let kept = c.before.before.before.before.before.before.before in
-    printed-refused _ _ _ kept.before.before.requires kept.kept.ensures _ _ _ c.before.number.ensures
-    (sym (ap lineAnswered q.q.given.1) ∙ q.before.before.parse.ensures) c.print-refusal.ensures
+    printed_refused _ _ _ kept.before.before.requires kept.kept.ensures _ _ _ c.before.number.ensures
+    (sym (ap line_answered q.q.given.1) ∙ q.before.before.parse.ensures) c.print-refusal.ensures
 
 returns-2 : tie.Need-returns-2
 returns-2 c =
     let known = c.before.before in
     let kept = c.before.before.before.before.before.before in
-    printed-given _ _ _ kept.before.before.requires kept.kept.ensures _ _
-    (sym (ap lineAnswered known.asked.given.1) ∙ known.before.before.parse.ensures) c.print-asked.ensures
+    printed_given _ _ _ kept.before.before.requires kept.kept.ensures _ _
+    (sym (ap line_answered known.asked.given.1) ∙ known.before.before.parse.ensures) c.print-asked.ensures
 
 pub print-spec : {M : Type 1} → statement M
 print-spec =

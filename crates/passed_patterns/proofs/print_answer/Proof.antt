@@ -1,8 +1,8 @@
 -- The word and the pattern, or that there is nothing.
 use mathlib.Core.Path.{sym, ap}
-use Rattle.mos_walks.specs.Answers.{foundBy}
+use Rattle.mos_walks.specs.Answers.{found_by}
 use Rattle.streams.proofs.Onward.{written_then, written_as}
-use Rattle.passed_patterns.specs.Printing.{answerLine}
+use Rattle.passed_patterns.specs.Printing.{answer_line}
 use borrow.Author.Rules.{rules}
 use Rattle.passed_patterns.proofs.print_answer.Statement.{statement}
 use Rattle.passed_patterns.proofs.print_answer.Tie as tie
@@ -29,14 +29,14 @@ write-requires-2 : tie.Need-write-requires-2
 write-requires-2 c κs = search rules
 
 returns : tie.Need-returns
-unfolding answerLine
+unfolding answer_line
 returns c =
     let known = c.before.before.before.before in
-    written_as (sym (ap (λ o. answerLine (foundBy o)) known.found.given.1)) (written_then c.before.write.ensures c.print-pattern.ensures)
+    written_as (sym (ap (λ o. answer_line (found_by o)) known.found.given.1)) (written_then c.before.write.ensures c.print-pattern.ensures)
 
 returns-2 : tie.Need-returns-2
-unfolding answerLine
-returns-2 c = written_as (sym (ap (λ o. answerLine (foundBy o)) c.before.before.enum_told.given.1)) c.write2.ensures
+unfolding answer_line
+returns-2 c = written_as (sym (ap (λ o. answer_line (found_by o)) c.before.before.enum_told.given.1)) c.write2.ensures
 
 pub print-answer-spec : {M : Type 1} → statement M
 print-answer-spec =

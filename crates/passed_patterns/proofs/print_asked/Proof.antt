@@ -1,7 +1,7 @@
 -- The generator of the chain, or a refusal.
 use mathlib.Core.Path.{sym, ap, ◌∙◌}
-use Rattle.answer.specs.Refusals.{numberOutcome}
-use Rattle.passed_patterns.proofs.Outputs.{for-refused, for-given}
+use Rattle.answer.specs.Refusals.{number_outcome}
+use Rattle.passed_patterns.proofs.Outputs.{for_refused, for_given}
 use borrow.Author.Rules.{rules}
 use Rattle.passed_patterns.proofs.print_asked.Statement.{statement}
 use Rattle.passed_patterns.proofs.print_asked.Tie as tie
@@ -30,13 +30,13 @@ print-from-requires c κs = search rules
 returns : tie.Need-returns
 returns c =
     let q = c.before.before.before in
-    for-refused _ _ _ _ c.before.number.ensures
-    (sym (ap numberOutcome q.q.given.1) ∙ q.before.before.generator.ensures) c.print-refusal.ensures
+    for_refused _ _ _ _ c.before.number.ensures
+    (sym (ap number_outcome q.q.given.1) ∙ q.before.before.generator.ensures) c.print-refusal.ensures
 
 returns-2 : tie.Need-returns-2
 returns-2 c =
     let known = c.before.before in
-    for-given _ _ _ (sym (ap numberOutcome known.generator2.given.1) ∙ known.before.before.generator.ensures) c.print-from.ensures
+    for_given _ _ _ (sym (ap number_outcome known.generator2.given.1) ∙ known.before.before.generator.ensures) c.print-from.ensures
 
 pub print-asked-spec : {M : Type 1} → statement M
 print-asked-spec =

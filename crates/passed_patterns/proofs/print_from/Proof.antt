@@ -1,7 +1,7 @@
 -- The genesis of the generator, or that there is none.
 use mathlib.Core.Path.{sym, ap, ◌∙◌}
-use Rattle.mos.specs.Answers.{mosOutcome}
-use Rattle.passed_patterns.proofs.Outputs.{genesis-is-pattern, from-refused, from-given}
+use Rattle.mos.specs.Answers.{mos_outcome}
+use Rattle.passed_patterns.proofs.Outputs.{genesis_is_pattern, from_refused, from_given}
 use borrow.Author.Rules.{rules}
 use Rattle.passed_patterns.proofs.print_from.Statement.{statement}
 use Rattle.passed_patterns.proofs.print_from.Tie as tie
@@ -33,18 +33,18 @@ cast-print-search c = search rules
 print-search-requires : tie.Need-print-search-requires
 print-search-requires c κs =
     let known = c.before.before in
-    genesis-is-pattern _ _ (search rules) _ (sym (ap mosOutcome known.genesis.given.1) ∙ known.before.before.new-genesis.ensures)
+    genesis_is_pattern _ _ (search rules) _ (sym (ap mos_outcome known.genesis.given.1) ∙ known.before.before.new-genesis.ensures)
 
 returns : tie.Need-returns
 returns c =
     let q = c.before.before.before in
-    from-refused _ _ _ _ _ c.before.number.ensures
-    (sym (ap mosOutcome q.q.given.1) ∙ q.before.before.new-genesis.ensures) c.print-refusal.ensures
+    from_refused _ _ _ _ _ c.before.number.ensures
+    (sym (ap mos_outcome q.q.given.1) ∙ q.before.before.new-genesis.ensures) c.print-refusal.ensures
 
 returns-2 : tie.Need-returns-2
 returns-2 c =
     let known = c.before.before.before in
-    from-given _ _ _ _ (sym (ap mosOutcome known.genesis.given.1) ∙ known.before.before.new-genesis.ensures) _
+    from_given _ _ _ _ (sym (ap mos_outcome known.genesis.given.1) ∙ known.before.before.new-genesis.ensures) _
     known.before.before.before.numbers.ensures.0 c.print-search.ensures
 
 pub print-from-spec : {M : Type 1} → statement M

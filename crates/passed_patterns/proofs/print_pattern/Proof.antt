@@ -4,9 +4,9 @@ use native.Mathlib.Nat.{zero-add}
 use native.Mathlib.Omega.{arith}
 use mathlib.Core.Path.{refl}
 use lib.ListN.{length}
-use Rattle.text.proofs.Writing.{put-there}
+use Rattle.text.proofs.Writing.{put_there}
 use Rattle.streams.proofs.Onward.{written_as}
-use Rattle.passed_patterns.specs.Printing.{patternLine}
+use Rattle.passed_patterns.specs.Printing.{pattern_line}
 use borrow.Author.Rules.{rules}
 use Rattle.passed_patterns.proofs.print_pattern.Statement.{statement}
 use Rattle.passed_patterns.proofs.print_pattern.Tie as tie
@@ -26,9 +26,9 @@ write-front-requires c κs = search rules
 returns : tie.Need-returns
 returns c =
     let put = c.before.before.before.put-pattern in
-    let room : length (patternLine c.before.before.before.before.before.args.m) ≤ 24 =
+    let room : length (pattern_line c.before.before.before.before.before.args.m) ≤ 24 =
     omega (arith, put.ensures.0.end, put.ensures.1) in
-    written_as (put-there room put.ensures.0).1 c.write-front.ensures
+    written_as (put_there room put.ensures.0).1 c.write-front.ensures
 
 pub print-pattern-spec : {M : Type 1} → statement M
 print-pattern-spec =

@@ -4,8 +4,8 @@ use native.Mathlib.Omega.{arith}
 use borrow.Author.Rules.{rules}
 use borrow.Author.Tests.{not-false, not-true}
 use Rattle.mos.specs.Patterns.{steps_of}
-use Rattle.mos.proofs.Descent.{child-at, child-falls}
-use Rattle.passed_patterns.proofs.Showing.{Going, going_start, going_on, ends-here, ends-childless}
+use Rattle.mos.proofs.Descent.{child_at, child_falls}
+use Rattle.passed_patterns.proofs.Showing.{Going, going_start, going_on, ends_here, ends_childless}
 use Rattle.passed_patterns.proofs.print_patterns.Statement.{statement}
 use Rattle.passed_patterns.proofs.print_patterns.Tie as tie
 
@@ -30,16 +30,16 @@ has-child-requires c κs = search rules
 returns : tie.Need-returns invariant-loop decreases-loop
 returns c =
     let loop = c.before.before.before.before.before.loop in
-    ends-childless _ _ _ _ _ loop.invariant _ c.before.before.print-pattern.ensures
+    ends_childless _ _ _ _ _ loop.invariant _ c.before.before.print-pattern.ensures
     (omega (arith, c.before.before.before.before.count_of.ensures, c.before.before.before.if1.true))
-    (sym c.before.has-child.ensures ∙ not-true _ c.if2.true)
+    (sym c.before.has_child.ensures ∙ not-true _ c.if2.true)
 
 child-of-requires : tie.Need-child-of-requires invariant-loop decreases-loop
 child-of-requires c κs =
-    (c.before.before.before.before.before.loop.invariant.is-pattern, sym c.before.has-child.ensures ∙ not-false _ c.if2.false)
+    (c.before.before.before.before.before.loop.invariant.is_pattern_lem, sym c.before.has_child.ensures ∙ not-false _ c.if2.false)
 
 loop-less : tie.Need-loop-smaller invariant-loop decreases-loop
-loop-less c = child-falls (child-at c.child-of.ensures)
+loop-less c = child_falls (child_at c.child-of.ensures)
 
 loop-again : tie.Need-loop-preserved invariant-loop decreases-loop
 loop-again c =
@@ -53,7 +53,7 @@ print-pattern-requires-2 c κs = search rules
 returns-2 : tie.Need-returns-2 invariant-loop decreases-loop
 returns-2 c =
     let loop = c.before.before.before.loop in
-    ends-here _ _ _ _ _ loop.invariant _ c.print-pattern2.ensures (omega (arith, c.before.before.count_of.ensures, c.before.if1.false))
+    ends_here _ _ _ _ _ loop.invariant _ c.print-pattern2.ensures (omega (arith, c.before.before.count_of.ensures, c.before.if1.false))
 
 pub print-patterns-spec : {M : Type 1} → statement M
 print-patterns-spec =

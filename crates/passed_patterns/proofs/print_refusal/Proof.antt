@@ -1,9 +1,9 @@
 -- The refusal's line is all that is handed over.
 use Prim.Native.Nat.{◌≤◌}
 use native.Mathlib.Omega.{arith}
-use Rattle.text.proofs.Writing.{put-there}
-use Rattle.line.proofs.RefusalLines.{refusal-room}
-use Rattle.streams.proofs.Onward.{written_as, written-first}
+use Rattle.text.proofs.Writing.{put_there}
+use Rattle.line.proofs.RefusalLines.{refusal_room}
+use Rattle.streams.proofs.Onward.{written_as, written_first}
 use borrow.Author.Rules.{rules}
 use Rattle.passed_patterns.proofs.print_refusal.Statement.{statement}
 use Rattle.passed_patterns.proofs.print_refusal.Tie as tie
@@ -15,7 +15,7 @@ put-refusal-requires : tie.Need-put-refusal-requires
 put-refusal-requires c κs =
     let start = c.before in
     let few : start.args.number ≤ 65535 = search rules in
-    omega (arith, refusal-room start.args.number few)
+    omega (arith, refusal_room start.args.number few)
 
 begin-requires : tie.Need-begin-requires
 begin-requires c κs = search rules
@@ -27,7 +27,7 @@ write-front-requires : tie.Need-write-front-requires
 write-front-requires c κs =
     let put = c.before.before.before in
     let few : put.before.before.args.number ≤ 65535 = search rules in
-    omega (arith, (put-there (refusal-room _ few) put.put-refusal.ensures).0)
+    omega (arith, (put_there (refusal_room _ few) put.put-refusal.ensures).0)
 
 say-refused-requires : tie.Need-say-refused-requires
 say-refused-requires c κs = search rules
@@ -36,8 +36,8 @@ returns : tie.Need-returns
 returns c =
     let put = c.before.before.before.before.before in
     let few : put.before.before.args.number ≤ 65535 = search rules in
-    written-first c.before.before.before.begin.ensures.none
-    (written_as (put-there (refusal-room _ few) put.put-refusal.ensures).1 c.before.write-front.ensures)
+    written_first c.before.before.before.begin.ensures.none
+    (written_as (put_there (refusal_room _ few) put.put-refusal.ensures).1 c.before.write-front.ensures)
 
 pub print-refusal-spec : {M : Type 1} → statement M
 print-refusal-spec =

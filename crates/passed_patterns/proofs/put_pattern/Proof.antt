@@ -2,8 +2,8 @@
 use Prim.Native.Nat.{◌≤◌}
 use native.Mathlib.Omega.{arith}
 use Rattle.text.proofs.Writing.{then}
-use Rattle.line.specs.Lines.{space, lineFeed}
-use Rattle.passed_patterns.specs.Printing.{patternLine}
+use Rattle.line.specs.Lines.{space, line_feed}
+use Rattle.passed_patterns.specs.Printing.{pattern_line}
 use Rattle.passed_patterns.proofs.Showing.{short}
 use borrow.Author.Rules.{rules}
 use Rattle.passed_patterns.proofs.put_pattern.Statement.{statement}
@@ -37,13 +37,13 @@ put-number-then-requires-4 c κs =
     let h1 : s.args.m.num_secondary_steps ≤ 65535 = search rules in
     let h2 : s.args.m.primary_step ≤ 65535 = search rules in
     let h3 : s.args.m.secondary_step ≤ 65535 = search rules in
-    omega (arith, short s.args.m.num_primary_steps space h0, short s.args.m.num_secondary_steps space h1, short s.args.m.primary_step space h2, short s.args.m.secondary_step lineFeed h3)
+    omega (arith, short s.args.m.num_primary_steps space h0, short s.args.m.num_secondary_steps space h1, short s.args.m.primary_step space h2, short s.args.m.secondary_step line_feed h3)
 
 same_length : tie.Need-same-length
 same_length c = search rules
 
 returns : tie.Need-returns
-unfolding patternLine
+unfolding pattern_line
 returns c =
     let s = c.before.before.before.before.before.before.before.before.before.before.before.before.before.before.before.before.before in
     let h0 : s.args.m.num_primary_steps ≤ 65535 = search rules in
@@ -64,7 +64,7 @@ returns c =
         short s.args.m.num_primary_steps space h0,
         short s.args.m.num_secondary_steps space h1,
         short s.args.m.primary_step space h2,
-        short s.args.m.secondary_step lineFeed h3,
+        short s.args.m.secondary_step line_feed h3,
       ),
     )
 

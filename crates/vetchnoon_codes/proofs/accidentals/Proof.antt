@@ -1,9 +1,9 @@
 -- The four numbers are `put`'s, and a refusal is `refused`'s.
 use mathlib.Core.Path.{sym, ap}
-use Rattle.pergen.specs.Answers.{accidentalsOutcome}
+use Rattle.pergen.specs.Answers.{accidentals_outcome}
 use Rattle.pergen.specs.declared.AccidentalsAnswer.{AccidentalsAnswer}
-use Rattle.vetchnoon_codes.specs.Numbers.{asNumbers, accidentalsNumbers}
-use Rattle.vetchnoon_codes.proofs.Coding.{coded, fills-refused, fills-as}
+use Rattle.vetchnoon_codes.specs.Numbers.{as_numbers, accidentals_numbers}
+use Rattle.vetchnoon_codes.proofs.Coding.{coded, fills_refused, fills_as}
 use borrow.Author.Rules.{rules}
 use Rattle.vetchnoon_codes.proofs.accidentals.Statement.{statement}
 use Rattle.vetchnoon_codes.proofs.accidentals.Tie as tie
@@ -28,11 +28,11 @@ same_length c = search rules
 
 returns : tie.Need-returns
 returns c =
-    fills-as (sym (ap (λ (a : AccidentalsAnswer). asNumbers accidentalsNumbers (accidentalsOutcome a)) c.before.before.before.before.before.before.answer.given.1)) c.before.before.put.type-inv c.before.before.put.ensures
+    fills_as (sym (ap (λ (a : AccidentalsAnswer). as_numbers accidentals_numbers (accidentals_outcome a)) c.before.before.before.before.before.before.answer.given.1)) c.before.before.put.type-inv c.before.before.put.ensures
 
 returns-2 : tie.Need-returns-2
 returns-2 c =
-    fills-refused _ _ (sym (ap (λ (a : AccidentalsAnswer). asNumbers accidentalsNumbers (accidentalsOutcome a)) c.before.before.answer2.given.1)) (coded c.refused.type-inv c.refused.ensures)
+    fills_refused _ _ (sym (ap (λ (a : AccidentalsAnswer). as_numbers accidentals_numbers (accidentals_outcome a)) c.before.before.answer2.given.1)) (coded c.refused.type-inv c.refused.ensures)
 
 pub accidentals-spec : {M : Type 1} → statement M
 accidentals-spec =

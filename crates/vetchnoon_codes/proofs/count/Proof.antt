@@ -4,7 +4,7 @@ use mir.Syntax.{w64}
 use mir.ValLaws.{to_z_pos}
 use borrow.Author.Rules.{rules}
 use Rattle.answer.specs.declared.CountAnswer.{CountAnswer}
-use Rattle.answer.specs.Refusals.{countOutcome}
+use Rattle.answer.specs.Refusals.{count_outcome}
 use Rattle.vetchnoon_codes.specs.Codes.{code_of, SmallCount}
 use Rattle.vetchnoon_codes.proofs.Coding.{coded}
 use Rattle.vetchnoon_codes.proofs.count.Statement.{statement}
@@ -25,12 +25,12 @@ refused-requires c κs = search rules
 returns : tie.Need-returns
 returns c =
     to_z_pos w64 c.before.answer.given.0.0 (subst SmallCount c.before.answer.given.1 c.before.before.before.requires)
-    ∙ sym (ap (λ (a : CountAnswer). code_of (countOutcome a)) c.before.answer.given.1)
+    ∙ sym (ap (λ (a : CountAnswer). code_of (count_outcome a)) c.before.answer.given.1)
 
 returns-2 : tie.Need-returns-2
 returns-2 c =
     coded c.refused.type-inv c.refused.ensures
-    ∙ sym (ap (λ (a : CountAnswer). code_of (countOutcome a)) c.before.before.answer2.given.1)
+    ∙ sym (ap (λ (a : CountAnswer). code_of (count_outcome a)) c.before.before.answer2.given.1)
 
 pub count_spec : {M : Type 1} → statement M
 count_spec =

@@ -1,10 +1,10 @@
 -- A pattern is `put_pattern`'s, and a refusal is `refused`'s.
 use mathlib.Core.Path.{sym, ap}
-use Rattle.mos.specs.Answers.{mosOutcome}
+use Rattle.mos.specs.Answers.{mos_outcome}
 use Rattle.mos.specs.declared.MosAnswer.{MosAnswer}
 use Rattle.mos.specs.Walks.{fields}
-use Rattle.vetchnoon_codes.specs.Numbers.{asNumbers}
-use Rattle.vetchnoon_codes.proofs.Coding.{coded, fills-refused, fills-as}
+use Rattle.vetchnoon_codes.specs.Numbers.{as_numbers}
+use Rattle.vetchnoon_codes.proofs.Coding.{coded, fills_refused, fills_as}
 use borrow.Author.Rules.{rules}
 use Rattle.vetchnoon_codes.proofs.pattern.Statement.{statement}
 use Rattle.vetchnoon_codes.proofs.pattern.Tie as tie
@@ -26,11 +26,11 @@ same_length c = search rules
 
 returns : tie.Need-returns
 returns c =
-    fills-as (sym (ap (λ (a : MosAnswer). asNumbers fields (mosOutcome a)) c.before.before.before.before.before.answer.given.1)) c.before.before.put-pattern.type-inv c.before.before.put-pattern.ensures
+    fills_as (sym (ap (λ (a : MosAnswer). as_numbers fields (mos_outcome a)) c.before.before.before.before.before.answer.given.1)) c.before.before.put-pattern.type-inv c.before.before.put-pattern.ensures
 
 returns-2 : tie.Need-returns-2
 returns-2 c =
-    fills-refused _ _ (sym (ap (λ (a : MosAnswer). asNumbers fields (mosOutcome a)) c.before.before.answer2.given.1)) (coded c.refused.type-inv c.refused.ensures)
+    fills_refused _ _ (sym (ap (λ (a : MosAnswer). as_numbers fields (mos_outcome a)) c.before.before.answer2.given.1)) (coded c.refused.type-inv c.refused.ensures)
 
 pub pattern-spec : {M : Type 1} → statement M
 pattern-spec =

@@ -7,7 +7,7 @@ use mir.Syntax.{w64}
 use mir.ValLaws.{to_z_pos}
 use Rattle.text.specs.Writing.{Wrote}
 use Rattle.text.proofs.Copying.{copy_start, copy_more, copied}
-use Rattle.vetchnoon_codes.proofs.Coding.{coded, fills-short, fills-given}
+use Rattle.vetchnoon_codes.proofs.Coding.{coded, fills_short, fills_given}
 use borrow.Author.Rules.{rules}
 use Rattle.vetchnoon_codes.proofs.put.Statement.{statement}
 use Rattle.vetchnoon_codes.proofs.put.Tie as tie
@@ -23,7 +23,7 @@ refused-requires : tie.Need-refused-requires invariant-loop decreases-loop
 refused-requires c κs = search rules
 
 returns : tie.Need-returns invariant-loop decreases-loop
-returns c = fills-short _ _ refl c.before.if1.true (coded c.refused.type-inv c.refused.ensures)
+returns c = fills_short _ _ refl c.before.if1.true (coded c.refused.type-inv c.refused.ensures)
 
 loop-holds : tie.Need-loop-init invariant-loop decreases-loop
 loop-holds c = (copy_start _ c.before.before.before.args.numbers.now _, omega arith, refl)
@@ -61,7 +61,7 @@ same_length c = omega arith
 
 returns-2 : tie.Need-returns-2 invariant-loop decreases-loop
 returns-2 c =
-    fills-given _ _ refl (to_z_pos w64 _ (omega arith)) (omega arith)
+    fills_given _ _ refl (to_z_pos w64 _ (omega arith)) (omega arith)
     (copied c.before.before.before.before.before.args.numbers.now c.before.loop.place (omega arith) c.before.loop.invariant.0)
 
 pub put_spec : {M : Type 1} → statement M

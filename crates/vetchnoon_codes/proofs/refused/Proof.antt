@@ -4,7 +4,7 @@ use Prim.Native.Nat.{ℕ, ◌<◌}
 use native.Mathlib.Omega.{arith}
 use lib.IntN.{pos, neg_ℤ}
 use borrow.Author.Rules.{rules}
-use Rattle.vetchnoon_codes.proofs.Coding.{minus-fits, minus_is}
+use Rattle.vetchnoon_codes.proofs.Coding.{minus_fits, minus_is}
 use Rattle.vetchnoon_codes.proofs.refused.Statement.{statement}
 use Rattle.vetchnoon_codes.proofs.refused.Tie as tie
 
@@ -15,7 +15,7 @@ cast-result : tie.Need-overflow-cast-result
 cast-result c = search rules
 
 sub-result : tie.Need-overflow-sub-result
-sub-result c = minus-fits c.number.result (let byte : c.number.result < 256 = search rules in omega arith)
+sub-result c = minus_fits c.number.result (let byte : c.number.result < 256 = search rules in omega arith)
 
 returns : tie.Need-returns
 returns c =

@@ -1,13 +1,13 @@
-use Rattle.notes.proofs.ShortNames.{names-are-short, names-are-not-empty}
-use Rattle.layout_book.proofs.Theorems.{offsets-fit}
-use Rattle.layout_table.proofs.Fitting.{tables-fit}
-use Rattle.kbm_text.proofs.LineByLine.{mappings-fit}
-use Rattle.layout_kbm.proofs.Natural.{files-fit}
+use Rattle.notes.proofs.ShortNames.{names_are_short, names_are_not_empty}
+use Rattle.layout_book.proofs.Theorems.{offsets_fit}
+use Rattle.layout_table.proofs.Fitting.{tables_fit}
+use Rattle.kbm_text.proofs.LineByLine.{mappings_fit}
+use Rattle.layout_kbm.proofs.Natural.{files_fit}
 use Rattle.claims.proofs.beyond.room.Statement.{statement}
 use Rattle.claims.proofs.beyond.room.Tie as tie
 
 returns : tie.Need-returns
-returns c = (names-are-short, names-are-not-empty, offsets-fit, tables-fit, mappings-fit, files-fit)
+returns c = (names_are_short, names_are_not_empty, offsets_fit, tables_fit, mappings_fit, files_fit)
 
 pub room-spec : {M : Type 1} → statement M
 room-spec = tie.close (tie.spec returns)

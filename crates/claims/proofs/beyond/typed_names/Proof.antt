@@ -1,13 +1,13 @@
-use Rattle.layout_reading.proofs.Undoing.{reading-undoes-writing}
-use Rattle.layout_reading.proofs.NothingElse.{nothing-else-is-read}
-use Rattle.layout_reading.proofs.OnlyNames.{nothing-else-leads-to-a-key}
-use Rattle.layout_reading.proofs.NamesBack.{two-spellings-lead-to-their-key, names-lead-back}
+use Rattle.layout_reading.proofs.Undoing.{reading_undoes_writing}
+use Rattle.layout_reading.proofs.NothingElse.{nothing_else_is_read}
+use Rattle.layout_reading.proofs.OnlyNames.{nothing_else_leads_to_a_key}
+use Rattle.layout_reading.proofs.NamesBack.{two_spellings_lead_to_their_key, names_lead_back}
 use Rattle.claims.proofs.beyond.typed_names.Statement.{statement}
 use Rattle.claims.proofs.beyond.typed_names.Tie as tie
 
 returns : tie.Need-returns
 returns c =
-    (reading-undoes-writing, two-spellings-lead-to-their-key, nothing-else-is-read, nothing-else-leads-to-a-key, names-lead-back)
+    (reading_undoes_writing, two_spellings_lead_to_their_key, nothing_else_is_read, nothing_else_leads_to_a_key, names_lead_back)
 
 pub typed-names-spec : {M : Type 1} → statement M
 typed-names-spec = tie.close (tie.spec returns)

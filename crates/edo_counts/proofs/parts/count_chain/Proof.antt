@@ -1,7 +1,7 @@
 -- No layout, or one.
 use mathlib.Core.Path.{sym, ap, ◌∙◌}
-use Rattle.edo_layouts.specs.Layouts.{edoOutcome}
-use Rattle.edo_counts.proofs.Counting.{counts-none, counts-one}
+use Rattle.edo_layouts.specs.Layouts.{edo_outcome}
+use Rattle.edo_counts.proofs.Counting.{counts_none, counts_one}
 use borrow.Author.Rules.{rules}
 use Rattle.edo_counts.proofs.parts.count_chain.Statement.{statement}
 use Rattle.edo_counts.proofs.parts.count_chain.Tie as tie
@@ -19,12 +19,12 @@ count-pattern-requires : tie.Need-count-pattern-requires
 count-pattern-requires c κs = search rules
 
 returns : tie.Need-returns
-returns c = counts-none _ _ _ _ (sym (ap edoOutcome c.enum_told.given.1) ∙ c.before.before.find-chain-by-edo.ensures)
+returns c = counts_none _ _ _ _ (sym (ap edo_outcome c.enum_told.given.1) ∙ c.before.before.find-chain-by-edo.ensures)
 
 returns-2 : tie.Need-returns-2
 returns-2 c =
-    counts-one _ _ _ _ _
-    (sym (ap edoOutcome c.before.before.before.found.given.1)
+    counts_one _ _ _ _ _
+    (sym (ap edo_outcome c.before.before.before.found.given.1)
     ∙ c.before.before.before.before.before.find-chain-by-edo.ensures)
     c.count-pattern.ensures
 

@@ -2,8 +2,8 @@
 use Prim.Native.Nat.{◌≤◌}
 use native.Mathlib.Omega.{arith}
 use Rattle.text.proofs.Writing.{then}
-use Rattle.line.specs.Lines.{space, lineFeed}
-use Rattle.edo_counts.specs.Counts.{reportLine}
+use Rattle.line.specs.Lines.{space, line_feed}
+use Rattle.edo_counts.specs.Counts.{report_line}
 use Rattle.edo_counts.proofs.Lines.{short}
 use borrow.Author.Rules.{rules}
 use Rattle.edo_counts.proofs.parts.put_line.Statement.{statement}
@@ -37,13 +37,13 @@ put-number-then-requires-4 c κs =
     let h1 : s.args.above ≤ 65535 = search rules in
     let h2 : s.args.below ≤ 65535 = search rules in
     let h3 : s.args.equal ≤ 65535 = search rules in
-    omega (arith, short s.args.genchain space h0, short s.args.above space h1, short s.args.below space h2, short s.args.equal lineFeed h3)
+    omega (arith, short s.args.genchain space h0, short s.args.above space h1, short s.args.below space h2, short s.args.equal line_feed h3)
 
 same_length : tie.Need-same-length
 same_length c = search rules
 
 returns : tie.Need-returns
-unfolding reportLine
+unfolding report_line
 returns c =
     let d = c.before.before in
     let e = d.before.before.before.before in

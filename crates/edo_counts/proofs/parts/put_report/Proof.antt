@@ -6,21 +6,21 @@ use native.Mathlib.Nat.{le_antisymm}
 use lib.ListN.{length}
 use Rattle.text.specs.Writing.{Wrote, joined}
 use Rattle.text.proofs.Writing.{wrote_as}
-use Rattle.text.proofs.Joined.{joined-start, joined_step}
-use Rattle.edo_counts.specs.Counts.{chainLine}
-use Rattle.edo_counts.proofs.Lines.{line-is, chain-short, report-is}
+use Rattle.text.proofs.Joined.{joined_start, joined_step}
+use Rattle.edo_counts.specs.Counts.{chain_line}
+use Rattle.edo_counts.proofs.Lines.{line_is, chain_short, report_is}
 use Rattle.edo_counts.proofs.parts.put_report.Statement.{statement}
 use Rattle.edo_counts.proofs.parts.put_report.Tie as tie
 
 abbrev invariant-loop : tie.invariant-loop
 invariant-loop out₀ place₀ genchain₀ out place genchain =
-    Wrote out₀ 0 (joined chainLine genchain) out place × (place ≤ 24 * genchain) × (genchain ≤ 6) × (length out ≡ length out₀)
+    Wrote out₀ 0 (joined chain_line genchain) out place × (place ≤ 24 * genchain) × (genchain ≤ 6) × (length out ≡ length out₀)
 
 abbrev decreases-loop : tie.decreases-loop
 decreases-loop out₀ place₀ genchain₀ out place genchain = 6 - genchain
 
 loop-holds : tie.Need-loop-init invariant-loop decreases-loop
-loop-holds c = (joined-start _ _ _, omega arith, omega arith, refl)
+loop-holds c = (joined_start _ _ _, omega arith, omega arith, refl)
 
 tally-chain-requires : tie.Need-tally-chain-requires invariant-loop decreases-loop
 tally-chain-requires c κs = c.loop-test.true
@@ -37,9 +37,9 @@ loop-less c = omega arith
 loop-again : tie.Need-loop-preserved invariant-loop decreases-loop
 loop-again c =
     let l = c.before.before.before.before.before.before in
-    let w = wrote_as (line-is _ _ c.before.before.before.before.tally-chain.ensures) c.before.before.put-line.ensures in (
+    let w = wrote_as (line_is _ _ c.before.before.before.before.tally-chain.ensures) c.before.before.put-line.ensures in (
       joined_step _ _ l.loop.invariant.0 w,
-      omega (arith, w.end, chain-short l.loop.genchain c.before.before.before.before.before.loop-test.true),
+      omega (arith, w.end, chain_short l.loop.genchain c.before.before.before.before.before.loop-test.true),
       omega arith,
       omega arith,
     )
@@ -49,7 +49,7 @@ same_length c = omega arith
 
 returns : tie.Need-returns invariant-loop decreases-loop
 returns c =
-    wrote_as (ap (joined chainLine) (le_antisymm c.before.loop.invariant.2 c.loop-test.false) ∙ report-is) c.before.loop.invariant.0
+    wrote_as (ap (joined chain_line) (le_antisymm c.before.loop.invariant.2 c.loop-test.false) ∙ report_is) c.before.loop.invariant.0
 
 pub put-report-spec : {M : Type 1} → statement M
 put-report-spec =

@@ -3,9 +3,9 @@ use Prim.Native.Nat.{◌≤◌, ◌-◌}
 use mathlib.Core.Path.{◌≡◌, refl}
 use native.Mathlib.Omega.{arith}
 use lib.ListN.{length, take, length-set}
-use Rattle.answer.proofs.Lent.{held, not-held, filled-refused}
+use Rattle.answer.proofs.Lent.{held, not_held, filled_refused}
 use Rattle.text.specs.Writing.{Wrote}
-use Rattle.text.proofs.Writing.{filled-given}
+use Rattle.text.proofs.Writing.{filled_given}
 use Rattle.text.proofs.Copying.{copy_start, copy_more, copied}
 use Rattle.edo_layouts.proofs.parts.fill.Statement.{statement}
 use Rattle.edo_layouts.proofs.parts.fill.Tie as tie
@@ -18,7 +18,7 @@ abbrev decreases-loop : tie.decreases-loop
 decreases-loop out₀ numbers len place₀ out place = length numbers - place
 
 returns : tie.Need-returns invariant-loop decreases-loop
-returns c = filled-refused 10 _ (not-held _ c.before.args.numbers.now c.if1.true) refl
+returns c = filled_refused 10 _ (not_held _ c.before.args.numbers.now c.if1.true) refl
 
 loop-holds : tie.Need-loop-init invariant-loop decreases-loop
 loop-holds c = (copy_start _ c.before.args.numbers.now _, omega arith, refl)
@@ -53,7 +53,7 @@ same_length c = omega arith
 
 returns-2 : tie.Need-returns-2 invariant-loop decreases-loop
 returns-2 c =
-    filled-given (held _ c.before.before.before.args.numbers.now (omega arith)) refl (omega arith)
+    filled_given (held _ c.before.before.before.args.numbers.now (omega arith)) refl (omega arith)
     (copied c.before.before.before.args.numbers.now c.before.loop.place (omega arith) c.before.loop.invariant.0)
 
 pub fill_spec : {M : Type 1} → statement M

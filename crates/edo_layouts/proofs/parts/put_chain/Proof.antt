@@ -1,8 +1,8 @@
 -- No number, or three.
 use mathlib.Core.Path.{sym, ap, ◌∙◌}
 use Rattle.text.proofs.Writing.{wrote_none, wrote_as}
-use Rattle.edo_layouts.specs.Layouts.{edoOutcome}
-use Rattle.edo_layouts.proofs.Listing.{chain-numbers, no-numbers}
+use Rattle.edo_layouts.specs.Layouts.{edo_outcome}
+use Rattle.edo_layouts.proofs.Listing.{chain_numbers_lem, no_numbers}
 use borrow.Author.Rules.{rules}
 use Rattle.edo_layouts.proofs.parts.put_chain.Statement.{statement}
 use Rattle.edo_layouts.proofs.parts.put_chain.Tie as tie
@@ -21,7 +21,7 @@ put-three-requires c κs = search rules
 
 returns : tie.Need-returns
 returns c =
-    wrote_as (no-numbers _ _ _ _ (sym (ap edoOutcome c.enum_told.given.1) ∙ c.before.before.serve.ensures)) (wrote_none _ _)
+    wrote_as (no_numbers _ _ _ _ (sym (ap edo_outcome c.enum_told.given.1) ∙ c.before.before.serve.ensures)) (wrote_none _ _)
 
 same_length : tie.Need-same-length
 same_length c = search rules
@@ -29,8 +29,8 @@ same_length c = search rules
 returns-2 : tie.Need-returns-2
 returns-2 c =
     wrote_as
-    (chain-numbers _ _ _ _
-    (sym (ap edoOutcome c.before.before.before.before.before.found.given.1)
+    (chain_numbers_lem _ _ _ _
+    (sym (ap edo_outcome c.before.before.before.before.before.found.given.1)
     ∙ c.before.before.before.before.before.before.before.serve.ensures))
     c.before.before.put_three.ensures
 

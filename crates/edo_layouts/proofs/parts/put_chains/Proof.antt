@@ -5,21 +5,21 @@ use native.Mathlib.Omega.{arith}
 use native.Mathlib.Nat.{le_antisymm}
 use lib.ListN.{length}
 use Rattle.text.specs.Writing.{Wrote, joined}
-use Rattle.text.proofs.Joined.{joined-start, joined_step}
-use Rattle.edo_layouts.specs.Parts.{chainNumbers}
-use Rattle.edo_layouts.proofs.Listing.{few-numbers}
+use Rattle.text.proofs.Joined.{joined_start, joined_step}
+use Rattle.edo_layouts.specs.Parts.{chain_numbers}
+use Rattle.edo_layouts.proofs.Listing.{few_numbers}
 use Rattle.edo_layouts.proofs.parts.put_chains.Statement.{statement}
 use Rattle.edo_layouts.proofs.parts.put_chains.Tie as tie
 
 abbrev invariant-loop : tie.invariant-loop
 invariant-loop out₀ n choices place₀ genchain₀ out place genchain =
-    Wrote out₀ 0 (joined (chainNumbers n choices) genchain) out place × (place ≤ 3 * genchain) × (genchain ≤ 6) × (length out ≡ length out₀)
+    Wrote out₀ 0 (joined (chain_numbers n choices) genchain) out place × (place ≤ 3 * genchain) × (genchain ≤ 6) × (length out ≡ length out₀)
 
 abbrev decreases-loop : tie.decreases-loop
 decreases-loop out₀ n choices place₀ genchain₀ out place genchain = 6 - genchain
 
 loop-holds : tie.Need-loop-init invariant-loop decreases-loop
-loop-holds c = (joined-start _ _ _, omega arith, omega arith, refl)
+loop-holds c = (joined_start _ _ _, omega arith, omega arith, refl)
 
 put-chain-requires : tie.Need-put-chain-requires invariant-loop decreases-loop
 put-chain-requires c κs = omega arith
@@ -36,7 +36,7 @@ loop-again c =
     let l = c.before.before.before.before.before in
     let s = l.before.before in (
       joined_step _ _ l.loop.invariant.0 w,
-      omega (arith, w.end, few-numbers s.args.n s.args.choices l.loop.genchain),
+      omega (arith, w.end, few_numbers s.args.n s.args.choices l.loop.genchain),
       omega arith,
       omega arith,
     )

@@ -1,7 +1,7 @@
 -- Three stores, one after the other.
 use native.Mathlib.Omega.{arith}
 use lib.ListN.{length-set}
-use Rattle.edo_layouts.proofs.Listing.{three-stored}
+use Rattle.edo_layouts.proofs.Listing.{three_stored}
 use borrow.Author.Rules.{rules}
 use Rattle.edo_layouts.proofs.parts.put_three.Statement.{statement}
 use Rattle.edo_layouts.proofs.parts.put_three.Tie as tie
@@ -40,7 +40,7 @@ same_length : tie.Need-same-length
 same_length c = search rules
 
 returns : tie.Need-returns
-returns c = three-stored _ _ c.before.before.args.found _ c.flag.ensures
+returns c = three_stored _ _ c.before.before.args.found _ c.flag.ensures
 
 pub put-three-spec : {M : Type 1} → statement M
 put-three-spec =

@@ -1,7 +1,7 @@
 -- A refusal gives way to a layout, and to no other refusal.
 use mathlib.Core.Path.{sym, ap, ◌∙◌}
-use Rattle.edo_layouts.specs.Layouts.{edoOutcome}
-use Rattle.edo_layouts.proofs.Serving.{else-refused, else-given}
+use Rattle.edo_layouts.specs.Layouts.{edo_outcome}
+use Rattle.edo_layouts.proofs.Serving.{else_refused, else_given}
 use borrow.Author.Rules.{rules}
 use Rattle.edo_layouts.proofs.parts.try_second.Statement.{statement}
 use Rattle.edo_layouts.proofs.parts.try_second.Tie as tie
@@ -16,10 +16,10 @@ enum-known-found : tie.Need-enum-known-found
 enum-known-found c = search rules
 
 returns : tie.Need-returns
-returns c = else-refused _ _ _ (sym (ap edoOutcome c.enum_told.given.1) ∙ c.before.before.try-tritave.ensures)
+returns c = else_refused _ _ _ (sym (ap edo_outcome c.enum_told.given.1) ∙ c.before.before.try-tritave.ensures)
 
 returns-2 : tie.Need-returns-2
-returns-2 c = else-given _ _ _ (sym (ap edoOutcome c.before.found.given.1) ∙ c.before.before.before.try-tritave.ensures)
+returns-2 c = else_given _ _ _ (sym (ap edo_outcome c.before.found.given.1) ∙ c.before.before.before.try-tritave.ensures)
 
 pub try-second-spec : {M : Type 1} → statement M
 try-second-spec =

@@ -1,7 +1,7 @@
 -- The questions of the layout, then what they found.
 use mathlib.Core.Path.{sym, ap, ◌∙◌}
-use Rattle.layout.specs.Parts.{foundOutcome}
-use Rattle.edo_layouts.proofs.Serving.{tried-refused, tried-given}
+use Rattle.layout.specs.Parts.{found_outcome}
+use Rattle.edo_layouts.proofs.Serving.{tried_refused, tried_given}
 use borrow.Author.Rules.{rules}
 use Rattle.edo_layouts.proofs.parts.try_tritave.Statement.{statement}
 use Rattle.edo_layouts.proofs.parts.try_tritave.Tie as tie
@@ -20,17 +20,17 @@ enum-known-found c = search rules
 
 returns : tie.Need-returns
 returns c =
-    tried-refused _ _ _ _ _
+    tried_refused _ _ _ _ _
     c.before.before.before.before.default-layout.ensures
     _
-    (sym (ap foundOutcome c.before.q.given.1) ∙ c.before.before.before.ask.ensures)
+    (sym (ap found_outcome c.before.q.given.1) ∙ c.before.before.before.ask.ensures)
 
 returns-2 : tie.Need-returns-2
 returns-2 c =
-    tried-given _ _ _ _ _
+    tried_given _ _ _ _ _
     c.before.before.before.before.before.default-layout.ensures
     _
-    (sym (ap foundOutcome c.before.before.found.given.1) ∙ c.before.before.before.before.ask.ensures)
+    (sym (ap found_outcome c.before.before.found.given.1) ∙ c.before.before.before.before.ask.ensures)
 
 pub try-tritave-spec : {M : Type 1} → statement M
 try-tritave-spec =

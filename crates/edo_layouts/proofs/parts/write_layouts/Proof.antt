@@ -1,8 +1,8 @@
 -- At most 18 numbers are made; then comes question 10.
 use mathlib.Core.Path.{refl, sym, ap}
 use lib.Seq.{length-take-le}
-use Rattle.answer.specs.Lent.{heldIn}
-use Rattle.layout.proofs.Calls.{filled-as}
+use Rattle.answer.specs.Lent.{held_in}
+use Rattle.layout.proofs.Calls.{filled_as}
 use Rattle.edo_layouts.proofs.Listing.{all_there}
 use borrow.Author.Rules.{rules}
 use Rattle.edo_layouts.proofs.parts.write_layouts.Statement.{statement}
@@ -28,8 +28,8 @@ same_length c = search rules
 
 returns : tie.Need-returns
 returns c =
-    filled-as
-    (ap (heldIn _) (all_there _ _ refl c.before.before.before.before.before.before.put-chains.ensures).1)
+    filled_as
+    (ap (held_in _) (all_there _ _ refl c.before.before.before.before.before.before.put-chains.ensures).1)
     c.before.before.fill.ensures
 
 pub write-layouts-spec : {M : Type 1} → statement M

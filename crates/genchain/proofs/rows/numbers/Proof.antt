@@ -3,9 +3,9 @@ use Prim.Native.Nat.{◌≤◌}
 use mathlib.Core.Path.{refl, ap}
 use native.Mathlib.Omega.{arith}
 use Rattle.genchain.specs.declared.rows.ChainRow.{ChainRow}
-use Rattle.genchain.specs.Chains.{chains, noChain, row_of}
-use Rattle.genchain.proofs.TableRows.{row_at, numbers-at}
-use Rattle.genchain.proofs.Calls.{row-of-none}
+use Rattle.genchain.specs.Chains.{chains, no_chain, row_of}
+use Rattle.genchain.proofs.TableRows.{row_at, numbers_at}
+use Rattle.genchain.proofs.Calls.{row_of_none}
 use borrow.Author.Rules.{rules}
 use Rattle.genchain.proofs.rows.numbers.Statement.{statement}
 use Rattle.genchain.proofs.rows.numbers.Tie as tie
@@ -48,34 +48,34 @@ numbers-in-requires-6 c κs = search rules
 
 returns : tie.Need-returns
 unfolding chains row_of
-returns c = numbers-at c.before.before.match.keys1 (row_at refl 0 (row_of noChain) (omega arith)) c.numbers-in.ensures
+returns c = numbers_at c.before.before.match.keys1 (row_at refl 0 (row_of no_chain) (omega arith)) c.numbers-in.ensures
 
 returns-2 : tie.Need-returns-2
 unfolding chains row_of
-returns-2 c = numbers-at c.before.before.match.keys2 (row_at refl 1 (row_of noChain) (omega arith)) c.numbers-in2.ensures
+returns-2 c = numbers_at c.before.before.match.keys2 (row_at refl 1 (row_of no_chain) (omega arith)) c.numbers-in2.ensures
 
 returns-3 : tie.Need-returns-3
 unfolding chains row_of
-returns-3 c = numbers-at c.before.before.match.keys3 (row_at refl 2 (row_of noChain) (omega arith)) c.numbers-in3.ensures
+returns-3 c = numbers_at c.before.before.match.keys3 (row_at refl 2 (row_of no_chain) (omega arith)) c.numbers-in3.ensures
 
 returns-4 : tie.Need-returns-4
 unfolding chains row_of
-returns-4 c = numbers-at c.before.before.match.keys4 (row_at refl 3 (row_of noChain) (omega arith)) c.numbers-in4.ensures
+returns-4 c = numbers_at c.before.before.match.keys4 (row_at refl 3 (row_of no_chain) (omega arith)) c.numbers-in4.ensures
 
 returns-5 : tie.Need-returns-5
 unfolding chains row_of
-returns-5 c = numbers-at c.before.before.match.keys5 (row_at refl 4 (row_of noChain) (omega arith)) c.numbers-in5.ensures
+returns-5 c = numbers_at c.before.before.match.keys5 (row_at refl 4 (row_of no_chain) (omega arith)) c.numbers-in5.ensures
 
 returns-6 : tie.Need-returns-6
 unfolding chains row_of
-returns-6 c = numbers-at c.before.before.match.keys6 (row_at refl 5 (row_of noChain) (omega arith)) c.numbers-in6.ensures
+returns-6 c = numbers_at c.before.before.match.keys6 (row_at refl 5 (row_of no_chain) (omega arith)) c.numbers-in6.ensures
 
 returns-7 : tie.Need-returns-7
 unfolding row_of
 returns-7 c =
     let no = c.match.rest in
     let past : 6 ≤ c.before.args.code = omega (arith, no.0.0.0.0.0.1, no.0.0.0.0.1, no.0.0.0.1, no.0.0.1, no.0.1, no.1) in
-    let is = row-of-none _ past in
+    let is = row_of_none _ past in
     (ap (λ (w : ChainRow). w.num_letters) is, ap (λ (w : ChainRow). w.start) is)
 
 pub numbers-spec : {M : Type 1} → statement M

@@ -2,7 +2,7 @@
 use mathlib.Core.Path.{refl}
 use Rattle.genchain.specs.Chains.{chains, row_of}
 use Rattle.genchain.proofs.TableRows.{row_at}
-use Rattle.genchain.proofs.Calls.{is-chain, is_none, row-of-none}
+use Rattle.genchain.proofs.Calls.{is_chain, is_none, row_of_none}
 use borrow.Author.Rules.{rules}
 use Rattle.genchain.proofs.rows.row.Statement.{statement}
 use Rattle.genchain.proofs.rows.row.Tie as tie
@@ -14,15 +14,15 @@ mul-result : tie.Need-overflow-mul-result
 mul-result c = search rules
 
 array-copy-out-result : tie.Need-array-copy-out-result
-array-copy-out-result c = is-chain _ c.before.is-chain.ensures c.if1.true
+array-copy-out-result c = is_chain _ c.before.is_chain.ensures c.if1.true
 
 returns : tie.Need-returns
 unfolding chains row_of
-returns c = row_at refl c.before.before.before.args.code _ (is-chain _ c.before.before.is-chain.ensures c.before.if1.true)
+returns c = row_at refl c.before.before.before.args.code _ (is_chain _ c.before.before.is_chain.ensures c.before.if1.true)
 
 returns-2 : tie.Need-returns-2
 unfolding row_of
-returns-2 c = row-of-none _ (is_none _ c.before.is-chain.ensures c.if1.false)
+returns-2 c = row_of_none _ (is_none _ c.before.is_chain.ensures c.if1.false)
 
 pub row-spec : {M : Type 1} → statement M
 row-spec =

@@ -5,7 +5,7 @@ use Rattle.kbm_text.proofs.kinds.number_in.Statement.{statement}
 use Rattle.kbm_text.proofs.kinds.number_in.Tie as tie
 use Prim.Native.Nat.{◌-◌, ◌≤◌}
 use lib.ListN.{length}
-use Rattle.kbm_text.proofs.Bytes.{Read, read_none, none-short, none-long, small-enough, read_all, low_byte, high_byte, read_more}
+use Rattle.kbm_text.proofs.Bytes.{Read, read_none, none_short, none_long, small_enough, read_all, low_byte, high_byte, read_more}
 
 abbrev invariant-loop : tie.invariant-loop
 invariant-loop line value₀ i₀ value i = Read line value i × (1 ≤ length line) × (length line ≤ 5) × (i ≤ length line)
@@ -14,10 +14,10 @@ abbrev decreases-loop : tie.decreases-loop
 decreases-loop line value₀ i₀ value i = length line - i
 
 returns : tie.Need-returns invariant-loop decreases-loop
-returns c = none-short _ c.if1.true
+returns c = none_short _ c.if1.true
 
 returns-2 : tie.Need-returns-2 invariant-loop decreases-loop
-returns-2 c = none-long _ c.if2.true
+returns-2 c = none_long _ c.if2.true
 
 loop-holds : tie.Need-loop-init invariant-loop decreases-loop
 loop-holds c = (read_none _, search rules, search rules, search rules)
@@ -32,13 +32,13 @@ returns-4 : tie.Need-returns-4 invariant-loop decreases-loop
 returns-4 c = let l = c.before.before.before.before in high_byte _ _ _ l.loop.invariant.0 (search rules) c.if4.true
 
 mul-value : tie.Need-overflow-mul-value invariant-loop decreases-loop
-mul-value c = let l = c.before.before.before.before in omega (arith, small-enough _ _ _ l.loop.invariant.0 (search rules))
+mul-value c = let l = c.before.before.before.before in omega (arith, small_enough _ _ _ l.loop.invariant.0 (search rules))
 
 wide-requires : tie.Need-wide-requires invariant-loop decreases-loop
 wide-requires c κs = search rules
 
 add-value : tie.Need-overflow-add-value invariant-loop decreases-loop
-add-value c = let l = c.before.before.before.before.before in omega (arith, small-enough _ _ _ l.loop.invariant.0 (search rules))
+add-value c = let l = c.before.before.before.before.before in omega (arith, small_enough _ _ _ l.loop.invariant.0 (search rules))
 
 add-i : tie.Need-overflow-add-i invariant-loop decreases-loop
 add-i c = search rules

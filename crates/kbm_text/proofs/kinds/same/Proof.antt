@@ -3,13 +3,13 @@ use borrow.Author.Rules.{rules}
 use Prim.Native.Nat.{◌-◌, ◌≤◌}
 use mathlib.Core.Path.{◌≡◌, refl, sym, ◌∙◌}
 use lib.ListN.{length, drop}
-use Rattle.kbm_text.specs.Kinds.{sameBytes}
-use Rattle.kbm_text.proofs.Bytes.{other_length, same_more, same_differs, same-all}
+use Rattle.kbm_text.specs.Kinds.{same_bytes}
+use Rattle.kbm_text.proofs.Bytes.{other_length, same_more, same_differs, same_all}
 use Rattle.kbm_text.proofs.kinds.same.Statement.{statement}
 use Rattle.kbm_text.proofs.kinds.same.Tie as tie
 
 abbrev invariant-loop : tie.invariant-loop
-invariant-loop a b i₀ i = (sameBytes a b ≡ sameBytes (drop i a) (drop i b)) × (length a ≡ length b) × (i ≤ length a)
+invariant-loop a b i₀ i = (same_bytes a b ≡ same_bytes (drop i a) (drop i b)) × (length a ≡ length b) × (i ≤ length a)
 
 abbrev decreases-loop : tie.decreases-loop
 decreases-loop a b i₀ i = length a - i
@@ -45,7 +45,7 @@ loop-again c =
 returns-3 : tie.Need-returns-3 invariant-loop decreases-loop
 returns-3 c =
     let l = c.before in
-    sym (l.loop.invariant.0 ∙ same-all l.before.before.args.a.now l.before.before.args.b.now l.loop.i (search rules) (search rules))
+    sym (l.loop.invariant.0 ∙ same_all l.before.before.args.a.now l.before.before.args.b.now l.loop.i (search rules) (search rules))
 
 pub same_spec : {M : Type 1} → statement M
 same_spec =

@@ -2,7 +2,7 @@
 use borrow.Author.Rules.{rules}
 use mathlib.Core.Path.{sym, ap, ◌∙◌}
 use lib.Dec.{eqb}
-use Rattle.kbm_text.specs.Reading.{agreesAt}
+use Rattle.kbm_text.specs.Reading.{agrees_at}
 use Rattle.kbm_text.proofs.scan.agrees_at.Statement.{statement}
 use Rattle.kbm_text.proofs.scan.agrees_at.Tie as tie
 
@@ -28,7 +28,7 @@ enum-told-4 : tie.Need-enum-told-4
 enum-told-4 c = search rules
 
 returns : tie.Need-returns
-returns c = ap (eqb _) c.due-at.ensures ∙ sym (ap (agreesAt _ _) c.before.before.kind.given.1)
+returns c = ap (eqb _) c.due-at.ensures ∙ sym (ap (agrees_at _ _) c.before.before.kind.given.1)
 
 returns-2 : tie.Need-returns-2
 returns-2 c = search rules

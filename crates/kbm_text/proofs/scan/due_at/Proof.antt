@@ -1,12 +1,12 @@
 -- The list of what is due, place by place.
 use mathlib.Core.Path.{sym, ap}
 use Rattle.kbm_text.specs.Reading.{due}
-use Rattle.kbm_text.proofs.StepLaws.{due-entry, is-six}
+use Rattle.kbm_text.proofs.StepLaws.{due_entry, is_six}
 use Rattle.kbm_text.proofs.scan.due_at.Statement.{statement}
 use Rattle.kbm_text.proofs.scan.due_at.Tie as tie
 
 returns : tie.Need-returns
-returns c = sym (due-entry _ _ c.if1.true)
+returns c = sym (due_entry _ _ c.if1.true)
 
 returns-2 : tie.Need-returns-2
 unfolding due
@@ -34,7 +34,7 @@ returns-7 c = sym (ap (due _) c.if7.true)
 
 returns-8 : tie.Need-returns-8
 unfolding due
-returns-8 c = sym (ap (due _) (is-six _ c.before.before.before.before.before.before.if1.false c.before.before.before.before.before.if2.false c.before.before.before.before.if3.false c.before.before.before.if4.false c.before.before.if5.false c.before.if6.false c.if7.false))
+returns-8 c = sym (ap (due _) (is_six _ c.before.before.before.before.before.before.if1.false c.before.before.before.before.before.if2.false c.before.before.before.before.if3.false c.before.before.before.if4.false c.before.before.if5.false c.before.if6.false c.if7.false))
 
 pub due-at-spec : {M : Type 1} → statement M
 due-at-spec =

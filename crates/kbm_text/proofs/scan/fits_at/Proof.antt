@@ -1,7 +1,7 @@
 -- By kinds, as the definition goes.
 use borrow.Author.Rules.{rules}
 use mathlib.Core.Path.{sym, ap}
-use Rattle.kbm_text.specs.Reading.{fitsAt}
+use Rattle.kbm_text.specs.Reading.{fits_at}
 use Rattle.kbm_text.proofs.scan.fits_at.Statement.{statement}
 use Rattle.kbm_text.proofs.scan.fits_at.Tie as tie
 
@@ -21,13 +21,13 @@ enum-told-5 : tie.Need-enum-told-5
 enum-told-5 c = search rules
 
 returns : tie.Need-returns
-returns c = sym (ap (fitsAt _) c.enum_told.given.1)
+returns c = sym (ap (fits_at _) c.enum_told.given.1)
 
 returns-2 : tie.Need-returns-2
-returns-2 c = sym (ap (fitsAt _) c.enum-told2.given.1)
+returns-2 c = sym (ap (fits_at _) c.enum-told2.given.1)
 
 returns-3 : tie.Need-returns-3
-returns-3 c = sym (ap (fitsAt _) c.enum-told3.given.1)
+returns-3 c = sym (ap (fits_at _) c.enum-told3.given.1)
 
 returns-4 : tie.Need-returns-4
 returns-4 c = search rules

@@ -1,7 +1,7 @@
 -- A line that is skipped, one without a key, one with its key.
 use borrow.Author.Rules.{rules}
 use mathlib.Core.Path.{sym, ◌∙◌}
-use Rattle.kbm_text.proofs.StepLaws.{put-comment, put-none, put_one, key-line}
+use Rattle.kbm_text.proofs.StepLaws.{put_comment, put_none, put_one, key_line_lem}
 use Rattle.kbm_text.proofs.scan.put_key.Statement.{statement}
 use Rattle.kbm_text.proofs.scan.put_key.Tie as tie
 
@@ -9,7 +9,7 @@ is-comment-requires : tie.Need-is-comment-requires
 is-comment-requires c κs = search rules
 
 returns : tie.Need-returns
-returns c = put-comment _ _ _ (sym c.before.is-comment.ensures ∙ c.if1.true)
+returns c = put_comment _ _ _ (sym c.before.is-comment.ensures ∙ c.if1.true)
 
 key-count-requires : tie.Need-key-count-requires
 key-count-requires c κs = search rules
@@ -20,10 +20,10 @@ add-t9 c = search rules
 returns-2 : tie.Need-returns-2
 returns-2 c =
     let i = c.before.before in
-    put-none _ _ _ (sym i.before.is-comment.ensures ∙ i.if1.false) (sym c.before.key-count.ensures.0 ∙ c.if2.true)
+    put_none _ _ _ (sym i.before.is-comment.ensures ∙ i.if1.false) (sym c.before.key-count.ensures.0 ∙ c.if2.true)
 
 sub_out : tie.Need-overflow-sub-out
-sub_out c = let a = c.before.before.before.before.before.args in key-line a.spot.line a.kind (λ e. c.if2.false (c.before.key-count.ensures.0 ∙ e))
+sub_out c = let a = c.before.before.before.before.before.args in key_line_lem a.spot.line a.kind (λ e. c.if2.false (c.before.key-count.ensures.0 ∙ e))
 
 cast-out : tie.Need-overflow-cast-out
 cast-out c = search rules

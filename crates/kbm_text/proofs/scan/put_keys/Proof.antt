@@ -3,8 +3,8 @@ use borrow.Author.Rules.{rules}
 use native.Mathlib.Omega.{arith}
 use Prim.Native.Nat.{◌-◌}
 use lib.ListN.{length}
-use Rattle.text.proofs.Writing.{wrote-length}
-use Rattle.kbm_text.proofs.Listing.{Listing, list-start, list-room, list-more, list-few, list-end}
+use Rattle.text.proofs.Writing.{wrote_length}
+use Rattle.kbm_text.proofs.Listing.{Listing, list_start, list_room, list_more, list_few, list_end}
 use Rattle.kbm_text.proofs.scan.put_keys.Statement.{statement}
 use Rattle.kbm_text.proofs.scan.put_keys.Tie as tie
 
@@ -15,7 +15,7 @@ abbrev decreases-loop : tie.decreases-loop
 decreases-loop text out₀ at₀ spot₀ out at spot = length text - at
 
 loop-holds : tie.Need-loop-init invariant-loop decreases-loop
-loop-holds c = list-start _ _
+loop-holds c = list_start _ _
 
 line-end-requires : tie.Need-line-end-requires invariant-loop decreases-loop
 line-end-requires c κs = (c.before.before.before.before.requires.0, c.loop-test.true)
@@ -37,7 +37,7 @@ put-key-requires c κs =
     let e = c.before.before.before in
     let l = e.before.before in
     let p = l.before.before.before.requires in
-    (list-room _ _ _ _ _ l.loop.invariant _ e.line-end.ensures _ c.before.kind-of.ensures p.1, list-few _ _ _ _ _ l.loop.invariant p.2)
+    (list_room _ _ _ _ _ l.loop.invariant _ e.line-end.ensures _ c.before.kind_of_lem.ensures p.1, list_few _ _ _ _ _ l.loop.invariant p.2)
 
 add_at : tie.Need-overflow-add-at invariant-loop decreases-loop
 add_at c = omega (arith, c.before.before.before.before.before.before.line-end.ensures.inside)
@@ -49,13 +49,13 @@ loop-again : tie.Need-loop-preserved invariant-loop decreases-loop
 loop-again c =
     let p = c.before.before in
     let e = p.before.before.before.before in
-    list-more _ _ _ _ _ e.before.before.loop.invariant _ e.line-end.ensures _ p.before.before.kind-of.ensures _ _ p.put-key.ensures
+    list_more _ _ _ _ _ e.before.before.loop.invariant _ e.line-end.ensures _ p.before.before.kind_of_lem.ensures _ _ p.put-key.ensures
 
 same_length : tie.Need-same-length invariant-loop decreases-loop
-same_length c = wrote-length c.before.loop.invariant.wrote
+same_length c = wrote_length c.before.loop.invariant.wrote
 
 returns : tie.Need-returns invariant-loop decreases-loop
-returns c = list-end _ _ _ _ _ c.before.loop.invariant c.loop-test.false
+returns c = list_end _ _ _ _ _ c.before.loop.invariant c.loop-test.false
 
 pub put-keys-spec : {M : Type 1} → statement M
 put-keys-spec =

@@ -3,7 +3,7 @@ use borrow.Author.Rules.{rules}
 use native.Mathlib.Omega.{arith}
 use Prim.Native.Nat.{◌-◌}
 use lib.ListN.{length}
-use Rattle.kbm_text.proofs.Scanning.{Scanning, scan-start, scan-more, scan-end}
+use Rattle.kbm_text.proofs.Scanning.{Scanning, scan_start, scan_more, scan_end}
 use Rattle.kbm_text.proofs.scan.scan_all.Statement.{statement}
 use Rattle.kbm_text.proofs.scan.scan_all.Tie as tie
 
@@ -14,7 +14,7 @@ abbrev decreases-loop : tie.decreases-loop
 decreases-loop octave text at₀ s₀ at s = length text - at
 
 loop-holds : tie.Need-loop-init invariant-loop decreases-loop
-loop-holds c = scan-start _ _
+loop-holds c = scan_start _ _
 
 line-end-requires : tie.Need-line-end-requires invariant-loop decreases-loop
 line-end-requires c κs = (c.before.before.before.requires, c.loop-test.true)
@@ -45,10 +45,10 @@ loop-less c = let e = c.before.before.before.line-end.ensures in omega (arith, e
 loop-again : tie.Need-loop-preserved invariant-loop decreases-loop
 loop-again c =
     let e = c.before.before.before in
-    scan-more _ _ _ _ e.before.before.loop.invariant _ e.line-end.ensures _ c.before.kind-of.ensures _ c.step.ensures.0 c.step.ensures.1 c.step.ensures.2
+    scan_more _ _ _ _ e.before.before.loop.invariant _ e.line-end.ensures _ c.before.kind_of_lem.ensures _ c.step.ensures.0 c.step.ensures.1 c.step.ensures.2
 
 returns : tie.Need-returns invariant-loop decreases-loop
-returns c = scan-end _ _ _ _ c.before.loop.invariant c.loop-test.false
+returns c = scan_end _ _ _ _ c.before.loop.invariant c.loop-test.false
 
 pub scan-all-spec : {M : Type 1} → statement M
 scan-all-spec =

@@ -1,7 +1,7 @@
 -- A line that is skipped changes nothing; any other is one line more.
 use borrow.Author.Rules.{rules}
 use mathlib.Core.Path.{sym, ◌∙◌}
-use Rattle.kbm_text.proofs.StepLaws.{next-comment, next-with-line}
+use Rattle.kbm_text.proofs.StepLaws.{next_comment, next_with_line}
 use Rattle.kbm_text.proofs.scan.step.Statement.{statement}
 use Rattle.kbm_text.proofs.scan.step.Tie as tie
 
@@ -9,7 +9,7 @@ is-comment-requires : tie.Need-is-comment-requires
 is-comment-requires c κs = search rules
 
 returns : tie.Need-returns
-returns c = (next-comment _ _ _ (sym c.before.is-comment.ensures ∙ c.if1.true), search rules, search rules)
+returns c = (next_comment _ _ _ (sym c.before.is-comment.ensures ∙ c.if1.true), search rules, search rules)
 
 fits-at-requires : tie.Need-fits-at-requires
 fits-at-requires c κs = search rules
@@ -38,7 +38,7 @@ returns-2 c =
     let a = k.before in
     let f = a.before.before in
     let i = f.before.before in
-    (next-with-line _ _ _ (sym i.before.is-comment.ensures ∙ i.if1.false) _ _ _ f.both.ensures f.before.fits-at.ensures a.both2.ensures a.before.agrees_at.ensures k.key-count.ensures.0, search rules, search rules)
+    (next_with_line _ _ _ (sym i.before.is-comment.ensures ∙ i.if1.false) _ _ _ f.both.ensures f.before.fits-at.ensures a.both2.ensures a.before.agrees_at.ensures k.key-count.ensures.0, search rules, search rules)
 
 pub step_spec : {M : Type 1} → statement M
 step_spec =

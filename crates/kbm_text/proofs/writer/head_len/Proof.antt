@@ -1,5 +1,5 @@
 -- Two numbers, and what stands between and behind them.
-use Rattle.kbm_text.proofs.WriteLaws.{head-length}
+use Rattle.kbm_text.proofs.WriteLaws.{head_length}
 use borrow.Author.Rules.{rules}
 use Rattle.kbm_text.proofs.writer.head_len.Statement.{statement}
 use Rattle.kbm_text.proofs.writer.head_len.Tie as tie
@@ -14,7 +14,7 @@ add-result : tie.Need-overflow-add-result
 add-result c = search rules
 
 returns : tie.Need-returns
-returns c = head-length _ _ c.number-len.ensures
+returns c = head_length _ _ c.number-len.ensures
 
 pub head-len-spec : {M : Type 1} → statement M
 head-len-spec = tie.close (tie.spec number-len-requires mul-result add-result returns)

@@ -1,7 +1,7 @@
 -- Questions 1 to 4 and 18, then the code.
 use mathlib.Core.Path.{sym, ap, ◌∙◌}
-use Rattle.layout.specs.Parts.{foundOutcome}
-use Rattle.layout.proofs.Calls.{genchain-refused, genchain-given}
+use Rattle.layout.specs.Parts.{found_outcome}
+use Rattle.layout.proofs.Calls.{genchain_refused, genchain_given}
 use borrow.Author.Rules.{rules}
 use Rattle.layout.proofs.IsomorphicLayout.genchain.Statement.{statement}
 use Rattle.layout.proofs.IsomorphicLayout.genchain.Tie as tie
@@ -16,10 +16,10 @@ enum-known-found : tie.Need-enum-known-found
 enum-known-found c = search rules
 
 returns : tie.Need-returns
-returns c = genchain-refused _ _ (sym (ap foundOutcome c.before.q.given.1) ∙ c.before.before.before.ask.ensures)
+returns c = genchain_refused _ _ (sym (ap found_outcome c.before.q.given.1) ∙ c.before.before.before.ask.ensures)
 
 returns-2 : tie.Need-returns-2
-returns-2 c = genchain-given _ _ (sym (ap foundOutcome c.before.found.given.1) ∙ c.before.before.before.ask.ensures)
+returns-2 c = genchain_given _ _ (sym (ap found_outcome c.before.found.given.1) ∙ c.before.before.before.ask.ensures)
 
 pub genchain-spec : {M : Type 1} → statement M
 genchain-spec =

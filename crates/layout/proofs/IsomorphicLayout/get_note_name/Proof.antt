@@ -1,12 +1,12 @@
 -- Questions 1 to 4 and 18, then 10, then the name of the key round the octave, along the chain's row.
 use mir.Syntax.{w32}
 use mathlib.Core.Path.{refl, sym, ap, ◌∙◌}
-use Rattle.answer.proofs.Lent.{filled-refused}
+use Rattle.answer.proofs.Lent.{filled_refused}
 use native.Mathlib.Omega.{arith}
-use Rattle.math.proofs.Answers.{remainder-read}
-use Rattle.math.proofs.Division.{remainder-below}
-use Rattle.layout.specs.Parts.{foundOutcome}
-use Rattle.layout.proofs.Calls.{name-refused, parts-of, laid_of, row-found, name-held, filled-as, refused-in-room}
+use Rattle.math.proofs.Answers.{remainder_read}
+use Rattle.math.proofs.Division.{remainder_below}
+use Rattle.layout.specs.Parts.{found_outcome}
+use Rattle.layout.proofs.Calls.{name_refused, parts_of, laid_of, row_found, name_held, filled_as, refused_in_room}
 use borrow.Author.Rules.{rules}
 use Rattle.layout.proofs.IsomorphicLayout.get_note_name.Statement.{statement}
 use Rattle.layout.proofs.IsomorphicLayout.get_note_name.Tie as tie
@@ -25,18 +25,18 @@ enum-known-found c = search rules
 
 rem-u16-requires : tie.Need-rem-u16-requires
 rem-u16-requires c κs =
-    (parts-of _ _ (sym (ap foundOutcome c.before.found.given.1) ∙ c.before.before.before.ask-with-row.ensures)).positive
+    (parts_of _ _ (sym (ap found_outcome c.before.found.given.1) ∙ c.before.before.before.ask-with-row.ensures)).positive
 
 write-name-requires : tie.Need-write-name-requires
 write-name-requires c κs =
-    let e = sym (ap foundOutcome c.before.before.before.found.given.1) ∙ c.before.before.before.before.before.ask-with-row.ensures in
+    let e = sym (ap found_outcome c.before.before.before.found.given.1) ∙ c.before.before.before.before.before.ask-with-row.ensures in
     let start = c.before.before.before.before.before.before.before.before in
     let key = start.args.key in
-    let round = remainder-read w32 key start.ranges.key _ _ c.before.rem-u16.ensures in
-    record { row_is = row-found _ _ e _ c.before.before.before.before.before.before.row.ensures; laid = laid_of _ _ e; below = omega (arith, round, remainder-below key _ (parts-of _ _ e).positive) }
+    let round = remainder_read w32 key start.ranges.key _ _ c.before.rem-u16.ensures in
+    record { row_is = row_found _ _ e _ c.before.before.before.before.before.before.row.ensures; laid = laid_of _ _ e; below = omega (arith, round, remainder_below key _ (parts_of _ _ e).positive) }
 
 returns : tie.Need-returns
-returns c = filled-refused _ _ (refused-in-room _ _ _ (name-refused _ _ (sym (ap foundOutcome c.before.q.given.1) ∙ c.before.before.before.ask-with-row.ensures) _)) refl
+returns c = filled_refused _ _ (refused_in_room _ _ _ (name_refused _ _ (sym (ap found_outcome c.before.q.given.1) ∙ c.before.before.before.ask-with-row.ensures) _)) refl
 
 same_length : tie.Need-same-length
 same_length c = search rules
@@ -45,9 +45,9 @@ returns-2 : tie.Need-returns-2
 returns-2 c =
     let asked = c.before.before.before.before.before.before.before.before in
     let key = asked.before.before.before.args.key in
-    filled-as
-    (name-held _ _ (sym (ap foundOutcome c.before.before.before.before.before.before.found.given.1) ∙ asked.ask-with-row.ensures)
-    key _ (remainder-read w32 key asked.before.before.before.ranges.key _ _ c.before.before.before.before.rem-u16.ensures) _)
+    filled_as
+    (name_held _ _ (sym (ap found_outcome c.before.before.before.before.before.before.found.given.1) ∙ asked.ask-with-row.ensures)
+    key _ (remainder_read w32 key asked.before.before.before.ranges.key _ _ c.before.before.before.before.rem-u16.ensures) _)
     c.before.before.write-name.ensures
 
 pub get-note-name-spec : {M : Type 1} → statement M

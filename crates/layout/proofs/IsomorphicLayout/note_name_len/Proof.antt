@@ -3,10 +3,10 @@ use mir.Syntax.{w32}
 use mathlib.Core.Path.{sym, ap, ◌∙◌}
 use Rattle.answer.specs.Lent.{counted}
 use native.Mathlib.Omega.{arith}
-use Rattle.math.proofs.Answers.{remainder-read}
-use Rattle.math.proofs.Division.{remainder-below}
-use Rattle.layout.specs.Parts.{foundOutcome}
-use Rattle.layout.proofs.Calls.{name-refused, parts-of, laid_of, row-found, name-measured}
+use Rattle.math.proofs.Answers.{remainder_read}
+use Rattle.math.proofs.Division.{remainder_below}
+use Rattle.layout.specs.Parts.{found_outcome}
+use Rattle.layout.proofs.Calls.{name_refused, parts_of, laid_of, row_found, name_measured}
 use borrow.Author.Rules.{rules}
 use Rattle.layout.proofs.IsomorphicLayout.note_name_len.Statement.{statement}
 use Rattle.layout.proofs.IsomorphicLayout.note_name_len.Tie as tie
@@ -25,25 +25,25 @@ enum-known-found c = search rules
 
 rem-u16-requires : tie.Need-rem-u16-requires
 rem-u16-requires c κs =
-    (parts-of _ _ (sym (ap foundOutcome c.before.found.given.1) ∙ c.before.before.before.ask-with-row.ensures)).positive
+    (parts_of _ _ (sym (ap found_outcome c.before.found.given.1) ∙ c.before.before.before.ask-with-row.ensures)).positive
 
 name-length-requires : tie.Need-name-length-requires
 name-length-requires c κs =
-    let e = sym (ap foundOutcome c.before.before.found.given.1) ∙ c.before.before.before.before.ask-with-row.ensures in
+    let e = sym (ap found_outcome c.before.before.found.given.1) ∙ c.before.before.before.before.ask-with-row.ensures in
     let start = c.before.before.before.before.before.before in
     let key = start.args.key in
-    let round = remainder-read w32 key start.ranges.key _ _ c.rem-u16.ensures in
-    record { row_is = row-found _ _ e _ c.before.before.before.before.before.row.ensures; laid = laid_of _ _ e; below = omega (arith, round, remainder-below key _ (parts-of _ _ e).positive) }
+    let round = remainder_read w32 key start.ranges.key _ _ c.rem-u16.ensures in
+    record { row_is = row_found _ _ e _ c.before.before.before.before.before.row.ensures; laid = laid_of _ _ e; below = omega (arith, round, remainder_below key _ (parts_of _ _ e).positive) }
 
 returns : tie.Need-returns
-returns c = ap counted (name-refused _ _ (sym (ap foundOutcome c.before.q.given.1) ∙ c.before.before.before.ask-with-row.ensures) _)
+returns c = ap counted (name_refused _ _ (sym (ap found_outcome c.before.q.given.1) ∙ c.before.before.before.ask-with-row.ensures) _)
 
 returns-2 : tie.Need-returns-2
 returns-2 c =
     let asked = c.before.before.before.before.before in
     let key = asked.before.before.args.key in
-    name-measured _ _ (sym (ap foundOutcome c.before.before.before.found.given.1) ∙ asked.ask-with-row.ensures)
-    key _ (remainder-read w32 key asked.before.before.ranges.key _ _ c.before.rem-u16.ensures) _ c.name-length.ensures
+    name_measured _ _ (sym (ap found_outcome c.before.before.before.found.given.1) ∙ asked.ask-with-row.ensures)
+    key _ (remainder_read w32 key asked.before.before.ranges.key _ _ c.before.rem-u16.ensures) _ c.name-length.ensures
 
 pub note-name-len-spec : {M : Type 1} → statement M
 note-name-len-spec =

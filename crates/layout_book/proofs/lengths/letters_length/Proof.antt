@@ -6,10 +6,10 @@ use native.Mathlib.Omega.{arith}
 use lib.ListN.{length}
 use borrow.Author.Rules.{rules}
 use Rattle.text.specs.Writing.{joined}
-use Rattle.genchain.specs.Chains.{lettersIn}
-use Rattle.genchain.proofs.TableRows.{row-count-small}
-use Rattle.layout_book.specs.Parts.{letterIn}
-use Rattle.layout_book.proofs.LettersRead.{LettersAdded, letters-none, letters-more}
+use Rattle.genchain.specs.Chains.{letters_in}
+use Rattle.genchain.proofs.TableRows.{row_count_small}
+use Rattle.layout_book.specs.Parts.{letter_in}
+use Rattle.layout_book.proofs.LettersRead.{LettersAdded, letters_none, letters_more}
 use Rattle.layout_book.proofs.lengths.letters_length.Statement.{statement}
 use Rattle.layout_book.proofs.lengths.letters_length.Tie as tie
 
@@ -20,7 +20,7 @@ abbrev decreases-loop : tie.decreases-loop
 decreases-loop row letters total₀ index₀ total index = row.num_letters - index
 
 loop-holds : tie.Need-loop-init invariant-loop decreases-loop
-loop-holds c = (letters-none _, omega arith)
+loop-holds c = (letters_none _, omega arith)
 
 cast-letter-length : tie.Need-overflow-cast-letter-length invariant-loop decreases-loop
 cast-letter-length c = search rules
@@ -29,7 +29,7 @@ mul-letter-length : tie.Need-overflow-mul-letter-length invariant-loop decreases
 mul-letter-length c = search rules
 
 array-read-letter-length : tie.Need-array-read-letter-length invariant-loop decreases-loop
-array-read-letter-length c = omega (arith, row-count-small _ c.before.before.before.before.requires, c.if1.true)
+array-read-letter-length c = omega (arith, row_count_small _ c.before.before.before.before.requires, c.if1.true)
 
 letter-length-requires : tie.Need-letter-length-requires invariant-loop decreases-loop
 letter-length-requires c κs = search rules
@@ -46,14 +46,14 @@ loop-less c = search rules
 loop-again : tie.Need-loop-preserved invariant-loop decreases-loop
 loop-again c =
     let l = c.before.before.before in
-    (letters-more _ l.before.before.requires _ _ _ c.before.if1.true c.letter-length.ensures l.loop.invariant.0, omega (arith, c.before.if1.true))
+    (letters_more _ l.before.before.requires _ _ _ c.before.if1.true c.letter-length.ensures l.loop.invariant.0, omega (arith, c.before.if1.true))
 
 returns : tie.Need-returns invariant-loop decreases-loop
 returns c =
     let l = c.before.before in
     let row = l.before.before.args.row in
     let all = le_antisymm l.loop.invariant.1 c.if1.false in
-    (l.loop.invariant.0.is ∙ ap (λ (k : ℕ). length (joined (letterIn (lettersIn row)) k)) all, omega (arith, l.loop.invariant.0.small, row-count-small row l.before.before.requires))
+    (l.loop.invariant.0.is ∙ ap (λ (k : ℕ). length (joined (letter_in (letters_in row)) k)) all, omega (arith, l.loop.invariant.0.small, row_count_small row l.before.before.requires))
 
 pub letters-length-spec : {M : Type 1} → statement M
 letters-length-spec =

@@ -2,33 +2,33 @@
 use Prim.Native.Nat.{◌-◌}
 use native.Mathlib.Omega.{arith}
 use borrow.Author.Rules.{rules}
-use Rattle.math.proofs.Congruence.{mod-room}
-use Rattle.layout.proofs.Readiness.{ready-walkable}
-use Rattle.layout_book.proofs.ReadyNumbers.{Numbers, ready-numbers}
-use Rattle.layout_book.proofs.PlacesAlong.{Adding, first_past, adding-first, sharp-below, flat-below, sharps-fit, flat-left, total-fits, adding-next, all-added}
+use Rattle.math.proofs.Congruence.{mod_room}
+use Rattle.layout.proofs.Readiness.{ready_walkable}
+use Rattle.layout_book.proofs.ReadyNumbers.{Numbers, ready_numbers}
+use Rattle.layout_book.proofs.PlacesAlong.{Adding, first_past, adding_first, sharp_below, flat_below, sharps_fit, flat_left, total_fits, adding_next, all_added}
 use Rattle.layout_book.proofs.lengths.stretch_length.Statement.{statement}
 use Rattle.layout_book.proofs.lengths.stretch_length.Tie as tie
 
 abbrev invariant-loop : tie.invariant-loop
-invariant-loop prepared row sharps end letters cycle place₀ flat sharp-index₀ sharp-count₀ flat-index₀ flat-count₀ total₀ place sharp-index sharp-count flat-index flat-count total =
-    Adding prepared sharps end cycle place sharp-index sharp-count flat-index flat-count total
+invariant-loop prepared row sharps end letters cycle place₀ flat sharp-index₀ sharp-count₀ flat-index₀ flat-count₀ total₀ place sharp_index sharp_count flat_index flat_count total =
+    Adding prepared sharps end cycle place sharp_index sharp_count flat_index flat_count total
 
 abbrev decreases-loop : tie.decreases-loop
-decreases-loop prepared row sharps end letters cycle place₀ flat sharp-index₀ sharp-count₀ flat-index₀ flat-count₀ total₀ place sharp-index sharp-count flat-index flat-count total =
+decreases-loop prepared row sharps end letters cycle place₀ flat sharp-index₀ sharp-count₀ flat-index₀ flat-count₀ total₀ place sharp_index sharp_count flat_index flat_count total =
     end - place
 
 first-cycle-requires : tie.Need-first-cycle-requires invariant-loop decreases-loop
-first-cycle-requires c κs = ready-walkable _ c.requires.1
+first-cycle-requires c κs = ready_walkable _ c.requires.1
 
 mul-place : tie.Need-overflow-mul-place invariant-loop decreases-loop
-mul-place c = let s = c.before in omega (arith, s.requires.2.inside, s.requires.2.end-inside)
+mul-place c = let s = c.before in omega (arith, s.requires.2.inside, s.requires.2.end_inside)
 
 -- what is known of the layout's numbers
 known : (c : tie.After-struct-known invariant-loop decreases-loop) → Numbers c.before.before.args.prepared
-known c = let s = c.before.before in ready-numbers s.args.prepared s.requires.1 (omega (arith, s))
+known c = let s = c.before.before in ready_numbers s.args.prepared s.requires.1 (omega (arith, s))
 
 sub-flat : tie.Need-overflow-sub-flat invariant-loop decreases-loop
-sub-flat c = let s = c.before.before in omega (arith, s.requires.2.inside, s.requires.2.end-inside)
+sub-flat c = let s = c.before.before in omega (arith, s.requires.2.inside, s.requires.2.end_inside)
 
 sub-flat-2 : tie.Need-overflow-sub-flat-2 invariant-loop decreases-loop
 sub-flat-2 c = omega (arith, (known c).five)
@@ -39,8 +39,8 @@ add-flat c =
     omega (
       arith,
       s.requires.2.inside,
-      s.requires.2.end-inside,
-      (known c).few-degrees,
+      s.requires.2.end_inside,
+      (known c).few_degrees,
       first_past s.args.prepared (known c) s.args.sharps s.args.end s.requires.2,
     )
 
@@ -51,7 +51,7 @@ rem-flat-index : tie.Need-nonzero-rem-flat-index invariant-loop decreases-loop
 rem-flat-index c = omega (arith, (known c).five)
 
 sub-flat-index-2 : tie.Need-overflow-sub-flat-index-2 invariant-loop decreases-loop
-sub-flat-index-2 c = mod-room _ _ (omega (arith, (known c).five))
+sub-flat-index-2 c = mod_room _ _ (omega (arith, (known c).five))
 
 div-flat-count : tie.Need-nonzero-div-flat-count invariant-loop decreases-loop
 div-flat-count c = omega (arith, (known c).five)
@@ -59,7 +59,7 @@ div-flat-count c = omega (arith, (known c).five)
 loop-holds : tie.Need-loop-init invariant-loop decreases-loop
 loop-holds c =
     let s = c.before.before in
-    adding-first _ (known c) _ _ s.requires.2 c.before.first-cycle.ensures (omega (arith, s.requires.2.inside, s.requires.2.end-inside, (known c).five))
+    adding_first _ (known c) _ _ s.requires.2 c.before.first-cycle.ensures (omega (arith, s.requires.2.inside, s.requires.2.end_inside, (known c).five))
 
 plan-spelled-requires : tie.Need-plan-spelled-requires invariant-loop decreases-loop
 plan-spelled-requires c κs = let s = c.before.before.before.before in (s.requires.0, s.requires.1)
@@ -71,27 +71,27 @@ plan-length-requires c κs = search rules
 add_total : tie.Need-overflow-add-total invariant-loop decreases-loop
 add_total c =
     let l = c.before.before.before in
-    omega (arith, total-fits l.loop.invariant c.before.before.loop-test.true c.before.plan-spelled.ensures c.plan-length.ensures)
+    omega (arith, total_fits l.loop.invariant c.before.before.loop-test.true c.before.plan-spelled.ensures c.plan-length.ensures)
 
 carry-requires : tie.Need-carry-requires invariant-loop decreases-loop
-carry-requires c κs = sharp-below c.before.before.before.loop.invariant
+carry-requires c κs = sharp_below c.before.before.before.loop.invariant
 
 add-sharp-count : tie.Need-overflow-add-sharp-count invariant-loop decreases-loop
 add-sharp-count c =
-    omega (arith, sharps-fit c.before.before.before.before.loop.invariant c.before.before.before.loop-test.true c.carry.ensures)
+    omega (arith, sharps_fit c.before.before.before.before.loop.invariant c.before.before.before.loop-test.true c.carry.ensures)
 
 next-index-requires : tie.Need-next-index-requires invariant-loop decreases-loop
-next-index-requires c κs = sharp-below c.before.before.before.before.loop.invariant
+next-index-requires c κs = sharp_below c.before.before.before.before.loop.invariant
 
 carry-requires-2 : tie.Need-carry-requires-2 invariant-loop decreases-loop
-carry-requires-2 c κs = flat-below c.before.before.before.before.before.loop.invariant
+carry-requires-2 c κs = flat_below c.before.before.before.before.before.loop.invariant
 
 sub-flat-count : tie.Need-overflow-sub-flat-count invariant-loop decreases-loop
 sub-flat-count c =
-    flat-left c.before.before.before.before.before.before.loop.invariant c.before.before.before.before.before.loop-test.true c.carry2.ensures
+    flat_left c.before.before.before.before.before.before.loop.invariant c.before.before.before.before.before.loop-test.true c.carry2.ensures
 
 next-index-requires-2 : tie.Need-next-index-requires-2 invariant-loop decreases-loop
-next-index-requires-2 c κs = flat-below c.before.before.before.before.before.before.loop.invariant
+next-index-requires-2 c κs = flat_below c.before.before.before.before.before.before.loop.invariant
 
 add-place : tie.Need-overflow-add-place invariant-loop decreases-loop
 add-place c = omega (arith, c.before.before.before.before.before.before.loop-test.true)
@@ -102,11 +102,11 @@ loop-less c = omega (arith, c.before.before.before.before.before.before.loop-tes
 loop-again : tie.Need-loop-preserved invariant-loop decreases-loop
 loop-again c =
     let plan = c.before.before.before.before.before in
-    adding-next plan.before.before.loop.invariant plan.before.loop-test.true plan.plan-spelled.ensures c.before.before.before.before.plan-length.ensures
+    adding_next plan.before.before.loop.invariant plan.before.loop-test.true plan.plan-spelled.ensures c.before.before.before.before.plan-length.ensures
     c.before.before.next-index.ensures c.before.before.before.carry.ensures c.next-index2.ensures c.before.carry2.ensures
 
 returns : tie.Need-returns invariant-loop decreases-loop
-returns c = all-added c.before.loop.invariant c.loop-test.false
+returns c = all_added c.before.loop.invariant c.loop-test.false
 
 pub stretch-length-spec : {M : Type 1} → statement M
 stretch-length-spec =

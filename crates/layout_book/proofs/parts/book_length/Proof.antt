@@ -1,9 +1,9 @@
 -- The count, the pairs and the text.
 use native.Mathlib.Omega.{arith}
-use Rattle.book.proofs.Written.{length-book}
-use Rattle.layout.specs.Names.{listedName}
-use Rattle.layout.specs.Parts.{layoutIn}
-use Rattle.layout_book.specs.LayoutBooks.{bookIn}
+use Rattle.book.proofs.Written.{length_book}
+use Rattle.layout.specs.Names.{listed_name}
+use Rattle.layout.specs.Parts.{layout_in}
+use Rattle.layout_book.specs.LayoutBooks.{book_in}
 use borrow.Author.Rules.{rules}
 use Rattle.layout_book.proofs.parts.book_length.Statement.{statement}
 use Rattle.layout_book.proofs.parts.book_length.Tie as tie
@@ -24,10 +24,10 @@ add-result-2 : tie.Need-overflow-add-result-2
 add-result-2 c = search rules
 
 returns : tie.Need-returns
-unfolding bookIn
+unfolding book_in
 returns c =
     let p = c.before.before.args.prepared in
-    omega (arith, c.names-length.ensures.length-is, length-book (listedName (layoutIn p)) p.found.octave)
+    omega (arith, c.names_length.ensures.length_is, length_book (listed_name (layout_in p)) p.found.octave)
 
 pub book-length-spec : {M : Type 1} → statement M
 book-length-spec =

@@ -1,10 +1,10 @@
 -- The count, then the pairs and the names.
 use native.Mathlib.Omega.{arith}
 use Rattle.text.specs.LittleEndian.{le32}
-use Rattle.text.proofs.Writing.{then, wrote_as, wrote-length}
-use Rattle.text.proofs.FourBytes.{length-le32}
-use Rattle.layout.specs.Parts.{layoutIn}
-use Rattle.layout_book.proofs.BookCalls.{book-whole, length_whole}
+use Rattle.text.proofs.Writing.{then, wrote_as, wrote_length}
+use Rattle.text.proofs.FourBytes.{length_le32}
+use Rattle.layout.specs.Parts.{layout_in}
+use Rattle.layout_book.proofs.BookCalls.{book_whole, length_whole}
 use borrow.Author.Rules.{rules}
 use Rattle.layout_book.proofs.parts.put_book.Statement.{statement}
 use Rattle.layout_book.proofs.parts.put_book.Tie as tie
@@ -15,13 +15,13 @@ cast-put-u32 c = search rules
 put-u32-requires : tie.Need-put-u32-requires
 put-u32-requires c κs =
     let s = c.before.before.before in
-    simp length-le32 (omega (arith, s.requires.2, length_whole (layoutIn s.args.prepared)))
+    simp length_le32 (omega (arith, s.requires.2, length_whole (layout_in s.args.prepared)))
 
 put-entries-requires : tie.Need-put-entries-requires
 put-entries-requires c κs =
     let put = c.before.before.before in
     let s = put.before.before.before.before in
-    (s.requires.0, s.requires.1, omega (arith, s.requires.2, length_whole (layoutIn s.args.prepared), wrote-length put.put-u32.ensures))
+    (s.requires.0, s.requires.1, omega (arith, s.requires.2, length_whole (layout_in s.args.prepared), wrote_length put.put-u32.ensures))
 
 same_length : tie.Need-same-length
 same_length c = search rules
@@ -30,9 +30,9 @@ returns : tie.Need-returns
 returns c =
     let entries = c.before.before in
     let put = entries.before.before.before.before in
-    let l = layoutIn put.before.before.before.before.args.prepared in
-    wrote_as (book-whole l)
-    (then {t = le32 l.octave} (record { content = put.put-u32.ensures.content; end = omega (arith, length-le32 l.octave) }) entries.put_entries.ensures)
+    let l = layout_in put.before.before.before.before.args.prepared in
+    wrote_as (book_whole l)
+    (then {t = le32 l.octave} (record { content = put.put-u32.ensures.content; end = omega (arith, length_le32 l.octave) }) entries.put_entries.ensures)
 
 pub put-book-spec : {M : Type 1} → statement M
 put-book-spec =

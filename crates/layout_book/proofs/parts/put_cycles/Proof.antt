@@ -6,20 +6,20 @@ use mathlib.Core.Path.{subst}
 use mathlib.Core.List.{List}
 use borrow.Author.Rules.{rules}
 use Rattle.text.specs.Writing.{joined}
-use Rattle.text.proofs.Joined.{length-joined-more, length-joined-le}
-use Rattle.text.proofs.Writing.{wrote_as, wrote-length}
+use Rattle.text.proofs.Joined.{length_joined_more, length_joined_le}
+use Rattle.text.proofs.Writing.{wrote_as, wrote_length}
 use Rattle.notes.specs.declared.plans.NamePlan.{NamePlan}
-use Rattle.notes.specs.Parts.{starredText}
-use Rattle.layout_book.specs.Parts.{starredPair, Beside}
-use Rattle.layout_book.proofs.Due.{length-numbers, length-starred-pairs, numbers-starred}
-use Rattle.layout_book.proofs.SideBySide.{beside-start, beside-room, beside-more, beside-length}
+use Rattle.notes.specs.Parts.{starred_text}
+use Rattle.layout_book.specs.Parts.{starred_pair, Beside}
+use Rattle.layout_book.proofs.Due.{length_numbers, length_starred_pairs, numbers_starred}
+use Rattle.layout_book.proofs.SideBySide.{beside_start, beside_room, beside_more, beside_length}
 use Rattle.layout_book.proofs.parts.put_cycles.Statement.{statement}
 use Rattle.layout_book.proofs.parts.put_cycles.Tie as tie
 
 -- the first k pairs and names
 abbrev Written : NamePlan → ℕ → ℕ → List ℕ → ℕ → List ℕ → ℕ → ℕ → Type 0
 Written plan pair text before k after front behind =
-    Beside before pair (joined (starredPair plan text) k) text (joined (starredText plan) k) after front behind
+    Beside before pair (joined (starred_pair plan text) k) text (joined (starred_text plan) k) after front behind
 
 abbrev invariant-loop : tie.invariant-loop
 invariant-loop out₀ plan cycles pair text front₀ behind₀ cycle₀ out front behind cycle =
@@ -29,14 +29,14 @@ abbrev decreases-loop : tie.decreases-loop
 decreases-loop out₀ plan cycles pair text front₀ behind₀ cycle₀ out front behind cycle = cycles - cycle
 
 loop-holds : tie.Need-loop-init invariant-loop decreases-loop
-loop-holds c = (beside-start _ _ _ _ _, omega arith)
+loop-holds c = (beside_start _ _ _ _ _, omega arith)
 
 put-starred-requires : tie.Need-put-starred-requires invariant-loop decreases-loop
 put-starred-requires c κs =
     let l = c.before.before in
     let s = l.before.before in (
       s.requires.0,
-      beside-room (starredPair s.args.plan s.args.text) (starredText s.args.plan) s.args.out.now s.args.pair s.args.text l.loop.cycle l.loop.invariant.0 s.args.cycles c.before.loop-test.true s.requires.1.room,
+      beside_room (starred_pair s.args.plan s.args.text) (starred_text s.args.plan) s.args.out.now s.args.pair s.args.text l.loop.cycle l.loop.invariant.0 s.args.cycles c.before.loop-test.true s.requires.1.room,
     )
 
 -- behind the next name there is still room
@@ -44,7 +44,7 @@ cast-put-pair : tie.Need-overflow-cast-put-pair invariant-loop decreases-loop
 cast-put-pair c =
     let l = c.before.before.before.before.before.before in
     let s = l.before.before in
-    omega (arith, l.loop.invariant.0.second.end, length-joined-le (starredText s.args.plan) l.loop.cycle s.args.cycles l.loop.invariant.1, s.requires.1.small)
+    omega (arith, l.loop.invariant.0.second.end, length_joined_le (starred_text s.args.plan) l.loop.cycle s.args.cycles l.loop.invariant.1, s.requires.1.small)
 
 sub-put-pair : tie.Need-overflow-sub-put-pair invariant-loop decreases-loop
 sub-put-pair c = omega (arith, c.before.before.before.put-starred.ensures.end)
@@ -56,8 +56,8 @@ cast-put-pair-2 c =
     omega (
       arith,
       c.before.before.before.put-starred.ensures.end,
-      length-joined-more (starredText s.args.plan) l.loop.cycle,
-      length-joined-le (starredText s.args.plan) (l.loop.cycle + 1) s.args.cycles (omega (arith, c.before.before.before.before.before.loop-test.true)),
+      length_joined_more (starred_text s.args.plan) l.loop.cycle,
+      length_joined_le (starred_text s.args.plan) (l.loop.cycle + 1) s.args.cycles (omega (arith, c.before.before.before.before.before.loop-test.true)),
       s.requires.1.small,
     )
 
@@ -67,14 +67,14 @@ put-pair-requires c κs =
     let s = l.before.before in
     omega (
       arith,
-      length-numbers l.loop.behind (c.before.before.before.put-starred.result - l.loop.behind),
+      length_numbers l.loop.behind (c.before.before.before.put-starred.result - l.loop.behind),
       l.loop.invariant.0.first.end,
-      length-starred-pairs s.args.plan s.args.text l.loop.cycle,
+      length_starred_pairs s.args.plan s.args.text l.loop.cycle,
       c.before.before.before.before.before.loop-test.true,
       s.requires.1.apart,
       s.requires.1.room,
-      beside-length l.loop.invariant.0,
-      wrote-length c.before.before.before.put-starred.ensures,
+      beside_length l.loop.invariant.0,
+      wrote_length c.before.before.before.put-starred.ensures,
     )
 
 add-cycle : tie.Need-overflow-add-cycle invariant-loop decreases-loop
@@ -91,14 +91,14 @@ loop-again c =
     let plan = s.args.plan in
     let text = s.args.text in
     let more = c.before.before.before.before.before.before.before.before.loop-test.true in
-    let v = wrote_as (numbers-starred plan text l.loop.cycle l.loop.behind _ l.loop.invariant.0.second.end w.end) c.before.before.put-pair.ensures in (
-      beside-more (starredPair plan text) (starredText plan) _ s.args.pair text l.loop.cycle l.loop.invariant.0 w v
-          (omega (arith, l.loop.invariant.0.first.end, length-joined-more (starredPair plan text) l.loop.cycle, length-starred-pairs plan text l.loop.cycle, length-starred-pairs plan text (l.loop.cycle + 1), more, s.requires.1.apart)),
+    let v = wrote_as (numbers_starred plan text l.loop.cycle l.loop.behind _ l.loop.invariant.0.second.end w.end) c.before.before.put-pair.ensures in (
+      beside_more (starred_pair plan text) (starred_text plan) _ s.args.pair text l.loop.cycle l.loop.invariant.0 w v
+          (omega (arith, l.loop.invariant.0.first.end, length_joined_more (starred_pair plan text) l.loop.cycle, length_starred_pairs plan text l.loop.cycle, length_starred_pairs plan text (l.loop.cycle + 1), more, s.requires.1.apart)),
       omega (arith, more),
     )
 
 same_length : tie.Need-same-length invariant-loop decreases-loop
-same_length c = beside-length c.before.loop.invariant.0
+same_length c = beside_length c.before.loop.invariant.0
 
 returns : tie.Need-returns invariant-loop decreases-loop
 returns c =
@@ -106,7 +106,7 @@ returns c =
     let s = l.before.before in
     let all = subst (λ (k : ℕ). Written s.args.plan s.args.pair s.args.text s.args.out.now k l.loop.out l.loop.front l.loop.behind) (le_antisymm l.loop.invariant.1 c.loop-test.false) l.loop.invariant.0 in
     subst (λ (k : ℕ). Written s.args.plan s.args.pair s.args.text s.args.out.now s.args.cycles l.loop.out k l.loop.behind)
-    (omega (arith, all.first.end, length-starred-pairs s.args.plan s.args.text s.args.cycles)) all
+    (omega (arith, all.first.end, length_starred_pairs s.args.plan s.args.text s.args.cycles)) all
 
 pub put-cycles-spec : {M : Type 1} → statement M
 put-cycles-spec =

@@ -3,10 +3,10 @@ use mathlib.Core.Path.{refl, ap}
 use native.Mathlib.Omega.{arith}
 use lib.ListN.{length}
 use Rattle.answer.specs.Outcome.{given}
-use Rattle.answer.proofs.Lent.{held, not-held, filled-refused}
-use Rattle.text.proofs.Writing.{filled-given}
-use Rattle.layout.specs.Parts.{layoutIn}
-use Rattle.layout_book.specs.LayoutBooks.{bookIn}
+use Rattle.answer.proofs.Lent.{held, not_held, filled_refused}
+use Rattle.text.proofs.Writing.{filled_given}
+use Rattle.layout.specs.Parts.{layout_in}
+use Rattle.layout_book.specs.LayoutBooks.{book_in}
 use borrow.Author.Rules.{rules}
 use Rattle.layout_book.proofs.parts.write_names.Statement.{statement}
 use Rattle.layout_book.proofs.parts.write_names.Tie as tie
@@ -17,7 +17,7 @@ book-length-requires c κs = search rules
 returns : tie.Need-returns
 returns c =
     let s = c.before.before.before in
-    filled-refused 10 _ (not-held (length s.args.out.now) (bookIn (layoutIn s.args.prepared)) (omega (arith, c.before.book-length.ensures))) refl
+    filled_refused 10 _ (not_held (length s.args.out.now) (book_in (layout_in s.args.prepared)) (omega (arith, c.before.book-length.ensures))) refl
 
 put-book-requires : tie.Need-put-book-requires
 put-book-requires c κs = search rules
@@ -29,7 +29,7 @@ returns-2 : tie.Need-returns-2
 returns-2 c =
     let b = c.before.before.before.before.before in
     let s = b.before.before in
-    filled-given (held (length s.args.out.now) (bookIn (layoutIn s.args.prepared)) (omega (arith, b.book-length.ensures)))
+    filled_given (held (length s.args.out.now) (book_in (layout_in s.args.prepared)) (omega (arith, b.book-length.ensures)))
     (ap given b.book-length.ensures) (omega (arith, b.book-length.ensures)) c.before.before.put-book.ensures
 
 pub write-names-spec : {M : Type 1} → statement M

@@ -1,12 +1,12 @@
 -- The sides of both places, and what follows from them.
 use Rattle.layout.proofs.Finding.{laid}
-use Rattle.layout_explaining.proofs.Numbers.{cycles-some, round-some, explanation-is}
+use Rattle.layout_explaining.proofs.Numbers.{cycles_some, round_some, explanation_is}
 use borrow.Author.Rules.{rules}
 use Rattle.layout_explaining.proofs.counting.explanation.Statement.{statement}
 use Rattle.layout_explaining.proofs.counting.explanation.Tie as tie
 
 div-reduced-period : tie.Need-nonzero-div-reduced-period
-div-reduced-period c = cycles-some _ c.before.requires.0 _ c.before.requires.1
+div-reduced-period c = cycles_some _ c.before.requires.0 _ c.before.requires.1
 
 sides-in-requires : tie.Need-sides-in-requires
 sides-in-requires c κs = search rules
@@ -26,7 +26,7 @@ standing-requires-2 c κs = search rules
 verdict-requires : tie.Need-verdict-requires
 verdict-requires c κs =
     let s = c.before.before.before.before.before.before in
-    round-some _ s.requires.0 _ s.requires.1
+    round_some _ s.requires.0 _ s.requires.1
 
 returns : tie.Need-returns
 returns c =
@@ -37,7 +37,7 @@ returns c =
     let t = d.before in
     let o = t.before in
     let s = o.before.before in
-    explanation-is _ _ _ _ _ o.sides-in.ensures t.sides-in2.ensures _ s.requires.1 _ _ _ _ a.standing.ensures b.standing2.ensures d.between.ensures v.verdict.ensures
+    explanation_is _ _ _ _ _ o.sides-in.ensures t.sides-in2.ensures _ s.requires.1 _ _ _ _ a.standing.ensures b.standing2.ensures d.between.ensures v.verdict.ensures
 
 pub explanation-spec : {M : Type 1} → statement M
 explanation-spec =

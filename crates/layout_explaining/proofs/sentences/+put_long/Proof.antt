@@ -3,8 +3,8 @@ use Prim.Native.Nat.{ℕ, ◌/◌, ◌≤◌, ◌<◌}
 use mathlib.Core.Path.{◌∙◌, subst}
 use native.Mathlib.Omega.{arith}
 use borrow.Author.Rules.{rules}
-use Rattle.text.proofs.Writing.{wrote-length}
-use Rattle.text.proofs.Digits.{length_more, room-last, wrote-digits}
+use Rattle.text.proofs.Writing.{wrote_length}
+use Rattle.text.proofs.Digits.{length_more, room_last, wrote_digits}
 use borrow.Fn.Kinds.{In}
 use borrow.Fn.PlainCycle.{Measures, is, falls, and}
 use Rattle.layout_explaining.proofs.sentences.put_long.Reads as put-long
@@ -43,7 +43,7 @@ put-long-put-number-requires : (t : ℕ) → put-long-lts.Need-put-number-requir
 put-long-put-number-requires t c κs = c.before.before.before.requires.1
 
 put-long-same-length : (t : ℕ) → put-long-lts.Need-same-length (calls t) (put-long-at t) put-long.Post
-put-long-same-length t c = wrote-length c.before.before.put-number.ensures
+put-long-same-length t c = wrote_length c.before.before.put-number.ensures
 
 put-long-returns : (t : ℕ) → put-long-lts.Need-returns (calls t) (put-long-at t) put-long.Post
 put-long-returns t c = c.before.before.put-number.ensures
@@ -67,18 +67,18 @@ put-long-put-byte-requires t c κs =
     let r1 = c.before.before.before in
     let i = r1.before.before in
     let s = i.before.before in
-    room-last (omega (arith, i.if1.false)) r1.put-long.ensures s.requires.1
+    room_last (omega (arith, i.if1.false)) r1.put-long.ensures s.requires.1
 
 put-long-same-length-2 : (t : ℕ) → put-long-lts.Need-same-length-2 (calls t) (put-long-at t) put-long.Post
 put-long-same-length-2 t c =
     let r2 = c.before.before in
-    wrote-length r2.put_byte.ensures ∙ wrote-length r2.before.before.before.before.put-long.ensures
+    wrote_length r2.put_byte.ensures ∙ wrote_length r2.before.before.before.before.put-long.ensures
 
 put-long-returns-2 : (t : ℕ) → put-long-lts.Need-returns-2 (calls t) (put-long-at t) put-long.Post
 put-long-returns-2 t c =
     let r2 = c.before.before in
     let r1 = r2.before.before.before.before in
-    wrote-digits (omega (arith, r1.before.before.if1.false)) r1.put-long.ensures r2.put_byte.ensures
+    wrote_digits (omega (arith, r1.before.before.if1.false)) r1.put-long.ensures r2.put_byte.ensures
 
 pub +put-long-spec : {M : Type 1} → statement M
 +put-long-spec = close μ-put-long λ t. put-long-lts.spec (calls t)

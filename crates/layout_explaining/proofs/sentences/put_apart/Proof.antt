@@ -1,7 +1,7 @@
 -- A number with its words.
 use native.Mathlib.Omega.{arith}
 use Rattle.text.proofs.Writing.{then}
-use Rattle.layout_explaining.specs.Sentences.{apartText}
+use Rattle.layout_explaining.specs.Sentences.{apart_text}
 use borrow.Author.Rules.{rules}
 use Rattle.layout_explaining.proofs.sentences.put_apart.Statement.{statement}
 use Rattle.layout_explaining.proofs.sentences.put_apart.Tie as tie
@@ -45,7 +45,7 @@ same_length : tie.Need-same-length
 same_length c = search rules
 
 returns : tie.Need-returns
-unfolding apartText
+unfolding apart_text
 returns c =
     let r4 = c.before.before in
     let r3 = r4.before.before.before.before.before in

@@ -1,7 +1,7 @@
 -- The sentence's parts, one after the other.
 use native.Mathlib.Omega.{arith}
 use Rattle.text.proofs.Writing.{then}
-use Rattle.layout_explaining.specs.Sentences.{homeText}
+use Rattle.layout_explaining.specs.Sentences.{home_text}
 use borrow.Author.Rules.{rules}
 use Rattle.layout_explaining.proofs.sentences.put_home.Statement.{statement}
 use Rattle.layout_explaining.proofs.sentences.put_home.Tie as tie
@@ -42,7 +42,7 @@ same_length : tie.Need-same-length
 same_length c = search rules
 
 returns : tie.Need-returns
-unfolding homeText
+unfolding home_text
 returns c =
     let r4 = c.before.before in
     let r3 = r4.before.before.before.before in

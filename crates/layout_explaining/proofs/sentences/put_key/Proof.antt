@@ -1,7 +1,7 @@
 -- Two numbers with their words, and the end.
 use native.Mathlib.Omega.{arith}
 use Rattle.text.proofs.Writing.{then}
-use Rattle.layout_explaining.specs.Sentences.{keyText}
+use Rattle.layout_explaining.specs.Sentences.{key_text}
 use borrow.Author.Rules.{rules}
 use Rattle.layout_explaining.proofs.sentences.put_key.Statement.{statement}
 use Rattle.layout_explaining.proofs.sentences.put_key.Tie as tie
@@ -37,7 +37,7 @@ same_length : tie.Need-same-length
 same_length c = search rules
 
 returns : tie.Need-returns
-unfolding keyText
+unfolding key_text
 returns c =
     let r3 = c.before.before in
     let r2 = r3.before.before.before.before.before in

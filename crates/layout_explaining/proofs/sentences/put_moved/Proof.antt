@@ -1,7 +1,7 @@
 -- The sentence's parts, one after the other.
 use native.Mathlib.Omega.{arith}
 use Rattle.text.proofs.Writing.{then}
-use Rattle.layout_explaining.specs.Sentences.{movedText}
+use Rattle.layout_explaining.specs.Sentences.{moved_text}
 use borrow.Author.Rules.{rules}
 use Rattle.layout_explaining.proofs.sentences.put_moved.Statement.{statement}
 use Rattle.layout_explaining.proofs.sentences.put_moved.Tie as tie
@@ -48,7 +48,7 @@ same_length : tie.Need-same-length
 same_length c = search rules
 
 returns : tie.Need-returns
-unfolding movedText
+unfolding moved_text
 returns c =
     let r5 = c.before.before in
     let r4 = r5.before.before.before.before in

@@ -1,7 +1,7 @@
 -- One place, or the distance and how often the chain comes round.
 use native.Mathlib.Omega.{arith}
 use Rattle.text.proofs.Writing.{then, wrote_as}
-use Rattle.layout_explaining.proofs.Wording.{one_place, round-apart}
+use Rattle.layout_explaining.proofs.Wording.{one_place, round_apart}
 use borrow.Author.Rules.{rules}
 use Rattle.layout_explaining.proofs.sentences.put_one_key.Statement.{statement}
 use Rattle.layout_explaining.proofs.sentences.put_one_key.Tie as tie
@@ -49,7 +49,7 @@ returns-2 c =
     let r3 = c.before.before in
     let r2 = r3.before.before.before.before.before in
     let r1 = r2.before.before.before.before in (
-      wrote_as (round-apart _ _ r1.before.before.if1.false)
+      wrote_as (round_apart _ _ r1.before.before.if1.false)
           (then (then r1.put-apart.ensures.0 r2.put-round.ensures.0) r3.put-text2.ensures),
       omega (arith, r1.put-apart.ensures.1, r2.put-round.ensures.1, r3.put-text2.ensures.end),
     )

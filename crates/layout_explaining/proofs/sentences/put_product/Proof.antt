@@ -1,7 +1,7 @@
 -- So many generators, the way, and the stars.
 use native.Mathlib.Omega.{arith}
 use Rattle.text.proofs.Writing.{then}
-use Rattle.layout_explaining.specs.Sentences.{productText}
+use Rattle.layout_explaining.specs.Sentences.{product_text}
 use borrow.Author.Rules.{rules}
 use Rattle.layout_explaining.proofs.sentences.put_product.Statement.{statement}
 use Rattle.layout_explaining.proofs.sentences.put_product.Tie as tie
@@ -54,7 +54,7 @@ same_length : tie.Need-same-length
 same_length c = search rules
 
 returns : tie.Need-returns
-unfolding productText
+unfolding product_text
 returns c =
     let r5 = c.before.before in
     let r4 = r5.before.before.before.before in

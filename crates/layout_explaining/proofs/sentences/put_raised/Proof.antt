@@ -1,13 +1,13 @@
 -- Nothing, or a number with its words.
 use native.Mathlib.Omega.{arith}
 use Rattle.text.proofs.Writing.{then, wrote_as, wrote_none}
-use Rattle.layout_explaining.proofs.Wording.{not-raised, raised}
+use Rattle.layout_explaining.proofs.Wording.{not_raised, raised}
 use borrow.Author.Rules.{rules}
 use Rattle.layout_explaining.proofs.sentences.put_raised.Statement.{statement}
 use Rattle.layout_explaining.proofs.sentences.put_raised.Tie as tie
 
 returns : tie.Need-returns
-returns c = (wrote_as (not-raised _ c.if1.true) (wrote_none _ _), omega arith)
+returns c = (wrote_as (not_raised _ c.if1.true) (wrote_none _ _), omega arith)
 
 slice-aggregate-put-numbered : tie.Need-slice-aggregate-put-numbered
 slice-aggregate-put-numbered c = search rules

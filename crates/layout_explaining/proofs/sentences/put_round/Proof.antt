@@ -1,7 +1,7 @@
 -- Once round, or more often.
 use native.Mathlib.Omega.{arith}
 use Rattle.text.proofs.Writing.{wrote_as}
-use Rattle.layout_explaining.proofs.Wording.{round-often, round-once}
+use Rattle.layout_explaining.proofs.Wording.{round_often, round_once}
 use borrow.Author.Rules.{rules}
 use Rattle.layout_explaining.proofs.sentences.put_round.Statement.{statement}
 use Rattle.layout_explaining.proofs.sentences.put_round.Tie as tie
@@ -15,7 +15,7 @@ same_length c = search rules
 returns : tie.Need-returns
 returns c =
     let r1 = c.before.before in
-    (wrote_as (round-often _ _ r1.before.before.if1.true) r1.put-times.ensures.0, r1.put-times.ensures.1)
+    (wrote_as (round_often _ _ r1.before.before.if1.true) r1.put-times.ensures.0, r1.put-times.ensures.1)
 
 slice-aggregate-put-numbered : tie.Need-slice-aggregate-put-numbered
 slice-aggregate-put-numbered c = search rules
@@ -29,7 +29,7 @@ same-length-2 c = search rules
 returns-2 : tie.Need-returns-2
 returns-2 c =
     let r1 = c.before.before in (
-      wrote_as (round-once _ _ r1.before.before.before.if1.false) r1.put-numbered.ensures.0,
+      wrote_as (round_once _ _ r1.before.before.before.if1.false) r1.put-numbered.ensures.0,
       omega (arith, r1.put-numbered.ensures.1),
     )
 

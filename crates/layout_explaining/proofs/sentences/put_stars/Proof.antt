@@ -1,13 +1,13 @@
 -- Nothing, or a number with its words.
 use native.Mathlib.Omega.{arith}
 use Rattle.text.proofs.Writing.{then, wrote_as, wrote_none}
-use Rattle.layout_explaining.proofs.Wording.{no-stars, some-stars}
+use Rattle.layout_explaining.proofs.Wording.{no_stars, some_stars}
 use borrow.Author.Rules.{rules}
 use Rattle.layout_explaining.proofs.sentences.put_stars.Statement.{statement}
 use Rattle.layout_explaining.proofs.sentences.put_stars.Tie as tie
 
 returns : tie.Need-returns
-returns c = (wrote_as (no-stars _ c.if1.true) (wrote_none _ _), omega arith)
+returns c = (wrote_as (no_stars _ c.if1.true) (wrote_none _ _), omega arith)
 
 slice-aggregate-put-numbered : tie.Need-slice-aggregate-put-numbered
 slice-aggregate-put-numbered c = search rules
@@ -39,7 +39,7 @@ returns-2 c =
     let r3 = c.before.before in
     let r2 = r3.before.before.before.before in
     let r1 = r2.before.before.before.before.before in (
-      wrote_as (some-stars _ r1.before.before.before.if1.false)
+      wrote_as (some_stars _ r1.before.before.before.if1.false)
           (then (then r1.put-numbered.ensures.0 r2.put-text.ensures) r3.put-plural.ensures.0),
       omega (arith, r1.put-numbered.ensures.1, r2.put-text.ensures.end, r3.put-plural.ensures.1),
     )

@@ -1,7 +1,7 @@
 -- The distance, and after how many places the chain comes round.
 use native.Mathlib.Omega.{arith}
 use Rattle.text.proofs.Writing.{then}
-use Rattle.layout_explaining.specs.Sentences.{verdictText}
+use Rattle.layout_explaining.specs.Sentences.{verdict_text}
 use borrow.Author.Rules.{rules}
 use Rattle.layout_explaining.proofs.sentences.put_two_keys.Statement.{statement}
 use Rattle.layout_explaining.proofs.sentences.put_two_keys.Tie as tie
@@ -34,7 +34,7 @@ same_length : tie.Need-same-length
 same_length c = search rules
 
 returns : tie.Need-returns
-unfolding verdictText
+unfolding verdict_text
 returns c =
     let r3 = c.before.before in
     let r2 = r3.before.before.before.before.before in

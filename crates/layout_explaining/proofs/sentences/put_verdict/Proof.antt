@@ -1,8 +1,8 @@
 -- A sentence for each verdict.
 use native.Mathlib.Omega.{arith}
 use Rattle.text.proofs.Writing.{wrote_as}
-use Rattle.layout_explaining.proofs.Wording.{verdict-as}
-use Rattle.layout_explaining.specs.Sentences.{verdictText}
+use Rattle.layout_explaining.proofs.Wording.{verdict_as}
+use Rattle.layout_explaining.specs.Sentences.{verdict_text}
 use borrow.Author.Rules.{rules}
 use Rattle.layout_explaining.proofs.sentences.put_verdict.Statement.{statement}
 use Rattle.layout_explaining.proofs.sentences.put_verdict.Tie as tie
@@ -34,7 +34,7 @@ same_length c = search rules
 returns : tie.Need-returns
 returns c =
     let r1 = c.before.before in
-    (wrote_as (verdict-as _ _ _ _ r1.before.before.enum_told.given.1) r1.put-one-key.ensures.0, r1.put-one-key.ensures.1)
+    (wrote_as (verdict_as _ _ _ _ r1.before.before.enum_told.given.1) r1.put-one-key.ensures.0, r1.put-one-key.ensures.1)
 
 same-length-2 : tie.Need-same-length-2
 same-length-2 c = search rules
@@ -42,16 +42,16 @@ same-length-2 c = search rules
 returns-2 : tie.Need-returns-2
 returns-2 c =
     let r1 = c.before.before in
-    (wrote_as (verdict-as _ _ _ _ r1.before.before.enum-told2.given.1) r1.put-two-keys.ensures.0, r1.put-two-keys.ensures.1)
+    (wrote_as (verdict_as _ _ _ _ r1.before.before.enum-told2.given.1) r1.put-two-keys.ensures.0, r1.put-two-keys.ensures.1)
 
 same-length-3 : tie.Need-same-length-3
 same-length-3 c = search rules
 
 returns-3 : tie.Need-returns-3
-unfolding verdictText
+unfolding verdict_text
 returns-3 c =
     let r1 = c.before.before in (
-      wrote_as (verdict-as _ _ _ _ r1.before.before.before.enum-told3.given.1) r1.put-text.ensures,
+      wrote_as (verdict_as _ _ _ _ r1.before.before.before.enum-told3.given.1) r1.put-text.ensures,
       omega (arith, r1.put-text.ensures.end),
     )
 

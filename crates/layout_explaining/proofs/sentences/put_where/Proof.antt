@@ -1,8 +1,8 @@
 -- Places, the way, and the letter of key 0.
 use native.Mathlib.Omega.{arith}
 use Rattle.text.proofs.Writing.{then}
-use Rattle.layout_explaining.proofs.Wording.{letter-short}
-use Rattle.layout_explaining.specs.Sentences.{whereText}
+use Rattle.layout_explaining.proofs.Wording.{letter_short}
+use Rattle.layout_explaining.specs.Sentences.{where_text}
 use borrow.Author.Rules.{rules}
 use Rattle.layout_explaining.proofs.sentences.put_where.Statement.{statement}
 use Rattle.layout_explaining.proofs.sentences.put_where.Tie as tie
@@ -59,13 +59,13 @@ put-letter-requires c κs =
     let r2 = r3.before.before.before.before in
     let r1 = r2.before.before.before.before.before in
     let s = r1.before.before.before.before in
-    (s.requires.0, omega (arith, s.requires.1, r1.put-numbered.ensures.1, r2.put-text.ensures.end, r3.put-plural.ensures.1, r4.put-way.ensures.1, r5.put-text2.ensures.end, letter-short s.args.letter))
+    (s.requires.0, omega (arith, s.requires.1, r1.put-numbered.ensures.1, r2.put-text.ensures.end, r3.put-plural.ensures.1, r4.put-way.ensures.1, r5.put-text2.ensures.end, letter_short s.args.letter))
 
 same_length : tie.Need-same-length
 same_length c = search rules
 
 returns : tie.Need-returns
-unfolding whereText
+unfolding where_text
 returns c =
     let r6 = c.before.before in
     let r5 = r6.before.before.before.before in
@@ -74,7 +74,7 @@ returns c =
     let r2 = r3.before.before.before.before in
     let r1 = r2.before.before.before.before.before in
     let s = r1.before.before.before.before in
-    ((then (then (then (then (then r1.put-numbered.ensures.0 r2.put-text.ensures) r3.put-plural.ensures.0) r4.put-way.ensures.0) r5.put-text2.ensures) r6.put-letter.ensures), omega (arith, r1.put-numbered.ensures.1, r2.put-text.ensures.end, r3.put-plural.ensures.1, r4.put-way.ensures.1, r5.put-text2.ensures.end, r6.put-letter.ensures.end, letter-short s.args.letter))
+    ((then (then (then (then (then r1.put-numbered.ensures.0 r2.put-text.ensures) r3.put-plural.ensures.0) r4.put-way.ensures.0) r5.put-text2.ensures) r6.put-letter.ensures), omega (arith, r1.put-numbered.ensures.1, r2.put-text.ensures.end, r3.put-plural.ensures.1, r4.put-way.ensures.1, r5.put-text2.ensures.end, r6.put-letter.ensures.end, letter_short s.args.letter))
 
 pub put-where-spec : {M : Type 1} → statement M
 put-where-spec =

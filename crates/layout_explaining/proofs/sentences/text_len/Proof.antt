@@ -2,8 +2,8 @@
 use mathlib.Core.Path.{◌∙◌}
 use native.Mathlib.Nat.{zero-add}
 use native.Mathlib.Omega.{arith}
-use Rattle.notes.specs.Names.{letterText}
-use Rattle.layout_explaining.proofs.Wording.{length-in-parts}
+use Rattle.notes.specs.Names.{letter_text}
+use Rattle.layout_explaining.proofs.Wording.{length_in_parts}
 use borrow.Author.Rules.{rules}
 use Rattle.layout_explaining.proofs.sentences.text_len.Statement.{statement}
 use Rattle.layout_explaining.proofs.sentences.text_len.Tie as tie
@@ -34,7 +34,7 @@ returns c =
     let q = c.before in
     let p = c.before.before.before.before in
     let s = c.before.before.before.before.before.before.before.before.before in (
-      length-in-parts (letterText s.args.letter) s.args.generator s.args.octave s.args.first.now s.args.second.now s.args.explanation _ _
+      length_in_parts (letter_text s.args.letter) s.args.generator s.args.octave s.args.first.now s.args.second.now s.args.explanation _ _
           (p.put-standing.ensures.0.end ∙ zero-add _) (q.put_rest.ensures.0.end ∙ zero-add _),
       record {
         beside = omega (arith, p.put-standing.ensures.1, q.put_rest.ensures.1);

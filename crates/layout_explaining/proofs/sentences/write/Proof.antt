@@ -5,11 +5,11 @@ use native.Mathlib.Omega.{arith}
 use lib.ListN.{length}
 use lib.Seq.{length-take-le}
 use Rattle.answer.specs.Outcome.{given}
-use Rattle.answer.proofs.Lent.{held, not-held, filled-refused}
-use Rattle.text.proofs.Writing.{filled-given}
-use Rattle.notes.specs.Names.{letterText}
+use Rattle.answer.proofs.Lent.{held, not_held, filled_refused}
+use Rattle.text.proofs.Writing.{filled_given}
+use Rattle.notes.specs.Names.{letter_text}
 use Rattle.layout_explaining.specs.Sentences.{sentences}
-use Rattle.layout_explaining.proofs.Wording.{length-in-parts, front-there, front_length, sentences-written}
+use Rattle.layout_explaining.proofs.Wording.{length_in_parts, front_there, front_length, sentences_written}
 use borrow.Author.Rules.{rules}
 use Rattle.layout_explaining.proofs.sentences.write.Statement.{statement}
 use Rattle.layout_explaining.proofs.sentences.write.Tie as tie
@@ -40,8 +40,8 @@ returns c =
     let s = c.before.before.before.before.before.before.before.before.before.before.before in
     let p = c.before.before.before.before.before.put-standing.ensures in
     let q = c.before.before.put_rest.ensures in
-    let bytes = length-in-parts (letterText s.args.letter) s.args.generator s.args.octave s.args.first.now s.args.second.now s.args.explanation _ _ (p.0.end ∙ zero-add _) (q.0.end ∙ zero-add _) in
-    filled-refused 10 _ (not-held (length s.args.out.now) (sentences (letterText s.args.letter) s.args.generator s.args.octave s.args.first.now s.args.second.now s.args.explanation) (omega (arith, bytes, c.if1.true))) refl
+    let bytes = length_in_parts (letter_text s.args.letter) s.args.generator s.args.octave s.args.first.now s.args.second.now s.args.explanation _ _ (p.0.end ∙ zero-add _) (q.0.end ∙ zero-add _) in
+    filled_refused 10 _ (not_held (length s.args.out.now) (sentences (letter_text s.args.letter) s.args.generator s.args.octave s.args.first.now s.args.second.now s.args.explanation) (omega (arith, bytes, c.if1.true))) refl
 
 put-text-requires : tie.Need-put-text-requires
 put-text-requires c κs = search rules
@@ -52,7 +52,7 @@ array-share-prefix-one c = search rules
 slice-aggregate-put-text : tie.Need-slice-aggregate-put-text
 slice-aggregate-put-text c =
     let p = c.before.before.before.before.before.before.before.before.before.before.before.put-standing.ensures in
-    let one = front-there p.0 (omega (arith, p.1)) in
+    let one = front_there p.0 (omega (arith, p.1)) in
     sym (length-take-le _ _ one.0)
 
 put-text-requires-2 : tie.Need-put-text-requires-2
@@ -73,7 +73,7 @@ array-share-prefix-other c = search rules
 slice-aggregate-put-text-2 : tie.Need-slice-aggregate-put-text-2
 slice-aggregate-put-text-2 c =
     let q = c.before.before.before.before.before.before.before.before.before.before.before.before.before.before.before.before.before.put_rest.ensures in
-    let other = front-there q.0 (omega (arith, q.1)) in
+    let other = front_there q.0 (omega (arith, q.1)) in
     sym (length-take-le _ _ other.0)
 
 put-text-requires-4 : tie.Need-put-text-requires-4
@@ -92,11 +92,11 @@ returns-2 c =
     let p = c.before.before.before.before.before.before.before.before.before.before.before.before.before.before.before.before.before.before.before.before.before.before.before.put-standing.ensures in
     let q = c.before.before.before.before.before.before.before.before.before.before.before.before.before.before.before.before.before.before.before.before.put_rest.ensures in
     let i = c.before.before.before.before.before.before.before.before.before.before.before.before.before.before.before.before.before.before.if1.false in
-    let one = front-there p.0 (omega (arith, p.1)) in
-    let other = front-there q.0 (omega (arith, q.1)) in
-    let bytes = length-in-parts (letterText s.args.letter) s.args.generator s.args.octave s.args.first.now s.args.second.now s.args.explanation _ _ (p.0.end ∙ zero-add _) (q.0.end ∙ zero-add _) in
-    filled-given (held (length s.args.out.now) (sentences (letterText s.args.letter) s.args.generator s.args.octave s.args.first.now s.args.second.now s.args.explanation) (omega (arith, bytes, i))) (ap given bytes) (omega (arith, bytes, i))
-    (sentences-written (letterText s.args.letter) s.args.generator s.args.octave s.args.first.now s.args.second.now s.args.explanation
+    let one = front_there p.0 (omega (arith, p.1)) in
+    let other = front_there q.0 (omega (arith, q.1)) in
+    let bytes = length_in_parts (letter_text s.args.letter) s.args.generator s.args.octave s.args.first.now s.args.second.now s.args.explanation _ _ (p.0.end ∙ zero-add _) (q.0.end ∙ zero-add _) in
+    filled_given (held (length s.args.out.now) (sentences (letter_text s.args.letter) s.args.generator s.args.octave s.args.first.now s.args.second.now s.args.explanation) (omega (arith, bytes, i))) (ap given bytes) (omega (arith, bytes, i))
+    (sentences_written (letter_text s.args.letter) s.args.generator s.args.octave s.args.first.now s.args.second.now s.args.explanation
     c.before.before.before.before.before.before.before.before.before.before.before.before.before.before.before.before.put-text.ensures c.before.before.before.before.before.before.before.before.before.before.before.put-text2.ensures one.1 c.before.before.before.before.before.before.before.put-text3.ensures c.before.before.put-text4.ensures other.1)
 
 pub write_spec : {M : Type 1} → statement M

@@ -6,10 +6,10 @@ use native.Mathlib.Omega.{arith}
 use Rattle.text.specs.Writing.{joined}
 use Rattle.pergen.specs.Parts.{At}
 use Rattle.kbm_text.specs.Parts.{LengthUpTo}
-use Rattle.layout.specs.Parts.{layoutIn}
-use Rattle.layout.proofs.Readiness.{ready-walkable}
-use Rattle.layout_kbm.specs.Parts.{entryIn}
-use Rattle.layout_kbm.proofs.Calls.{entry-is, measured-none, measured-more}
+use Rattle.layout.specs.Parts.{layout_in}
+use Rattle.layout.proofs.Readiness.{ready_walkable}
+use Rattle.layout_kbm.specs.Parts.{entry_in}
+use Rattle.layout_kbm.proofs.Calls.{entry_is, measured_none, measured_more}
 use borrow.Author.Rules.{rules}
 use Rattle.layout_kbm.proofs.parts.entries_len.Statement.{statement}
 use Rattle.layout_kbm.proofs.parts.entries_len.Tie as tie
@@ -17,7 +17,7 @@ use Rattle.layout_kbm.proofs.parts.entries_len.Tie as tie
 abbrev invariant-loop : tie.invariant-loop
 invariant-loop prepared solved octave total₀ key₀ total key =
     At prepared.solved key
-    × LengthUpTo (6 * key.number) (joined (entryIn (layoutIn prepared)) key.number) total
+    × LengthUpTo (6 * key.number) (joined (entry_in (layout_in prepared)) key.number) total
     × (key.number ≤ prepared.found.octave)
 
 abbrev decreases-loop : tie.decreases-loop
@@ -27,14 +27,14 @@ cast-octave : tie.Need-overflow-cast-octave invariant-loop decreases-loop
 cast-octave c = search rules
 
 first-requires : tie.Need-first-requires invariant-loop decreases-loop
-first-requires c κs = ready-walkable _ c.before.before.requires
+first-requires c κs = ready_walkable _ c.before.before.requires
 
 loop-holds : tie.Need-loop-init invariant-loop decreases-loop
 loop-holds c =
     let first = c.first.ensures in (
       first.0,
-      subst (λ (n : ℕ). LengthUpTo (6 * n) (joined (entryIn (layoutIn c.before.before.before.args.prepared)) n) 0) (sym first.1)
-          (measured-none (entryIn (layoutIn c.before.before.before.args.prepared))),
+      subst (λ (n : ℕ). LengthUpTo (6 * n) (joined (entry_in (layout_in c.before.before.before.args.prepared)) n) 0) (sym first.1)
+          (measured_none (entry_in (layout_in c.before.before.before.args.prepared))),
       omega (arith, first.1),
     )
 
@@ -53,7 +53,7 @@ add_total c = omega (arith, c.before.before.before.before.before.loop.invariant.
 next-requires : tie.Need-next-requires invariant-loop decreases-loop
 next-requires c κs =
     let l = c.before.before.before.before.before in
-    (ready-walkable _ l.before.before.before.before.requires, l.loop.invariant.0, omega (arith, l.loop.invariant.2))
+    (ready_walkable _ l.before.before.before.before.requires, l.loop.invariant.0, omega (arith, l.loop.invariant.2))
 
 loop-less : tie.Need-loop-smaller invariant-loop decreases-loop
 loop-less c =
@@ -64,19 +64,19 @@ loop-again c =
     let m = c.before in
     let i = m.before.before in
     let l = c.before.before.before.before.before.before in
-    let lay = layoutIn l.before.before.before.before.args.prepared in
+    let lay = layout_in l.before.before.before.before.args.prepared in
     let on = c.next.ensures in (
       on.0,
-      subst (λ (n : ℕ). LengthUpTo (6 * n) (joined (entryIn lay) n) (l.loop.total + m.entry-len.result)) (sym on.1)
-          (measured-more (entryIn lay) _ _ _ l.loop.invariant.1 (entry-is lay _ _ i.is-natural.ensures) m.entry-len.ensures),
+      subst (λ (n : ℕ). LengthUpTo (6 * n) (joined (entry_in lay) n) (l.loop.total + m.entry-len.result)) (sym on.1)
+          (measured_more (entry_in lay) _ _ _ l.loop.invariant.1 (entry_is lay _ _ i.is-natural.ensures) m.entry-len.ensures),
       omega (arith, on.1, i.before.if1.true),
     )
 
 returns : tie.Need-returns invariant-loop decreases-loop
 returns c =
     let l = c.before.before in
-    let lay = layoutIn l.before.before.before.before.args.prepared in
-    subst (λ (n : ℕ). LengthUpTo (6 * n) (joined (entryIn lay) n) l.loop.total) (le_antisymm l.loop.invariant.2 c.if1.false) l.loop.invariant.1
+    let lay = layout_in l.before.before.before.before.args.prepared in
+    subst (λ (n : ℕ). LengthUpTo (6 * n) (joined (entry_in lay) n) l.loop.total) (le_antisymm l.loop.invariant.2 c.if1.false) l.loop.invariant.1
 
 pub entries-len-spec : {M : Type 1} → statement M
 entries-len-spec =

@@ -2,8 +2,8 @@
 use Prim.Native.Nat.{ℕ}
 use mathlib.Core.Path.{ap}
 use lib.Dec.{leb}
-use Rattle.layout_kbm.proofs.Calls.{surely-held}
-use Rattle.layout.specs.Parts.{layoutIn}
+use Rattle.layout_kbm.proofs.Calls.{surely_held}
+use Rattle.layout.specs.Parts.{layout_in}
 use borrow.Author.Rules.{rules}
 use Rattle.layout_kbm.proofs.parts.has_room.Statement.{statement}
 use Rattle.layout_kbm.proofs.parts.has_room.Tie as tie
@@ -18,7 +18,7 @@ add-if1 : tie.Need-overflow-add-if1
 add-if1 c = search rules
 
 returns : tie.Need-returns
-returns c = let s = c.before.before in surely-held (layoutIn s.args.prepared) _ (search rules) c.if1.true
+returns c = let s = c.before.before in surely_held (layout_in s.args.prepared) _ (search rules) c.if1.true
 
 file-len-requires : tie.Need-file-len-requires
 file-len-requires c κs = search rules

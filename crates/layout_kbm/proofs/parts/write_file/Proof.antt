@@ -6,10 +6,10 @@ use native.Mathlib.Omega.{arith}
 use lib.ListN.{length}
 use borrow.Author.Tests.{not-true, not-false, leb-true, leb-false}
 use Rattle.answer.specs.Outcome.{given}
-use Rattle.answer.proofs.Lent.{held, not-held, filled-refused}
-use Rattle.text.proofs.Writing.{filled-given}
-use Rattle.layout_kbm.specs.Mappings.{mappingIn}
-use Rattle.layout.specs.Parts.{layoutIn}
+use Rattle.answer.proofs.Lent.{held, not_held, filled_refused}
+use Rattle.text.proofs.Writing.{filled_given}
+use Rattle.layout_kbm.specs.Mappings.{mapping_in}
+use Rattle.layout.specs.Parts.{layout_in}
 use borrow.Author.Rules.{rules}
 use Rattle.layout_kbm.proofs.parts.write_file.Statement.{statement}
 use Rattle.layout_kbm.proofs.parts.write_file.Tie as tie
@@ -20,12 +20,12 @@ has-room-requires c κs = search rules
 returns : tie.Need-returns
 returns c =
     let m = c.before.before.before.args.prepared in
-    filled-refused 10 _ (not-held _ (mappingIn (layoutIn m)) (leb-false _ _ (sym c.before.has_room.ensures ∙ not-true _ c.if1.true))) refl
+    filled_refused 10 _ (not_held _ (mapping_in (layout_in m)) (leb-false _ _ (sym c.before.has_room.ensures ∙ not-true _ c.if1.true))) refl
 
 put-file-requires : tie.Need-put-file-requires
 put-file-requires c κs =
     let s = c.before.before.before.before in
-    let room : length (mappingIn (layoutIn s.args.prepared)) ≤ length s.args.out.now = leb-true _ _ (sym c.before.before.has_room.ensures ∙ not-false _ c.before.if1.false) in
+    let room : length (mapping_in (layout_in s.args.prepared)) ≤ length s.args.out.now = leb-true _ _ (sym c.before.before.has_room.ensures ∙ not-false _ c.before.if1.false) in
     (s.requires, omega (arith, room))
 
 same_length : tie.Need-same-length
@@ -36,7 +36,7 @@ returns-2 c =
     let m = c.before.before.before.before.before.before.before.args.prepared in
     let room = leb-true _ _ (sym c.before.before.before.before.before.has_room.ensures ∙ not-false _ c.before.before.before.before.if1.false) in
     let w = c.before.before.put-file.ensures in
-    filled-given (held _ (mappingIn (layoutIn m)) room) (ap given (w.end ∙ zero-add (length (mappingIn (layoutIn m))))) room w
+    filled_given (held _ (mapping_in (layout_in m)) room) (ap given (w.end ∙ zero-add (length (mapping_in (layout_in m))))) room w
 
 pub write-file-spec : {M : Type 1} → statement M
 write-file-spec =

@@ -1,5 +1,5 @@
 -- The codes, home over the first, and over the one at the octave where there is a second octave.
-use Rattle.layout_lamps.proofs.StripLaws.{counted-within, strip-coded, first-inside, octave-inside, home-over, homes-over}
+use Rattle.layout_lamps.proofs.StripLaws.{counted_within, strip_coded, first_inside, octave_inside, home_over, homes_over}
 use borrow.Author.Rules.{rules}
 use Rattle.layout_lamps.proofs.parts.put_strip.Statement.{statement}
 use Rattle.layout_lamps.proofs.parts.put_strip.Tie as tie
@@ -7,12 +7,12 @@ use Rattle.layout_lamps.proofs.parts.put_strip.Tie as tie
 put-entries-requires : tie.Need-put-entries-requires
 put-entries-requires c κs =
     let start = c.before.before in
-    (start.requires.0, counted-within start.args.plan start.requires.0 _ start.requires.1, start.requires.2)
+    (start.requires.0, counted_within start.args.plan start.requires.0 _ start.requires.1, start.requires.2)
 
 slice-write-out : tie.Need-slice-write-out
 slice-write-out c =
     let start = c.before.before.before.before.before in
-    first-inside start.args.plan start.args.total start.requires.0 start.args.out.now _ (strip-coded start.args.plan start.requires.0 _ start.args.out.now _ start.requires.1 c.before.before.put_entries.ensures) start.requires.2
+    first_inside start.args.plan start.args.total start.requires.0 start.args.out.now _ (strip_coded start.args.plan start.requires.0 _ start.args.out.now _ start.requires.1 c.before.before.put_entries.ensures) start.requires.2
 
 cast-keys : tie.Need-overflow-cast-keys
 cast-keys c = search rules
@@ -32,7 +32,7 @@ same_length c = search rules
 returns : tie.Need-returns
 returns c =
     let start = c.before.before.before.before.before.before.before.before.before.before in
-    home-over start.args.plan start.args.total start.requires.0 start.args.out.now _ (strip-coded start.args.plan start.requires.0 _ start.args.out.now _ start.requires.1 c.before.before.before.before.before.before.before.put_entries.ensures) _ c.before.entries.ensures c.if1.true
+    home_over start.args.plan start.args.total start.requires.0 start.args.out.now _ (strip_coded start.args.plan start.requires.0 _ start.args.out.now _ start.requires.1 c.before.before.before.before.before.before.before.put_entries.ensures) _ c.before.entries.ensures c.if1.true
 
 mul-out : tie.Need-overflow-mul-out
 mul-out c = search rules
@@ -40,7 +40,7 @@ mul-out c = search rules
 slice-write-out-2 : tie.Need-slice-write-out-2
 slice-write-out-2 c =
     let start = c.before.before.before.before.before.before.before.before.before.before in
-    octave-inside start.args.plan start.args.total start.requires.0 start.args.out.now _ (strip-coded start.args.plan start.requires.0 _ start.args.out.now _ start.requires.1 c.before.before.before.before.before.before.before.put_entries.ensures) start.requires.2 _ c.before.entries.ensures c.if1.false
+    octave_inside start.args.plan start.args.total start.requires.0 start.args.out.now _ (strip_coded start.args.plan start.requires.0 _ start.args.out.now _ start.requires.1 c.before.before.before.before.before.before.before.put_entries.ensures) start.requires.2 _ c.before.entries.ensures c.if1.false
 
 same-length-2 : tie.Need-same-length-2
 same-length-2 c = search rules
@@ -48,7 +48,7 @@ same-length-2 c = search rules
 returns-2 : tie.Need-returns-2
 returns-2 c =
     let start = c.before.before.before.before.before.before.before.before.before.before in
-    homes-over start.args.plan start.args.total start.requires.0 start.args.out.now _ (strip-coded start.args.plan start.requires.0 _ start.args.out.now _ start.requires.1 c.before.before.before.before.before.before.before.put_entries.ensures) _ c.before.entries.ensures c.if1.false
+    homes_over start.args.plan start.args.total start.requires.0 start.args.out.now _ (strip_coded start.args.plan start.requires.0 _ start.args.out.now _ start.requires.1 c.before.before.before.before.before.before.before.put_entries.ensures) _ c.before.entries.ensures c.if1.false
 
 pub put-strip-spec : {M : Type 1} → statement M
 put-strip-spec =

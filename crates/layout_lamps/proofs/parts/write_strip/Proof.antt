@@ -1,10 +1,10 @@
 -- Question 10, then the strip of all entries.
 use mathlib.Core.Path.{subst, ◌∙◌}
 use Prim.Native.Nat.{ℕ}
-use Rattle.layout_layers.specs.Parts.{totalOf, Fronted}
-use Rattle.layout_layers.proofs.Calls.{text-too-long, text-held}
-use Rattle.layout_lamps.specs.Parts.{planStrip}
-use Rattle.layout_lamps.proofs.StripLaws.{length-strip}
+use Rattle.layout_layers.specs.Parts.{total_of, Fronted}
+use Rattle.layout_layers.proofs.Calls.{text_too_long, text_held}
+use Rattle.layout_lamps.specs.Parts.{plan_strip}
+use Rattle.layout_lamps.proofs.StripLaws.{length_strip}
 use borrow.Author.Rules.{rules}
 use Rattle.layout_lamps.proofs.parts.write_strip.Statement.{statement}
 use Rattle.layout_lamps.proofs.parts.write_strip.Tie as tie
@@ -15,7 +15,7 @@ entries-requires c κs = search rules
 returns : tie.Need-returns
 returns c =
     let start = c.before.before.before in
-    text-too-long (planStrip start.args.plan (totalOf start.args.plan)) _ _ (c.before.entries.ensures ∙ length-strip start.args.plan (totalOf start.args.plan)) c.if1.true
+    text_too_long (plan_strip start.args.plan (total_of start.args.plan)) _ _ (c.before.entries.ensures ∙ length_strip start.args.plan (total_of start.args.plan)) c.if1.true
 
 total-of-requires : tie.Need-total-of-requires
 total-of-requires c κs = search rules
@@ -30,8 +30,8 @@ returns-2 : tie.Need-returns-2
 returns-2 c =
     let start = c.before.before.before.before.before.before.before.before in
     let plan = start.args.plan in
-    text-held (planStrip plan (totalOf plan)) _ _ (c.before.before.before.before.before.before.entries.ensures ∙ length-strip plan (totalOf plan)) c.before.before.before.before.before.if1.false
-    (subst (λ (t : ℕ). Fronted (planStrip plan t) start.args.out.now c.before.before.put-strip.new.0) c.before.before.before.total_of.ensures c.before.before.put-strip.ensures)
+    text_held (plan_strip plan (total_of plan)) _ _ (c.before.before.before.before.before.before.entries.ensures ∙ length_strip plan (total_of plan)) c.before.before.before.before.before.if1.false
+    (subst (λ (t : ℕ). Fronted (plan_strip plan t) start.args.out.now c.before.before.put-strip.new.0) c.before.before.before.total_of.ensures c.before.before.put-strip.ensures)
 
 pub write-strip-spec : {M : Type 1} → statement M
 write-strip-spec =

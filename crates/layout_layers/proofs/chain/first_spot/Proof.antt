@@ -2,7 +2,7 @@
 use native.Mathlib.Nat.{mul-le-mul, mod-lt}
 use native.Mathlib.Omega.{arith}
 use Prim.Native.Nat.{◌*◌}
-use Rattle.layout_layers.proofs.ChainLaws.{some-places, first-here, first-behind}
+use Rattle.layout_layers.proofs.ChainLaws.{some_places, first_here, first_behind}
 use mathlib.Core.Path.{refl}
 use borrow.Author.Rules.{rules}
 use Rattle.layout_layers.proofs.chain.first_spot.Statement.{statement}
@@ -26,17 +26,17 @@ rem-ahead : tie.Need-nonzero-rem-ahead
 rem-ahead c = search rules
 
 returns : tie.Need-returns
-returns c = first-here c.before.before.before.before.args.chain c.before.before.before.before.requires c.if1.true
+returns c = first_here c.before.before.before.before.args.chain c.before.before.before.before.requires c.if1.true
 
 sub-t4 : tie.Need-overflow-sub-t4
 sub-t4 c =
     let start = c.before.before.before.before in
-    omega (arith, mod-lt (start.args.chain.start * start.args.chain.advance) (some-places start.args.chain start.requires))
+    omega (arith, mod-lt (start.args.chain.start * start.args.chain.advance) (some_places start.args.chain start.requires))
 
 returns-2 : tie.Need-returns-2
 returns-2 c =
     let start = c.before.before.before.before in
-    first-behind start.args.chain start.requires _ refl c.if1.false
+    first_behind start.args.chain start.requires _ refl c.if1.false
 
 pub first-spot-spec : {M : Type 1} → statement M
 first-spot-spec =

@@ -1,5 +1,5 @@
 -- One comparison for the remainder.
-use Rattle.layout_layers.proofs.ChainLaws.{next-stays, next-wraps}
+use Rattle.layout_layers.proofs.ChainLaws.{next_stays, next_wraps}
 use borrow.Author.Rules.{rules}
 use Rattle.layout_layers.proofs.chain.next_spot.Statement.{statement}
 use Rattle.layout_layers.proofs.chain.next_spot.Tie as tie
@@ -22,12 +22,12 @@ add-t8 c = search rules
 returns : tie.Need-returns
 returns c =
     let start = c.before.before.before.before.before.before in
-    next-stays start.args.chain start.requires.0 start.args.spot start.requires.1 c.before.if1.true
+    next_stays start.args.chain start.requires.0 start.args.spot start.requires.1 c.before.if1.true
 
 returns-2 : tie.Need-returns-2
 returns-2 c =
     let start = c.before.before.before.before.before.before in
-    next-wraps start.args.chain start.requires.0 start.args.spot start.requires.1 c.before.if1.false
+    next_wraps start.args.chain start.requires.0 start.args.spot start.requires.1 c.before.if1.false
 
 pub next-spot-spec : {M : Type 1} → statement M
 next-spot-spec =

@@ -2,7 +2,7 @@
 use Prim.Native.Nat.{◌+◌}
 use native.Mathlib.Omega.{arith}
 use native.Mathlib.Nat.{mul-le-mul}
-use Rattle.layout_layers.proofs.PlanLaws.{alternating-same, alternating-other, steps-fit}
+use Rattle.layout_layers.proofs.PlanLaws.{alternating_same, alternating_other, steps_fit}
 use borrow.Author.Rules.{rules}
 use Rattle.layout_layers.proofs.keys.alternate.Statement.{statement}
 use Rattle.layout_layers.proofs.keys.alternate.Tie as tie
@@ -17,16 +17,16 @@ add-there : tie.Need-overflow-add-there
 add-there c = search rules
 
 mul-there : tie.Need-overflow-mul-there
-mul-there c = omega (arith, steps-fit c.args.offset c.args.secondaries c.args.group c.requires.1 c.requires.2 c.requires.3)
+mul-there c = omega (arith, steps_fit c.args.offset c.args.secondaries c.args.group c.requires.1 c.requires.2 c.requires.3)
 
 div-there : tie.Need-nonzero-div-there
 div-there c = search rules
 
 returns : tie.Need-returns
-returns c = alternating-same _ _ _ _ c.if1.true
+returns c = alternating_same _ _ _ _ c.if1.true
 
 returns-2 : tie.Need-returns-2
-returns-2 c = alternating-other _ _ _ _ c.if1.false
+returns-2 c = alternating_other _ _ _ _ c.if1.false
 
 pub alternate-spec : {M : Type 1} → statement M
 alternate-spec =

@@ -1,6 +1,6 @@
 -- Two octaves where both steps are equal.
 use native.Mathlib.Omega.{arith}
-use Rattle.layout_layers.proofs.PreparedPlans.{entries-double, entries-single}
+use Rattle.layout_layers.proofs.PreparedPlans.{entries_double, entries_single}
 use borrow.Author.Rules.{rules}
 use Rattle.layout_layers.proofs.keys.entry_count.Statement.{statement}
 use Rattle.layout_layers.proofs.keys.entry_count.Tie as tie
@@ -14,12 +14,12 @@ mul-result c = search rules
 returns : tie.Need-returns
 returns c =
     let found = c.before.before.before.before.args.prepared.found in
-    (entries-double found.octave found.pattern c.if1.true, omega arith)
+    (entries_double found.octave found.pattern c.if1.true, omega arith)
 
 returns-2 : tie.Need-returns-2
 returns-2 c =
     let found = c.before.before.before.before.args.prepared.found in
-    (entries-single found.octave found.pattern c.if1.false, omega arith)
+    (entries_single found.octave found.pattern c.if1.false, omega arith)
 
 pub entry-count-spec : {M : Type 1} → statement M
 entry-count-spec = tie.close (tie.spec cast-keys mul-result returns returns-2)

@@ -1,7 +1,7 @@
 -- Flat, sharp or natural, enharmonic.
 use native.Mathlib.Omega.{arith}
 use borrow.Author.Rules.{rules}
-use Rattle.layout_layers.proofs.LayerPlaces.{sharp-fits, count_fits, faced-sharp, flat-below, layer-flat, layer-enharmonic}
+use Rattle.layout_layers.proofs.LayerPlaces.{sharp_fits, count_fits, faced_sharp, flat_below, layer_flat, layer_enharmonic}
 use Rattle.layout_layers.proofs.keys.layer_at.Statement.{statement}
 use Rattle.layout_layers.proofs.keys.layer_at.Tie as tie
 
@@ -15,7 +15,7 @@ sub-behind-2 : tie.Need-overflow-sub-behind-2
 sub-behind-2 c = search rules
 
 sub-if1 : tie.Need-overflow-sub-if1
-sub-if1 c = omega (arith, c.before.before.sharp-places.ensures, (sharp-fits c.before.before.before.args.sizes c.before.before.before.requires.0).1)
+sub-if1 c = omega (arith, c.before.before.sharp-places.ensures, (sharp_fits c.before.before.before.args.sizes c.before.before.before.requires.0).1)
 
 count-of-requires : tie.Need-count-of-requires
 count-of-requires c κs = search rules
@@ -25,15 +25,15 @@ add-sharp-layer c =
     let start = c.before.before.before.before.before.before in
     omega (
       arith,
-      faced-sharp start.args.sizes start.requires.0 start.args.place start.requires.1 _ c.before.before.before.before.before.sharp-places.ensures c.before.before.if1.true,
-      (sharp-fits start.args.sizes start.requires.0).0,
-      start.requires.0.places-fit,
+      faced_sharp start.args.sizes start.requires.0 start.args.place start.requires.1 _ c.before.before.before.before.before.sharp-places.ensures c.before.before.if1.true,
+      (sharp_fits start.args.sizes start.requires.0).0,
+      start.requires.0.places_fit,
     )
 
 sharp-layer-requires : tie.Need-sharp-layer-requires
 sharp-layer-requires c κs =
     let start = c.before.before.before.before.before.before in
-    (start.requires.0, faced-sharp start.args.sizes start.requires.0 start.args.place start.requires.1 _ c.before.before.before.before.before.sharp-places.ensures c.before.before.if1.true)
+    (start.requires.0, faced_sharp start.args.sizes start.requires.0 start.args.place start.requires.1 _ c.before.before.before.before.before.sharp-places.ensures c.before.before.if1.true)
 
 sub-result : tie.Need-overflow-sub-result
 sub-result c =
@@ -42,7 +42,7 @@ sub-result c =
       arith,
       c.before.before.count_of.ensures,
       c.sharp-layer.ensures,
-      flat-below start.args.sizes start.requires.0 start.args.place start.requires.1 _ c.before.before.before.before.before.before.sharp-places.ensures c.before.before.before.if1.true,
+      flat_below start.args.sizes start.requires.0 start.args.place start.requires.1 _ c.before.before.before.before.before.before.sharp-places.ensures c.before.before.before.if1.true,
     )
 
 returns : tie.Need-returns
@@ -52,7 +52,7 @@ returns c =
       arith,
       c.before.before.count_of.ensures,
       c.sharp-layer.ensures,
-      layer-flat start.args.sizes start.requires.0 start.args.place start.requires.1 _ c.before.before.before.before.before.before.sharp-places.ensures c.before.before.before.if1.true,
+      layer_flat start.args.sizes start.requires.0 start.args.place start.requires.1 _ c.before.before.before.before.before.before.sharp-places.ensures c.before.before.before.if1.true,
     )
 
 sharp-layer-requires-2 : tie.Need-sharp-layer-requires-2
@@ -71,7 +71,7 @@ add-result c =
 returns-3 : tie.Need-returns-3
 returns-3 c =
     let start = c.before.before.before.before.before.before in
-    layer-enharmonic start.args.sizes start.requires.0 start.args.place start.requires.1
+    layer_enharmonic start.args.sizes start.requires.0 start.args.place start.requires.1
     (omega (arith, c.before.before.if1.false, c.before.before.before.before.before.sharp-places.ensures))
     (omega (arith, c.before.if2.false, c.before.before.before.before.before.sharp-places.ensures))
 

@@ -1,7 +1,7 @@
 -- The layer times the cycles, and the key's cycle.
 use native.Mathlib.Omega.{arith}
 use borrow.Author.Rules.{rules}
-use Rattle.layout_layers.proofs.PreparedLayers.{number-made, number_fits}
+use Rattle.layout_layers.proofs.PreparedLayers.{number_made, number_fits}
 use Rattle.layout_layers.proofs.keys.number_of.Statement.{statement}
 use Rattle.layout_layers.proofs.keys.number_of.Tie as tie
 
@@ -21,7 +21,7 @@ add-result c =
 returns : tie.Need-returns
 returns c =
     let start = c.before.before.before in
-    number-made start.args.prepared start.requires.0 start.args.key start.requires.1 (search rules) _ c.before.before.layer-of.ensures
+    number_made start.args.prepared start.requires.0 start.args.key start.requires.1 (search rules) _ c.before.before.layer-of.ensures
 
 pub number-of-spec : {M : Type 1} → statement M
 number-of-spec = tie.close (tie.spec layer-of-requires mul-result add-result returns)

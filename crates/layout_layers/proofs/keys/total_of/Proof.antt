@@ -3,7 +3,7 @@ use Prim.Native.Nat.{◌*◌}
 use mathlib.Core.Path.{sym, ◌∙◌}
 use native.Mathlib.Omega.{arith}
 use borrow.Author.Rules.{rules}
-use Rattle.layout_layers.proofs.PreparedLayers.{total-alternates, total-listed, total-fits}
+use Rattle.layout_layers.proofs.PreparedLayers.{total_alternates, total_listed, total_fits}
 use Rattle.layout_layers.proofs.keys.total_of.Statement.{statement}
 use Rattle.layout_layers.proofs.keys.total_of.Tie as tie
 
@@ -14,11 +14,11 @@ mul-result : tie.Need-overflow-mul-result
 mul-result c =
     let start = c.before.before in
     let prepared = start.args.prepared in
-    let total = total-alternates prepared start.requires (sym c.if1.true ∙ c.before.is-equalized.ensures) in
-    omega (arith, total-fits prepared start.requires (search rules) _ total)
+    let total = total_alternates prepared start.requires (sym c.if1.true ∙ c.before.is_equalized.ensures) in
+    omega (arith, total_fits prepared start.requires (search rules) _ total)
 
 returns : tie.Need-returns
-returns c = total-alternates c.before.before.args.prepared c.before.before.requires (sym c.if1.true ∙ c.before.is-equalized.ensures)
+returns c = total_alternates c.before.before.args.prepared c.before.before.requires (sym c.if1.true ∙ c.before.is_equalized.ensures)
 
 sizes-of-requires : tie.Need-sizes-of-requires
 sizes-of-requires c κs = search rules
@@ -30,13 +30,13 @@ mul-result-2 : tie.Need-overflow-mul-result-2
 mul-result-2 c =
     let start = c.before.before.before.before in
     let prepared = start.args.prepared in
-    let total = total-listed prepared start.requires (sym c.before.before.if1.false ∙ c.before.before.before.is-equalized.ensures) _ c.before.sizes-of.ensures _ c.count_of.ensures in
-    omega (arith, total-fits prepared start.requires (search rules) _ total)
+    let total = total_listed prepared start.requires (sym c.before.before.if1.false ∙ c.before.before.before.is_equalized.ensures) _ c.before.sizes-of.ensures _ c.count_of.ensures in
+    omega (arith, total_fits prepared start.requires (search rules) _ total)
 
 returns-2 : tie.Need-returns-2
 returns-2 c =
     let start = c.before.before.before.before in
-    total-listed start.args.prepared start.requires (sym c.before.before.if1.false ∙ c.before.before.before.is-equalized.ensures) _ c.before.sizes-of.ensures _ c.count_of.ensures
+    total_listed start.args.prepared start.requires (sym c.before.before.if1.false ∙ c.before.before.before.is_equalized.ensures) _ c.before.sizes-of.ensures _ c.count_of.ensures
 
 pub total-of-spec : {M : Type 1} → statement M
 total-of-spec =

@@ -3,16 +3,16 @@ use Prim.Native.Nat.{◌+◌, ◌*◌, ◌-◌, ◌%◌, ◌≤◌}
 use mathlib.Core.Path.{ap, ◌∙◌}
 use native.Mathlib.Nat.{le_antisymm}
 use native.Mathlib.Omega.{arith}
-use Rattle.layout_layers.specs.Parts.{Walk, shownAs, limit}
-use Rattle.layout_layers.proofs.ChainLaws.{walk_none, walk-then, walk-one, walk-count, walk-as, turn-room, layer_fits}
-use Rattle.layout_layers.proofs.SpreadLaws.{single-number}
+use Rattle.layout_layers.specs.Parts.{Walk, shown_as, limit}
+use Rattle.layout_layers.proofs.ChainLaws.{walk_none, walk_then, walk_one, walk_count, walk_as, turn_room, layer_fits}
+use Rattle.layout_layers.proofs.SpreadLaws.{single_number}
 use borrow.Author.Rules.{rules}
 use Rattle.layout_layers.proofs.parts.put_layer.Statement.{statement}
 use Rattle.layout_layers.proofs.parts.put_layer.Tie as tie
 
 abbrev invariant-loop : tie.invariant-loop
 invariant-loop out₀ chain size layer total spot₀ k₀ out spot k =
-    Walk chain spot₀ spot k (λ i. shownAs total (layer * chain.num_cycles + i % chain.num_cycles)) out₀ out × (k ≤ size)
+    Walk chain spot₀ spot k (λ i. shown_as total (layer * chain.num_cycles + i % chain.num_cycles)) out₀ out × (k ≤ size)
 
 abbrev decreases-loop : tie.decreases-loop
 decreases-loop out₀ chain size layer total spot₀ k₀ out spot k = size - k
@@ -20,7 +20,7 @@ decreases-loop out₀ chain size layer total spot₀ k₀ out spot k = size - k
 shown-requires : tie.Need-shown-requires invariant-loop decreases-loop
 shown-requires c κs =
     let start = c.before.before.before in
-    layer_fits start.args.layer start.args.chain.num_cycles (limit start.args.total) start.requires.0.unbroken.some-cycles start.requires.1
+    layer_fits start.args.layer start.args.chain.num_cycles (limit start.args.total) start.requires.0.unbroken.some_cycles start.requires.1
 
 put-single-requires : tie.Need-put-single-requires invariant-loop decreases-loop
 put-single-requires c κs = search rules
@@ -33,8 +33,8 @@ returns c =
     let start = c.before.before.before.before.before.before.before.before in
     let chain = start.args.chain in
     let one = c.before.before.before.before.before.if1.true in
-    walk-as chain start.requires.0.unbroken start.args.from c.before.before.put-single.result (λ i. c.before.before.before.before.shown.result) _ start.args.size
-    (λ i t. c.before.before.before.before.shown.ensures ∙ ap (shownAs start.args.total) (single-number chain.num_cycles start.args.layer i one))
+    walk_as chain start.requires.0.unbroken start.args.from c.before.before.put-single.result (λ i. c.before.before.before.before.shown.result) _ start.args.size
+    (λ i t. c.before.before.before.before.shown.ensures ∙ ap (shown_as start.args.total) (single_number chain.num_cycles start.args.layer i one))
     c.before.before.put-single.ensures
 
 loop-holds : tie.Need-loop-init invariant-loop decreases-loop
@@ -47,8 +47,8 @@ put-turn-requires c κs =
     let start = c.before.before.before.before.before.before in
     let loop = c.before.before.loop in
     let u = start.requires.0.unbroken in (
-      u.some-cycles,
-      turn-room start.args.chain u loop.spot.turn loop.invariant.0.arrived.turn_below (omega (arith, start.requires.0.held, loop.invariant.0.spread.kept)),
+      u.some_cycles,
+      turn_room start.args.chain u loop.spot.turn loop.invariant.0.arrived.turn_below (omega (arith, start.requires.0.held, loop.invariant.0.spread.kept)),
       start.requires.1,
     )
 
@@ -71,8 +71,8 @@ loop-again c =
     let chain = start.args.chain in
     let u = start.requires.0.unbroken in
     let more = c.before.before.before.before.before.loop-test.true in (
-      walk-then chain u start.args.from loop.spot c.next-spot.result _ loop.k 1 loop.invariant.0
-          (walk-one chain u loop.spot c.next-spot.result _ loop.invariant.0.arrived (omega (arith, more, loop.invariant.0.place_is, start.requires.0.on_chain)) c.before.before.before.put-turn.ensures c.next-spot.ensures),
+      walk_then chain u start.args.from loop.spot c.next-spot.result _ loop.k 1 loop.invariant.0
+          (walk_one chain u loop.spot c.next-spot.result _ loop.invariant.0.arrived (omega (arith, more, loop.invariant.0.place_is, start.requires.0.on_chain)) c.before.before.before.put-turn.ensures c.next-spot.ensures),
       omega (arith, more),
     )
 
@@ -83,7 +83,7 @@ returns-2 : tie.Need-returns-2 invariant-loop decreases-loop
 returns-2 c =
     let start = c.before.before.before.before.before in
     let loop = c.before.loop in
-    walk-count start.args.chain start.requires.0.unbroken start.args.from loop.spot _ _ _ (le_antisymm loop.invariant.1 c.loop-test.false) loop.invariant.0
+    walk_count start.args.chain start.requires.0.unbroken start.args.from loop.spot _ _ _ (le_antisymm loop.invariant.1 c.loop-test.false) loop.invariant.0
 
 pub put-layer-spec : {M : Type 1} → statement M
 put-layer-spec =

@@ -6,8 +6,8 @@ use native.Mathlib.Omega.{arith}
 use lib.ListN.{length}
 use borrow.Author.Rules.{rules}
 use Rattle.layout_layers.specs.Parts.{Walk}
-use Rattle.layout_layers.proofs.SpreadLaws.{block-single}
-use Rattle.layout_layers.proofs.ChainLaws.{walk_none, walk-then, walk-one, walk-count, single-inside}
+use Rattle.layout_layers.proofs.SpreadLaws.{block_single}
+use Rattle.layout_layers.proofs.ChainLaws.{walk_none, walk_then, walk_one, walk_count, single_inside}
 use Rattle.layout_layers.proofs.parts.put_single.Statement.{statement}
 use Rattle.layout_layers.proofs.parts.put_single.Tie as tie
 
@@ -30,14 +30,14 @@ mul-out c =
     let start = c.before.before.before.before in
     let loop = c.before.before.loop in
     let chain = start.args.chain in
-    omega (arith, single-inside chain start.requires.1.unbroken loop.spot.turn (length loop.out) start.requires.0 loop.invariant.0.arrived.turn_below (omega (arith, start.requires.1.held, loop.invariant.0.spread.kept)))
+    omega (arith, single_inside chain start.requires.1.unbroken loop.spot.turn (length loop.out) start.requires.0 loop.invariant.0.arrived.turn_below (omega (arith, start.requires.1.held, loop.invariant.0.spread.kept)))
 
 slice-write-out : tie.Need-slice-write-out invariant-loop decreases-loop
 slice-write-out c =
     let start = c.before.before.before.before in
     let loop = c.before.before.loop in
     let chain = start.args.chain in
-    single-inside chain start.requires.1.unbroken loop.spot.turn (length loop.out) start.requires.0 loop.invariant.0.arrived.turn_below (omega (arith, start.requires.1.held, loop.invariant.0.spread.kept))
+    single_inside chain start.requires.1.unbroken loop.spot.turn (length loop.out) start.requires.0 loop.invariant.0.arrived.turn_below (omega (arith, start.requires.1.held, loop.invariant.0.spread.kept))
 
 next-spot-requires : tie.Need-next-spot-requires invariant-loop decreases-loop
 next-spot-requires c κs =
@@ -58,10 +58,10 @@ loop-again c =
     let chain = start.args.chain in
     let u = start.requires.1.unbroken in
     let more = c.before.before.loop-test.true in
-    let room = single-inside chain u loop.spot.turn (length loop.out) start.requires.0 loop.invariant.0.arrived.turn_below (omega (arith, start.requires.1.held, loop.invariant.0.spread.kept)) in (
-      walk-then chain u start.args.from loop.spot c.next-spot.result _ loop.k 1 loop.invariant.0
-          (walk-one chain u loop.spot c.next-spot.result _ loop.invariant.0.arrived (omega (arith, more, loop.invariant.0.place_is, start.requires.1.on_chain))
-          (block-single chain.num_cycles loop.spot.turn (λ i. start.args.entry) start.args.entry loop.out start.requires.0 room refl)
+    let room = single_inside chain u loop.spot.turn (length loop.out) start.requires.0 loop.invariant.0.arrived.turn_below (omega (arith, start.requires.1.held, loop.invariant.0.spread.kept)) in (
+      walk_then chain u start.args.from loop.spot c.next-spot.result _ loop.k 1 loop.invariant.0
+          (walk_one chain u loop.spot c.next-spot.result _ loop.invariant.0.arrived (omega (arith, more, loop.invariant.0.place_is, start.requires.1.on_chain))
+          (block_single chain.num_cycles loop.spot.turn (λ i. start.args.entry) start.args.entry loop.out start.requires.0 room refl)
           c.next-spot.ensures),
       omega (arith, more),
     )
@@ -73,7 +73,7 @@ returns : tie.Need-returns invariant-loop decreases-loop
 returns c =
     let start = c.before.before.before in
     let loop = c.before.loop in
-    walk-count start.args.chain start.requires.1.unbroken start.args.from loop.spot _ _ _ (le_antisymm loop.invariant.1 c.loop-test.false) loop.invariant.0
+    walk_count start.args.chain start.requires.1.unbroken start.args.from loop.spot _ _ _ (le_antisymm loop.invariant.1 c.loop-test.false) loop.invariant.0
 
 pub put-single-spec : {M : Type 1} → statement M
 put-single-spec =

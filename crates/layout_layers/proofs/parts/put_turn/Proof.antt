@@ -3,15 +3,15 @@ use Prim.Native.Nat.{◌+◌, ◌*◌, ◌-◌, ◌%◌, ◌≤◌}
 use native.Mathlib.Omega.{arith}
 use borrow.Author.Rules.{rules}
 use mathlib.Core.Path.{◌≡◌, ap, ◌∙◌}
-use Rattle.layout_layers.specs.Parts.{Spread, shownAs}
-use Rattle.layout_layers.proofs.LampCodeLaws.{limit-fits}
-use Rattle.layout_layers.proofs.SpreadLaws.{InBlock, block_none, block_more, block-whole, block-number}
+use Rattle.layout_layers.specs.Parts.{Spread, shown_as}
+use Rattle.layout_layers.proofs.LampCodeLaws.{limit_fits}
+use Rattle.layout_layers.proofs.SpreadLaws.{InBlock, block_none, block_more, block_whole, block_number}
 use Rattle.layout_layers.proofs.parts.put_turn.Statement.{statement}
 use Rattle.layout_layers.proofs.parts.put_turn.Tie as tie
 
 abbrev invariant-loop : tie.invariant-loop
 invariant-loop out₀ cycles turn layer total at number₀ c₀ out number c =
-    Spread (InBlock cycles turn c) (λ i. shownAs total (layer * cycles + i % cycles)) out₀ out × (c ≤ cycles) × (number ≡ layer * cycles + c)
+    Spread (InBlock cycles turn c) (λ i. shown_as total (layer * cycles + i % cycles)) out₀ out × (c ≤ cycles) × (number ≡ layer * cycles + c)
 
 abbrev decreases-loop : tie.decreases-loop
 decreases-loop out₀ cycles turn layer total at number₀ c₀ out number c = cycles - c
@@ -20,7 +20,7 @@ mul_at : tie.Need-overflow-mul-at invariant-loop decreases-loop
 mul_at c = omega (arith, c.before.requires.1)
 
 mul-number : tie.Need-overflow-mul-number invariant-loop decreases-loop
-mul-number c = let start = c.before in omega (arith, start.requires.2, limit-fits start.args.total (search rules))
+mul-number c = let start = c.before in omega (arith, start.requires.2, limit_fits start.args.total (search rules))
 
 loop-holds : tie.Need-loop-init invariant-loop decreases-loop
 loop-holds c = (block_none c.before.args.cycles c.before.args.turn _ _, omega arith, omega arith)
@@ -45,7 +45,7 @@ slice-write-out c =
 add-number : tie.Need-overflow-add-number invariant-loop decreases-loop
 add-number c =
     let start = c.before.before.before.before in
-    omega (arith, c.before.before.loop.invariant.2, start.requires.2, c.before.loop-test.true, limit-fits start.args.total (search rules))
+    omega (arith, c.before.before.loop.invariant.2, start.requires.2, c.before.loop-test.true, limit_fits start.args.total (search rules))
 
 add-c : tie.Need-overflow-add-c invariant-loop decreases-loop
 add-c c = omega arith
@@ -60,8 +60,8 @@ loop-again c =
     let more = c.before.loop-test.true in (
       block_more start.args.cycles start.args.turn _ loop.c _ more (omega (arith, start.requires.1, more, loop.invariant.0.kept))
           (c.shown.ensures
-          ∙ ap (shownAs start.args.total)
-          (loop.invariant.2 ∙ block-number start.args.cycles (start.args.layer * start.args.cycles) start.args.turn loop.c more))
+          ∙ ap (shown_as start.args.total)
+          (loop.invariant.2 ∙ block_number start.args.cycles (start.args.layer * start.args.cycles) start.args.turn loop.c more))
           loop.invariant.0,
       omega (arith, more),
       omega (arith, loop.invariant.2),
@@ -73,7 +73,7 @@ same_length c = c.before.loop.invariant.0.kept
 returns : tie.Need-returns invariant-loop decreases-loop
 returns c =
     let start = c.before.before.before in
-    block-whole start.args.cycles start.args.turn _ c.before.loop.c start.requires.0 c.loop-test.false c.before.loop.invariant.0
+    block_whole start.args.cycles start.args.turn _ c.before.loop.c start.requires.0 c.loop-test.false c.before.loop.invariant.0
 
 pub put-turn-spec : {M : Type 1} → statement M
 put-turn-spec =

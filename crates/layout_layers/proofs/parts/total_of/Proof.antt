@@ -2,7 +2,7 @@
 use Prim.Native.Nat.{ℕ, ◌*◌}
 use mathlib.Core.Path.{ap, ◌∙◌}
 use native.Mathlib.Omega.{arith}
-use Rattle.layout_layers.proofs.PlanLaws.{count-alternates, count-listed}
+use Rattle.layout_layers.proofs.PlanLaws.{count_alternates, count_listed}
 use borrow.Author.Rules.{rules}
 use Rattle.layout_layers.proofs.parts.total_of.Statement.{statement}
 use Rattle.layout_layers.proofs.parts.total_of.Tie as tie
@@ -10,12 +10,12 @@ use Rattle.layout_layers.proofs.parts.total_of.Tie as tie
 mul-result : tie.Need-overflow-mul-result
 mul-result c =
     let start = c.before.before.before in
-    omega (arith, start.requires.layers-fit, ap (λ (k : ℕ). k * start.args.plan.chain.num_cycles) (count-alternates start.args.plan c.before.if1.true))
+    omega (arith, start.requires.layers_fit, ap (λ (k : ℕ). k * start.args.plan.chain.num_cycles) (count_alternates start.args.plan c.before.if1.true))
 
 returns : tie.Need-returns
 returns c =
     let start = c.before.before.before in
-    ap (λ (k : ℕ). k * start.args.plan.chain.num_cycles) (count-alternates start.args.plan c.before.if1.true)
+    ap (λ (k : ℕ). k * start.args.plan.chain.num_cycles) (count_alternates start.args.plan c.before.if1.true)
 
 count-sizes-requires : tie.Need-count-sizes-requires
 count-sizes-requires c κs = search rules
@@ -28,8 +28,8 @@ mul-result-2 c =
     let start = c.before.before.before.before.before in
     omega (
       arith,
-      start.requires.layers-fit,
-      ap (λ (k : ℕ). k * start.args.plan.chain.num_cycles) (c.before.count-sizes.ensures ∙ count-listed start.args.plan c.before.before.before.if1.false),
+      start.requires.layers_fit,
+      ap (λ (k : ℕ). k * start.args.plan.chain.num_cycles) (c.before.count-sizes.ensures ∙ count_listed start.args.plan c.before.before.before.if1.false),
     )
 
 cast-result-2 : tie.Need-overflow-cast-result-2
@@ -37,14 +37,14 @@ cast-result-2 c =
     let start = c.before.before.before.before.before in
     omega (
       arith,
-      start.requires.layers-fit,
-      ap (λ (k : ℕ). k * start.args.plan.chain.num_cycles) (c.before.count-sizes.ensures ∙ count-listed start.args.plan c.before.before.before.if1.false),
+      start.requires.layers_fit,
+      ap (λ (k : ℕ). k * start.args.plan.chain.num_cycles) (c.before.count-sizes.ensures ∙ count_listed start.args.plan c.before.before.before.if1.false),
     )
 
 returns-2 : tie.Need-returns-2
 returns-2 c =
     let start = c.before.before.before.before.before in
-    ap (λ (k : ℕ). k * start.args.plan.chain.num_cycles) (c.before.count-sizes.ensures ∙ count-listed start.args.plan c.before.before.before.if1.false)
+    ap (λ (k : ℕ). k * start.args.plan.chain.num_cycles) (c.before.count-sizes.ensures ∙ count_listed start.args.plan c.before.before.before.if1.false)
 
 pub total-of-spec : {M : Type 1} → statement M
 total-of-spec =

@@ -1,9 +1,9 @@
 -- Questions 1 to 4 and 18, then 10 of either list and the entries.
 use mathlib.Core.Path.{sym, ap, ◌∙◌}
 use borrow.Author.Rules.{rules}
-use Rattle.layout.specs.Parts.{foundOutcome}
-use Rattle.layout.proofs.Calls.{laid_of, ready-given}
-use Rattle.layout_order.proofs.Ordering.{call-refused, call-given}
+use Rattle.layout.specs.Parts.{found_outcome}
+use Rattle.layout.proofs.Calls.{laid_of, ready_given}
+use Rattle.layout_order.proofs.Ordering.{call_refused, call_given}
 use Rattle.layout_order.proofs.parts.order.Statement.{statement}
 use Rattle.layout_order.proofs.parts.order.Tie as tie
 
@@ -17,13 +17,13 @@ enum-known-found : tie.Need-enum-known-found
 enum-known-found c = search rules
 
 prepare-requires : tie.Need-prepare-requires
-prepare-requires c κs = laid_of _ _ (sym (ap foundOutcome c.before.found.given.1) ∙ c.before.before.before.ask.ensures)
+prepare-requires c κs = laid_of _ _ (sym (ap found_outcome c.before.found.given.1) ∙ c.before.before.before.ask.ensures)
 
 write-order-requires : tie.Need-write-order-requires
 write-order-requires c κs = search rules
 
 returns : tie.Need-returns
-returns c = call-refused _ _ _ _ _ (sym (ap foundOutcome c.before.q.given.1) ∙ c.before.before.before.ask.ensures)
+returns c = call_refused _ _ _ _ _ (sym (ap found_outcome c.before.q.given.1) ∙ c.before.before.before.ask.ensures)
 
 same_length : tie.Need-same-length
 same_length c = search rules
@@ -31,9 +31,9 @@ same_length c = search rules
 returns-2 : tie.Need-returns-2
 returns-2 c =
     let found = c.before.before.before.before.before in
-    let e = sym (ap foundOutcome found.before.found.given.1) ∙ found.before.before.before.ask.ensures in
+    let e = sym (ap found_outcome found.before.found.given.1) ∙ found.before.before.before.ask.ensures in
     let prepared = c.before.before.before.before.prepare in
-    call-given _ _ _ _ _ (ready-given _ _ e prepared.result prepared.ensures.1) c.before.before.write-order.ensures
+    call_given _ _ _ _ _ (ready_given _ _ e prepared.result prepared.ensures.1) c.before.before.write-order.ensures
 
 pub order-spec : {M : Type 1} → statement M
 order-spec =

@@ -7,7 +7,7 @@ use native.Mathlib.Omega.{arith}
 use Rattle.text.specs.Writing.{Wrote}
 use Rattle.math.specs.Passing.{run}
 use Rattle.math.proofs.Passing.{length_run}
-use Rattle.layout_reach.proofs.Spans.{run-start, run_step}
+use Rattle.layout_reach.proofs.Spans.{run_start, run_step}
 use Rattle.layout_reach.proofs.parts.put_run.Statement.{statement}
 use Rattle.layout_reach.proofs.parts.put_run.Tie as tie
 
@@ -19,7 +19,7 @@ abbrev decreases-loop : tie.decreases-loop
 decreases-loop out₀ at from to key₀ place₀ out key place = to - key
 
 loop-holds : tie.Need-loop-init invariant-loop decreases-loop
-loop-holds c = (run-start _ _ _, omega arith, omega arith, c.requires.1, refl)
+loop-holds c = (run_start _ _ _, omega arith, omega arith, c.requires.1, refl)
 
 mul-out : tie.Need-overflow-mul-out invariant-loop decreases-loop
 mul-out c = omega (arith, length_run c.before.before.args.from (c.before.before.args.to - c.before.before.args.from))

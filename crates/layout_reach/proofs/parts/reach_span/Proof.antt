@@ -1,5 +1,5 @@
 -- One law for each way in which it ends.
-use Rattle.layout_reach.proofs.Spans.{span-all, span-low, span-high, span-inside}
+use Rattle.layout_reach.proofs.Spans.{span_all, span_low, span_high, span_inside}
 use borrow.Author.Rules.{rules}
 use Rattle.layout_reach.proofs.parts.reach_span.Statement.{statement}
 use Rattle.layout_reach.proofs.parts.reach_span.Tie as tie
@@ -11,7 +11,7 @@ add-if1 : tie.Need-overflow-add-if1
 add-if1 c = search rules
 
 returns : tie.Need-returns
-returns c = span-all _ _ _ c.before.requires c.if1.true
+returns c = span_all _ _ _ c.before.requires c.if1.true
 
 add-t9 : tie.Need-overflow-add-t9
 add-t9 c = search rules
@@ -26,7 +26,7 @@ sub-t12 : tie.Need-overflow-sub-t12
 sub-t12 c = search rules
 
 returns-2 : tie.Need-returns-2
-returns-2 c = span-low _ _ _ c.before.before.requires c.before.if1.false c.if2.true
+returns-2 c = span_low _ _ _ c.before.before.requires c.before.if1.false c.if2.true
 
 sub-if3 : tie.Need-overflow-sub-if3
 sub-if3 c = search rules
@@ -41,7 +41,7 @@ sub-t16 : tie.Need-overflow-sub-t16
 sub-t16 c = search rules
 
 returns-3 : tie.Need-returns-3
-returns-3 c = span-high _ _ _ c.before.before.before.requires c.before.before.if1.false c.before.if2.false c.if3.true
+returns-3 c = span_high _ _ _ c.before.before.before.requires c.before.before.if1.false c.before.if2.false c.if3.true
 
 add-t18 : tie.Need-overflow-add-t18
 add-t18 c = search rules
@@ -50,7 +50,7 @@ add-t19 : tie.Need-overflow-add-t19
 add-t19 c = search rules
 
 returns-4 : tie.Need-returns-4
-returns-4 c = span-inside _ _ _ c.before.before.before.requires c.before.before.if1.false c.before.if2.false c.if3.false
+returns-4 c = span_inside _ _ _ c.before.before.before.requires c.before.before.if1.false c.before.if2.false c.if3.false
 
 pub reach-span-spec : {M : Type 1} → statement M
 reach-span-spec =

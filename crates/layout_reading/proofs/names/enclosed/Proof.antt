@@ -1,7 +1,7 @@
 -- The parentheses, the stars, then what stands between.
 use native.Mathlib.Omega.{arith}
-use Rattle.layout_reading.proofs.Texts.{behind-front}
-use Rattle.layout_reading.proofs.Calls.{unclosed, unopened, not-all-stars, opened}
+use Rattle.layout_reading.proofs.Texts.{behind_front}
+use Rattle.layout_reading.proofs.Calls.{unclosed, unopened, not_all_stars, opened}
 use borrow.Author.Rules.{rules}
 use Rattle.layout_reading.proofs.names.enclosed.Statement.{statement}
 use Rattle.layout_reading.proofs.names.enclosed.Tie as tie
@@ -28,13 +28,13 @@ add-if3 : tie.Need-overflow-add-if3
 add-if3 c = search rules
 
 returns-3 : tie.Need-returns-3
-returns-3 c = not-all-stars _ _ _ c.before.before.before.before.before.bytes-before.ensures c.before.before.before.before.if1.false _ c.before.run.ensures c.if3.true
+returns-3 c = not_all_stars _ _ _ c.before.before.before.before.before.bytes-before.ensures c.before.before.before.before.if1.false _ c.before.run.ensures c.if3.true
 
 sub-slashed : tie.Need-overflow-sub-slashed
-sub-slashed c = omega (arith, behind-front _ _ _ c.before.before.before.before.before.bytes-before.ensures c.before.before.before.before.if1.false _ c.before.before.if2.false (λ e. omega arith))
+sub-slashed c = omega (arith, behind_front _ _ _ c.before.before.before.before.before.bytes-before.ensures c.before.before.before.before.if1.false _ c.before.before.if2.false (λ e. omega arith))
 
 part-slashed-start : tie.Need-slice-bounds-slashed-start
-part-slashed-start c = omega (arith, behind-front _ _ _ c.before.before.before.before.before.bytes-before.ensures c.before.before.before.before.if1.false _ c.before.before.if2.false (λ e. omega arith))
+part-slashed-start c = omega (arith, behind_front _ _ _ c.before.before.before.before.before.bytes-before.ensures c.before.before.before.before.if1.false _ c.before.before.if2.false (λ e. omega arith))
 
 part-slashed-end : tie.Need-slice-bounds-slashed-end
 part-slashed-end c = search rules

@@ -1,7 +1,7 @@
 -- Two spellings where there is a slash, else one.
 use mathlib.Core.Path.{sym, ap, ◌∙◌}
-use Rattle.layout_reading.specs.Answers.{spellingOutcome}
-use Rattle.layout_reading.proofs.Calls.{find-enclosed, find-slashed, find-refused, find-single}
+use Rattle.layout_reading.specs.Answers.{spelling_outcome}
+use Rattle.layout_reading.proofs.Calls.{find_enclosed, find_slashed, find_refused, find_single}
 use borrow.Author.Rules.{rules}
 use Rattle.layout_reading.proofs.names.find.Statement.{statement}
 use Rattle.layout_reading.proofs.names.find.Tie as tie
@@ -13,13 +13,13 @@ enclosed-requires : tie.Need-enclosed-requires
 enclosed-requires c κs = search rules
 
 returns : tie.Need-returns
-returns c = find-enclosed _ _ _ c.before.before.before.bytes-before.ensures c.before.before.if1.true _ c.before.before.before.before.before.requires.cycles-are _ c.before.if2.true c.enclosed.ensures
+returns c = find_enclosed _ _ _ c.before.before.before.bytes-before.ensures c.before.before.if1.true _ c.before.before.before.before.before.requires.cycles_are _ c.before.if2.true c.enclosed.ensures
 
 slashed-requires : tie.Need-slashed-requires
 slashed-requires c κs = search rules
 
 returns-2 : tie.Need-returns-2
-returns-2 c = find-slashed _ _ _ c.before.before.before.bytes-before.ensures c.before.before.if1.true _ c.before.before.before.before.before.requires.cycles-are _ c.before.if2.false c.slashed.ensures
+returns-2 c = find_slashed _ _ _ c.before.before.before.bytes-before.ensures c.before.before.if1.true _ c.before.before.before.before.before.requires.cycles_are _ c.before.if2.false c.slashed.ensures
 
 read-requires : tie.Need-read-requires
 read-requires c κs = search rules
@@ -34,10 +34,10 @@ key-of-requires : tie.Need-key-of-requires
 key-of-requires c κs = search rules
 
 returns-3 : tie.Need-returns-3
-returns-3 c = find-refused _ _ _ c.before.before.before.before.before.bytes-before.ensures c.before.before.before.before.if1.false _ (sym (ap spellingOutcome c.before.q.given.1) ∙ c.before.before.before.read.ensures)
+returns-3 c = find_refused _ _ _ c.before.before.before.before.before.bytes-before.ensures c.before.before.before.before.if1.false _ (sym (ap spelling_outcome c.before.q.given.1) ∙ c.before.before.before.read.ensures)
 
 returns-4 : tie.Need-returns-4
-returns-4 c = find-single _ _ _ c.before.before.before.before.before.before.bytes-before.ensures c.before.before.before.before.before.if1.false _ (sym (ap spellingOutcome c.before.before.x.given.1) ∙ c.before.before.before.before.read.ensures) _ c.key_of.ensures
+returns-4 c = find_single _ _ _ c.before.before.before.before.before.before.bytes-before.ensures c.before.before.before.before.before.if1.false _ (sym (ap spelling_outcome c.before.before.x.given.1) ∙ c.before.before.before.before.read.ensures) _ c.key_of.ensures
 
 pub find_spec : {M : Type 1} → statement M
 find_spec =

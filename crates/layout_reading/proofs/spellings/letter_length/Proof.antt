@@ -1,13 +1,13 @@
 -- One byte below 128, else two.
-use Rattle.notes.proofs.Utf8.{letter-one, letter-two}
+use Rattle.notes.proofs.Utf8.{letter_one, letter_two}
 use Rattle.layout_reading.proofs.spellings.letter_length.Statement.{statement}
 use Rattle.layout_reading.proofs.spellings.letter_length.Tie as tie
 
 returns : tie.Need-returns
-returns c = rw (letter-one _ c.if1.true)
+returns c = rw (letter_one _ c.if1.true)
 
 returns-2 : tie.Need-returns-2
-returns-2 c = rw (letter-two _ c.if1.false)
+returns-2 c = rw (letter_two _ c.if1.false)
 
 pub letter-length-spec : {M : Type 1} → statement M
 letter-length-spec = tie.close (tie.spec returns returns-2)

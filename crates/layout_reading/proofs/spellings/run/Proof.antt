@@ -2,7 +2,7 @@
 use Prim.Native.Nat.{◌-◌}
 use native.Mathlib.Omega.{arith}
 use lib.ListN.{length}
-use Rattle.layout_reading.proofs.Texts.{Running, running-start, running_more, run-stops, run_ends}
+use Rattle.layout_reading.proofs.Texts.{Running, running_start, running_more, run_stops, run_ends}
 use Rattle.layout_reading.proofs.spellings.run.Statement.{statement}
 use Rattle.layout_reading.proofs.spellings.run.Tie as tie
 
@@ -13,7 +13,7 @@ abbrev decreases-loop : tie.decreases-loop
 decreases-loop text at byte place₀ place = length text - place
 
 loop-holds : tie.Need-loop-init invariant-loop decreases-loop
-loop-holds c = running-start _ _ _ c.requires
+loop-holds c = running_start _ _ _ c.requires
 
 shared-slice-read-if1 : tie.Need-shared-slice-read-if1 invariant-loop decreases-loop
 shared-slice-read-if1 c = omega arith
@@ -22,7 +22,7 @@ sub-result : tie.Need-overflow-sub-result invariant-loop decreases-loop
 sub-result c = omega arith
 
 returns : tie.Need-returns invariant-loop decreases-loop
-returns c = run-stops _ _ _ _ c.before.before.before.loop.invariant c.before.before.loop-test.true c.if1.true
+returns c = run_stops _ _ _ _ c.before.before.before.loop.invariant c.before.before.loop-test.true c.if1.true
 
 add-place : tie.Need-overflow-add-place invariant-loop decreases-loop
 add-place c = omega arith

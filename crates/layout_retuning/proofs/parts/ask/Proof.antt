@@ -1,8 +1,8 @@
 -- The first layout's questions, then the second's.
 use mathlib.Core.Path.{sym, ap, ◌∙◌}
-use Rattle.layout.specs.Parts.{foundOutcome}
-use Rattle.layout.specs.Layouts.{layoutOutcome}
-use Rattle.layout_retuning.proofs.BothLayouts.{refused-first, refused-second, both_found}
+use Rattle.layout.specs.Parts.{found_outcome}
+use Rattle.layout.specs.Layouts.{layout_outcome}
+use Rattle.layout_retuning.proofs.BothLayouts.{refused_first, refused_second, both_found}
 use borrow.Author.Rules.{rules}
 use Rattle.layout_retuning.proofs.parts.ask.Statement.{statement}
 use Rattle.layout_retuning.proofs.parts.ask.Tie as tie
@@ -34,23 +34,23 @@ enum-known-other c = search rules
 returns : tie.Need-returns
 returns c =
     let asked = c.before.before.before in
-    refused-first _ _ (sym (ap foundOutcome c.before.q.given.1) ∙ asked.ask.ensures ∙ ap layoutOutcome asked.before.layout-at.ensures)
+    refused_first _ _ (sym (ap found_outcome c.before.q.given.1) ∙ asked.ask.ensures ∙ ap layout_outcome asked.before.layout-at.ensures)
 
 returns-2 : tie.Need-returns-2
 returns-2 c =
     let asked = c.before.before.before.before.before.before.before.before in
     let again = c.before.before.before in
-    refused-second _ _
-    (sym (ap foundOutcome c.before.before.before.before.before.before.one.given.1) ∙ asked.ask.ensures ∙ ap layoutOutcome asked.before.layout-at.ensures)
-    _ (sym (ap foundOutcome c.before.q2.given.1) ∙ again.ask2.ensures ∙ ap layoutOutcome again.before.layout-at2.ensures)
+    refused_second _ _
+    (sym (ap found_outcome c.before.before.before.before.before.before.one.given.1) ∙ asked.ask.ensures ∙ ap layout_outcome asked.before.layout-at.ensures)
+    _ (sym (ap found_outcome c.before.q2.given.1) ∙ again.ask2.ensures ∙ ap layout_outcome again.before.layout-at2.ensures)
 
 returns-3 : tie.Need-returns-3
 returns-3 c =
     let asked = c.before.before.before.before.before.before.before.before in
     let again = c.before.before.before in
     both_found _ _
-    (sym (ap foundOutcome c.before.before.before.before.before.before.one.given.1) ∙ asked.ask.ensures ∙ ap layoutOutcome asked.before.layout-at.ensures)
-    _ (sym (ap foundOutcome c.before.other.given.1) ∙ again.ask2.ensures ∙ ap layoutOutcome again.before.layout-at2.ensures)
+    (sym (ap found_outcome c.before.before.before.before.before.before.one.given.1) ∙ asked.ask.ensures ∙ ap layout_outcome asked.before.layout-at.ensures)
+    _ (sym (ap found_outcome c.before.other.given.1) ∙ again.ask2.ensures ∙ ap layout_outcome again.before.layout-at2.ensures)
 
 pub ask-spec : {M : Type 1} → statement M
 ask-spec =

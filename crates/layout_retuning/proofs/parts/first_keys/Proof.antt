@@ -1,6 +1,6 @@
 -- The place is that of the first entry.
 use borrow.Author.Rules.{rules}
-use Rattle.layout_retuning.proofs.Strides.{first-keys}
+use Rattle.layout_retuning.proofs.Strides.{first_keys}
 use Rattle.layout_retuning.proofs.parts.first_keys.Statement.{statement}
 use Rattle.layout_retuning.proofs.parts.first_keys.Tie as tie
 
@@ -20,7 +20,7 @@ keys-at-requires : tie.Need-keys-at-requires
 keys-at-requires c κs = search rules
 
 returns : tie.Need-returns
-returns c = first-keys _ _ c.keys-at.ensures
+returns c = first_keys _ _ c.keys-at.ensures
 
 pub first-keys-spec : {M : Type 1} → statement M
 first-keys-spec = tie.close (tie.spec cast-t3 mul-t4 cast-t5 add-t6 keys-at-requires returns)

@@ -1,6 +1,6 @@
 -- Both tunings sound the place.
 use borrow.Author.Rules.{rules}
-use Rattle.layout_retuning.proofs.Strides.{keys-are}
+use Rattle.layout_retuning.proofs.Strides.{keys_are}
 use Rattle.layout_retuning.proofs.parts.keys_at.Statement.{statement}
 use Rattle.layout_retuning.proofs.parts.keys_at.Tie as tie
 
@@ -11,7 +11,7 @@ sounded-requires-2 : tie.Need-sounded-requires-2
 sounded-requires-2 c κs = search rules
 
 returns : tie.Need-returns
-returns c = keys-are _ _ _ _ _ c.before.sounded.ensures c.sounded2.ensures
+returns c = keys_are _ _ _ _ _ c.before.sounded.ensures c.sounded2.ensures
 
 pub keys-at-spec : {M : Type 1} → statement M
 keys-at-spec = tie.close (tie.spec sounded-requires sounded-requires-2 returns)

@@ -4,15 +4,15 @@ use mathlib.Core.Path.{◌≡◌}
 use native.Mathlib.Omega.{arith}
 use borrow.Author.Rules.{rules}
 use Rattle.layout_retuning.specs.Retunings.{largest}
-use Rattle.layout_retuning.specs.Parts.{tableBy, tableKeys}
-use Rattle.layout_retuning.proofs.Largest.{largest-start, largest_step, largest-end}
-use Rattle.layout_retuning.proofs.Strides.{table-keys-below, entry-is}
+use Rattle.layout_retuning.specs.Parts.{table_by, table_keys}
+use Rattle.layout_retuning.proofs.Largest.{largest_start, largest_step, largest_end}
+use Rattle.layout_retuning.proofs.Strides.{table_keys_below, entry_is}
 use Rattle.layout_retuning.proofs.parts.largest_in.Statement.{statement}
 use Rattle.layout_retuning.proofs.parts.largest_in.Tie as tie
 
 abbrev invariant-loop : tie.invariant-loop
 invariant-loop tunings count strides keys₀ most₀ entry₀ keys most entry =
-    (most ≡ largest (tableBy tunings entry)) × (entry ≤ count) × (keys ≡ tableKeys tunings entry)
+    (most ≡ largest (table_by tunings entry)) × (entry ≤ count) × (keys ≡ table_keys tunings entry)
 
 abbrev decreases-loop : tie.decreases-loop
 decreases-loop tunings count strides keys₀ most₀ entry₀ keys most entry = count - entry
@@ -27,11 +27,11 @@ first-keys-requires : tie.Need-first-keys-requires invariant-loop decreases-loop
 first-keys-requires c κs = search rules
 
 loop-holds : tie.Need-loop-init invariant-loop decreases-loop
-loop-holds c = (largest-start _, omega arith, c.first-keys.ensures)
+loop-holds c = (largest_start _, omega arith, c.first_keys.ensures)
 
 distance-requires : tie.Need-distance-requires invariant-loop decreases-loop
 distance-requires c κs =
-    table-keys-below _ c.before.before.before.before.before.requires.positive _ _ c.before.loop.invariant.2
+    table_keys_below _ c.before.before.before.before.before.requires.positive _ _ c.before.loop.invariant.2
 
 larger-requires : tie.Need-larger-requires invariant-loop decreases-loop
 larger-requires c κs = search rules
@@ -47,7 +47,7 @@ loop-less c = omega arith
 
 loop-again : tie.Need-loop-preserved invariant-loop decreases-loop
 loop-again c = (
-  largest_step _ _ _ _ _ (entry-is _ _ _ _ c.before.before.before.before.loop.invariant.2 c.before.before.distance.ensures)
+  largest_step _ _ _ _ _ (entry_is _ _ _ _ c.before.before.before.before.loop.invariant.2 c.before.before.distance.ensures)
       c.before.before.before.before.loop.invariant.0 c.before.larger.ensures,
   omega arith,
   c.next_keys.ensures,
@@ -55,7 +55,7 @@ loop-again c = (
 
 returns : tie.Need-returns invariant-loop decreases-loop
 returns c =
-    largest-end _ _ _ _ c.loop-test.false c.before.loop.invariant.1 c.before.before.before.before.entries.ensures
+    largest_end _ _ _ _ c.loop-test.false c.before.loop.invariant.1 c.before.before.before.before.entries.ensures
     c.before.loop.invariant.0
 
 pub largest-in-spec : {M : Type 1} → statement M

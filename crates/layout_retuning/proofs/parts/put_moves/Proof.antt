@@ -6,18 +6,18 @@ use native.Mathlib.Nat.{le_antisymm}
 use native.Mathlib.Omega.{arith}
 use borrow.Author.Rules.{rules}
 use Rattle.text.specs.Writing.{Wrote}
-use Rattle.layout_retuning.specs.Parts.{tableBy, tableKeys}
-use Rattle.layout_retuning.proofs.Tables.{table-start, table_step}
-use Rattle.layout_retuning.proofs.Strides.{table-keys-below, entry-is}
+use Rattle.layout_retuning.specs.Parts.{table_by, table_keys}
+use Rattle.layout_retuning.proofs.Tables.{table_start, table_step}
+use Rattle.layout_retuning.proofs.Strides.{table_keys_below, entry_is}
 use Rattle.layout_retuning.proofs.parts.put_moves.Statement.{statement}
 use Rattle.layout_retuning.proofs.parts.put_moves.Tie as tie
 
 abbrev invariant-loop : tie.invariant-loop
 invariant-loop out₀ tunings count strides keys₀ entry₀ out keys entry =
-    Wrote out₀ 0 (tableBy tunings entry) out entry
+    Wrote out₀ 0 (table_by tunings entry) out entry
     × (entry ≤ count)
     × (length out ≡ length out₀)
-    × (keys ≡ tableKeys tunings entry)
+    × (keys ≡ table_keys tunings entry)
 
 abbrev decreases-loop : tie.decreases-loop
 decreases-loop out₀ tunings count strides keys₀ entry₀ out keys entry = count - entry
@@ -29,10 +29,10 @@ first-keys-requires : tie.Need-first-keys-requires invariant-loop decreases-loop
 first-keys-requires c κs = search rules
 
 loop-holds : tie.Need-loop-init invariant-loop decreases-loop
-loop-holds c = (table-start _ _, omega arith, refl, c.first-keys.ensures)
+loop-holds c = (table_start _ _, omega arith, refl, c.first_keys.ensures)
 
 distance-requires : tie.Need-distance-requires invariant-loop decreases-loop
-distance-requires c κs = table-keys-below _ c.before.before.before.before.before.requires.0.positive _ _ c.before.loop.invariant.3
+distance-requires c κs = table_keys_below _ c.before.before.before.before.before.requires.0.positive _ _ c.before.loop.invariant.3
 
 cast-out : tie.Need-overflow-cast-out invariant-loop decreases-loop
 cast-out c = omega arith
@@ -54,7 +54,7 @@ loop-less c = omega arith
 
 loop-again : tie.Need-loop-preserved invariant-loop decreases-loop
 loop-again c = (
-  table_step _ _ _ (entry-is _ _ _ _ c.before.before.before.loop.invariant.3 c.before.distance.ensures)
+  table_step _ _ _ (entry_is _ _ _ _ c.before.before.before.loop.invariant.3 c.before.distance.ensures)
       c.before.before.before.loop.invariant.0,
   omega arith,
   simp length-set (omega arith),

@@ -4,8 +4,8 @@ use mathlib.Core.Path.{ap}
 use native.Mathlib.Nat.{mul-le-mul}
 use native.Mathlib.Omega.{arith}
 use lib.Dec.{leb}
-use Rattle.layout.specs.Parts.{layoutIn}
-use Rattle.layout_table.proofs.Fitting.{surely-held}
+use Rattle.layout.specs.Parts.{layout_in}
+use Rattle.layout_table.proofs.Fitting.{surely_held}
 use borrow.Author.Rules.{rules}
 use Rattle.layout_table.proofs.parts.has_room.Statement.{statement}
 use Rattle.layout_table.proofs.parts.has_room.Tie as tie
@@ -25,7 +25,7 @@ mul-if1 c =
 returns : tie.Need-returns
 returns c =
     let start = c.before.before in
-    surely-held (layoutIn start.args.prepared) start.requires.laid (search rules) _ c.if1.true
+    surely_held (layout_in start.args.prepared) start.requires.laid (search rules) _ c.if1.true
 
 lines-length-requires : tie.Need-lines-length-requires
 lines-length-requires c κs = search rules

@@ -2,9 +2,9 @@
 use mathlib.Core.Path.{ap}
 use native.Mathlib.Omega.{arith}
 use lib.ListN.{length}
-use Rattle.layout.specs.Parts.{layoutIn}
-use Rattle.layout_table.proofs.Lines.{length-lines}
-use Rattle.layout_table.proofs.Calls.{table-lines}
+use Rattle.layout.specs.Parts.{layout_in}
+use Rattle.layout_table.proofs.Lines.{length_lines}
+use Rattle.layout_table.proofs.Calls.{table_lines}
 use borrow.Author.Rules.{rules}
 use Rattle.layout_table.proofs.parts.lines_length.Statement.{statement}
 use Rattle.layout_table.proofs.parts.lines_length.Tie as tie
@@ -23,13 +23,13 @@ add-result c = search rules
 
 returns : tie.Need-returns
 returns c =
-    let l = layoutIn c.before.before.before.args.prepared in
+    let l = layout_in c.before.before.before.args.prepared in
     omega (
       arith,
-      c.before.names-length.ensures.length-is,
+      c.before.names_length.ensures.length_is,
       c.numbers-length.ensures.0,
-      length-lines l l.octave,
-      ap length (table-lines l),
+      length_lines l l.octave,
+      ap length (table_lines l),
     )
 
 pub lines-length-spec : {M : Type 1} → statement M

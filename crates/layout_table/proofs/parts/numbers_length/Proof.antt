@@ -5,12 +5,12 @@ use native.Mathlib.Nat.{le_antisymm}
 use native.Mathlib.Omega.{arith}
 use lib.ListN.{length}
 use Rattle.text.specs.Writing.{joined}
-use Rattle.text.proofs.Joined.{joined-none, length-joined-more}
+use Rattle.text.proofs.Joined.{joined_none, length_joined_more}
 use Rattle.pergen.specs.Parts.{At}
-use Rattle.layout.specs.Parts.{layoutIn}
-use Rattle.layout.proofs.Readiness.{ready-walkable}
-use Rattle.layout_table.specs.Parts.{numbersIn}
-use Rattle.layout_table.proofs.Lines.{length-numbers}
+use Rattle.layout.specs.Parts.{layout_in}
+use Rattle.layout.proofs.Readiness.{ready_walkable}
+use Rattle.layout_table.specs.Parts.{numbers_in}
+use Rattle.layout_table.proofs.Lines.{length_numbers}
 use borrow.Author.Rules.{rules}
 use Rattle.layout_table.proofs.parts.numbers_length.Statement.{statement}
 use Rattle.layout_table.proofs.parts.numbers_length.Tie as tie
@@ -18,7 +18,7 @@ use Rattle.layout_table.proofs.parts.numbers_length.Tie as tie
 abbrev invariant-loop : tie.invariant-loop
 invariant-loop prepared solved layers octave total₀ key₀ total key =
     At prepared.solved key
-    × (total ≡ length (joined (numbersIn (layoutIn prepared)) key.number))
+    × (total ≡ length (joined (numbers_in (layout_in prepared)) key.number))
     × (total ≤ 13 * key.number)
     × (key.number ≤ prepared.found.octave)
 
@@ -32,14 +32,14 @@ cast-octave : tie.Need-overflow-cast-octave invariant-loop decreases-loop
 cast-octave c = search rules
 
 first-requires : tie.Need-first-requires invariant-loop decreases-loop
-first-requires c κs = ready-walkable _ c.before.before.before.requires
+first-requires c κs = ready_walkable _ c.before.before.before.requires
 
 loop-holds : tie.Need-loop-init invariant-loop decreases-loop
 loop-holds c =
     let first = c.first.ensures in
-    let f = numbersIn (layoutIn c.before.before.before.before.args.prepared) in
+    let f = numbers_in (layout_in c.before.before.before.before.args.prepared) in
     let none : 0 ≡ length (joined f c.first.result.number)
-    = sym (ap length (joined-none f)) ∙ ap (λ (k : ℕ). length (joined f k)) (sym first.1) in
+    = sym (ap length (joined_none f)) ∙ ap (λ (k : ℕ). length (joined f k)) (sym first.1) in
     (first.0, none, omega (arith, first.1), omega (arith, first.1))
 
 lamp-of-requires : tie.Need-lamp-of-requires invariant-loop decreases-loop
@@ -68,7 +68,7 @@ add-total-3 c = omega (arith, c.before.before.before.before.before.before.loop.i
 next-requires : tie.Need-next-requires invariant-loop decreases-loop
 next-requires c κs =
     let l = c.before.before.before.before.before.before in
-    (ready-walkable _ l.before.before.before.before.before.requires, l.loop.invariant.0, omega (arith, l.loop.invariant.3))
+    (ready_walkable _ l.before.before.before.before.before.requires, l.loop.invariant.0, omega (arith, l.loop.invariant.3))
 
 loop-less : tie.Need-loop-smaller invariant-loop decreases-loop
 loop-less c = omega (arith, c.next.ensures.1, c.before.before.before.before.before.if1.true)
@@ -76,7 +76,7 @@ loop-less c = omega (arith, c.next.ensures.1, c.before.before.before.before.befo
 loop-again : tie.Need-loop-preserved invariant-loop decreases-loop
 loop-again c =
     let l = c.before.before.before.before.before.before.before in
-    let lay = layoutIn l.before.before.before.before.before.args.prepared in
+    let lay = layout_in l.before.before.before.before.before.args.prepared in
     let k = l.loop.key.number in
     let x = c.before.before.number-len.ensures in
     let y = c.before.number-len2.ensures in
@@ -85,11 +85,11 @@ loop-again c =
       omega (
         arith,
         l.loop.invariant.1,
-        x.is-length,
-        y.is-length,
-        length-joined-more (numbersIn lay) k,
-        length-numbers lay k _ c.before.before.before.before.lamp-of.ensures,
-        ap (λ (n : ℕ). length (joined (numbersIn lay) n)) on.1,
+        x.is_length,
+        y.is_length,
+        length_joined_more (numbers_in lay) k,
+        length_numbers lay k _ c.before.before.before.before.lamp-of.ensures,
+        ap (λ (n : ℕ). length (joined (numbers_in lay) n)) on.1,
       ),
       omega (arith, l.loop.invariant.2, x.few, y.few, on.1),
       omega (arith, on.1, c.before.before.before.before.before.if1.true),
@@ -98,7 +98,7 @@ loop-again c =
 returns : tie.Need-returns invariant-loop decreases-loop
 returns c =
     let l = c.before.before in
-    let f = numbersIn (layoutIn l.before.before.before.before.before.args.prepared) in
+    let f = numbers_in (layout_in l.before.before.before.before.before.args.prepared) in
     let all = le_antisymm l.loop.invariant.3 c.if1.false in
     (l.loop.invariant.1 ∙ ap (λ (k : ℕ). length (joined f k)) all, omega (arith, l.loop.invariant.2, all))
 

@@ -4,14 +4,14 @@ use mathlib.Core.Path.{◌≡◌, refl, sym, ap, ◌∙◌}
 use native.Mathlib.Omega.{arith}
 use lib.ListN.{length}
 use Rattle.text.specs.Writing.{Wrote, joined}
-use Rattle.text.proofs.Writing.{wrote_as, wrote-length}
-use Rattle.text.proofs.Joined.{joined-start, joined_step, joined-room}
+use Rattle.text.proofs.Writing.{wrote_as, wrote_length}
+use Rattle.text.proofs.Joined.{joined_start, joined_step, joined_room}
 use Rattle.pergen.specs.Parts.{At}
-use Rattle.layout.specs.Parts.{layoutIn}
-use Rattle.layout.proofs.Readiness.{parts-ready, ready-walkable, found-twice, planned-text}
-use Rattle.layout_table.specs.Tables.{lineIn}
-use Rattle.layout_table.specs.Parts.{lineFrom}
-use Rattle.layout_table.proofs.Lines.{line-is}
+use Rattle.layout.specs.Parts.{layout_in}
+use Rattle.layout.proofs.Readiness.{parts_ready, ready_walkable, found_twice, planned_text}
+use Rattle.layout_table.specs.Tables.{line_in}
+use Rattle.layout_table.specs.Parts.{line_from}
+use Rattle.layout_table.proofs.Lines.{line_is}
 use borrow.Author.Rules.{rules}
 use Rattle.layout_table.proofs.parts.put_lines.Statement.{statement}
 use Rattle.layout_table.proofs.parts.put_lines.Tie as tie
@@ -19,7 +19,7 @@ use Rattle.layout_table.proofs.parts.put_lines.Tie as tie
 abbrev invariant-loop : tie.invariant-loop
 invariant-loop out₀ prepared from count solved row layers end place₀ key₀ out place key =
     At prepared.solved key
-    × Wrote out₀ 0 (joined (lineFrom (layoutIn prepared) from) (key.number - from)) out place
+    × Wrote out₀ 0 (joined (line_from (layout_in prepared) from) (key.number - from)) out place
     × (from ≤ key.number)
     × (key.number ≤ from + count)
     × (length out ≡ length out₀)
@@ -40,7 +40,7 @@ add-end c = search rules
 key-at-requires : tie.Need-key-at-requires invariant-loop decreases-loop
 key-at-requires c κs =
     let start = c.before.before.before.before in
-    found-twice _ start.requires.0 start.args.from (omega (arith, start.requires.1, (parts-ready _ start.requires.0).positive))
+    found_twice _ start.requires.0 start.args.from (omega (arith, start.requires.1, (parts_ready _ start.requires.0).positive))
 
 loop-holds : tie.Need-loop-init invariant-loop decreases-loop
 loop-holds c =
@@ -48,7 +48,7 @@ loop-holds c =
     let found = c.key-at.ensures in (
       found.0,
       wrote_as (ap (joined _) (let e : 0 ≡ c.key-at.result.number - start.args.from = omega (arith, found.1) in e))
-          (joined-start _ start.args.out.now 0),
+          (joined_start _ start.args.out.now 0),
       omega (arith, found.1),
       omega (arith, found.1),
       refl,
@@ -65,7 +65,7 @@ lamp-of-requires : tie.Need-lamp-of-requires invariant-loop decreases-loop
 lamp-of-requires c κs =
     let l = c.before.before.before in
     let start = l.before.before.before.before.before.before in
-    (start.requires.0, l.before.before.total_of.ensures, l.loop.invariant.0, omega (arith, l.loop.invariant.3, start.requires.1, (parts-ready _ start.requires.0).positive))
+    (start.requires.0, l.before.before.total_of.ensures, l.loop.invariant.0, omega (arith, l.loop.invariant.3, start.requires.1, (parts_ready _ start.requires.0).positive))
 
 cast-put-line : tie.Need-overflow-cast-put-line invariant-loop decreases-loop
 cast-put-line c =
@@ -76,21 +76,21 @@ put-line-requires : tie.Need-put-line-requires invariant-loop decreases-loop
 put-line-requires c κs =
     let l = c.before.before.before.before.before.before in
     let start = l.before.before.before.before.before.before in
-    let lay = layoutIn start.args.prepared in
+    let lay = layout_in start.args.prepared in
     let from = start.args.from in
     let key = l.loop.key in
-    let name = planned-text start.args.prepared key _ c.before.before.before.plan-name.ensures in
+    let name = planned_text start.args.prepared key _ c.before.before.before.plan-name.ensures in
     let past = key.number - from in
     let here : from + past ≡ key.number = omega (arith, l.loop.invariant.2) in
-    let e = ap length (line-is lay key.number _ _ name c.before.before.lamp-of.ensures ∙ ap (lineIn lay) (sym here)) in
-    let r = joined-room (lineFrom lay from) past start.args.count (omega (arith, c.before.before.before.before.if1.true, l.loop.invariant.2)) l.loop.invariant.1 start.requires.2 in
+    let e = ap length (line_is lay key.number _ _ name c.before.before.lamp-of.ensures ∙ ap (line_in lay) (sym here)) in
+    let r = joined_room (line_from lay from) past start.args.count (omega (arith, c.before.before.before.before.if1.true, l.loop.invariant.2)) l.loop.invariant.1 start.requires.2 in
     (c.before.before.before.plan-name.ensures.short, omega (arith, e, r))
 
 next-requires : tie.Need-next-requires invariant-loop decreases-loop
 next-requires c κs =
     let l = c.before.before.before.before.before.before.before.before.before in
     let start = l.before.before.before.before.before.before in
-    (ready-walkable _ start.requires.0, l.loop.invariant.0, omega (arith, l.loop.invariant.3, start.requires.1))
+    (ready_walkable _ start.requires.0, l.loop.invariant.0, omega (arith, l.loop.invariant.3, start.requires.1))
 
 loop-less : tie.Need-loop-smaller invariant-loop decreases-loop
 loop-less c = omega (arith, c.next.ensures.1, c.before.before.before.before.before.before.before.before.if1.true)
@@ -100,20 +100,20 @@ loop-again c =
     let p = c.before.before.before in
     let l = c.before.before.before.before.before.before.before.before.before.before in
     let start = l.before.before.before.before.before.before in
-    let lay = layoutIn start.args.prepared in
+    let lay = layout_in start.args.prepared in
     let from = start.args.from in
     let key = l.loop.key in
-    let name = planned-text start.args.prepared key _ c.before.before.before.before.before.before.before.plan-name.ensures in
+    let name = planned_text start.args.prepared key _ c.before.before.before.before.before.before.before.plan-name.ensures in
     let past = key.number - from in
     let here : from + past ≡ key.number = omega (arith, l.loop.invariant.2) in
-    let w = wrote_as (line-is lay key.number _ _ name c.before.before.before.before.before.before.lamp-of.ensures ∙ ap (lineIn lay) (sym here)) p.put-line.ensures in
+    let w = wrote_as (line_is lay key.number _ _ name c.before.before.before.before.before.before.lamp-of.ensures ∙ ap (line_in lay) (sym here)) p.put-line.ensures in
     let on = c.next.ensures in (
       on.0,
       wrote_as (ap (joined _) (let e : past + 1 ≡ c.next.result.number - from = omega (arith, on.1, l.loop.invariant.2) in e))
           (joined_step _ _ l.loop.invariant.1 w),
       omega (arith, on.1, l.loop.invariant.2),
       omega (arith, on.1, c.before.before.before.before.before.before.before.before.if1.true),
-      wrote-length w ∙ l.loop.invariant.4,
+      wrote_length w ∙ l.loop.invariant.4,
       l.loop.invariant.5,
     )
 

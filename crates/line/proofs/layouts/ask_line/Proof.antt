@@ -1,8 +1,8 @@
 -- Question 14, then those of the layout.
 use mathlib.Core.Path.{sym, ap, ◌∙◌}
-use Rattle.line.specs.Lines.{lineAnswered}
-use Rattle.layout.specs.Layouts.{layoutOutcome}
-use Rattle.line.proofs.AskedLayouts.{line-not-read, line_read}
+use Rattle.line.specs.Lines.{line_answered}
+use Rattle.layout.specs.Layouts.{layout_outcome}
+use Rattle.line.proofs.AskedLayouts.{line_not_read, line_read}
 use borrow.Author.Rules.{rules}
 use Rattle.line.proofs.layouts.ask_line.Statement.{statement}
 use Rattle.line.proofs.layouts.ask_line.Tie as tie
@@ -23,12 +23,12 @@ ask-requires : tie.Need-ask-requires
 ask-requires c κs = search rules
 
 returns : tie.Need-returns
-returns c = line-not-read _ _ (sym (ap lineAnswered c.before.q.given.1) ∙ c.before.before.before.parse.ensures)
+returns c = line_not_read _ _ (sym (ap line_answered c.before.q.given.1) ∙ c.before.before.before.parse.ensures)
 
 returns-2 : tie.Need-returns-2
 returns-2 c =
     let g = c.before.before in
-    line_read _ _ _ (sym (ap lineAnswered g.before.asked.given.1) ∙ g.before.before.before.parse.ensures) (c.ask.ensures ∙ ap layoutOutcome c.before.default-layout.ensures)
+    line_read _ _ _ (sym (ap line_answered g.before.asked.given.1) ∙ g.before.before.before.parse.ensures) (c.ask.ensures ∙ ap layout_outcome c.before.default-layout.ensures)
 
 pub ask-line-spec : {M : Type 1} → statement M
 ask-line-spec =

@@ -3,10 +3,10 @@ use mathlib.Core.Path.{refl, ap}
 use native.Mathlib.Omega.{arith}
 use lib.ListN.{length}
 use Rattle.answer.specs.Outcome.{given}
-use Rattle.answer.proofs.Lent.{held, not-held, filled-refused}
-use Rattle.text.proofs.Writing.{filled-given}
-use Rattle.line.specs.Refusals.{refusalLine}
-use Rattle.line.proofs.RefusalLines.{length-refusal}
+use Rattle.answer.proofs.Lent.{held, not_held, filled_refused}
+use Rattle.text.proofs.Writing.{filled_given}
+use Rattle.line.specs.Refusals.{refusal_line}
+use Rattle.line.proofs.RefusalLines.{length_refusal}
 use borrow.Author.Rules.{rules}
 use Rattle.line.proofs.refusals.write_refusal.Statement.{statement}
 use Rattle.line.proofs.refusals.write_refusal.Tie as tie
@@ -20,11 +20,11 @@ add-bytes c = search rules
 returns : tie.Need-returns
 returns c =
     let s = c.before.before.before in
-    let e = length-refusal s.args.number in
-    filled-refused 10 _ (not-held (length s.args.out.now) (refusalLine s.args.number) (omega (arith, e, c.before.number-len.ensures.is-length))) refl
+    let e = length_refusal s.args.number in
+    filled_refused 10 _ (not_held (length s.args.out.now) (refusal_line s.args.number) (omega (arith, e, c.before.number-len.ensures.is_length))) refl
 
 put-refusal-requires : tie.Need-put-refusal-requires
-put-refusal-requires c κs = omega (arith, length-refusal c.before.before.before.before.args.number, c.before.before.number-len.ensures.is-length)
+put-refusal-requires c κs = omega (arith, length_refusal c.before.before.before.before.args.number, c.before.before.number-len.ensures.is_length)
 
 same_length : tie.Need-same-length
 same_length c = search rules
@@ -33,9 +33,9 @@ returns-2 : tie.Need-returns-2
 returns-2 c =
     let b = c.before.before.before.before.before in
     let s = b.before.before in
-    let e = length-refusal s.args.number in
-    filled-given (held (length s.args.out.now) (refusalLine s.args.number) (omega (arith, e, b.number-len.ensures.is-length)))
-    (ap given (omega (arith, e, b.number-len.ensures.is-length))) (omega (arith, e, b.number-len.ensures.is-length)) c.before.before.put-refusal.ensures
+    let e = length_refusal s.args.number in
+    filled_given (held (length s.args.out.now) (refusal_line s.args.number) (omega (arith, e, b.number-len.ensures.is_length)))
+    (ap given (omega (arith, e, b.number-len.ensures.is_length))) (omega (arith, e, b.number-len.ensures.is_length)) c.before.before.put-refusal.ensures
 
 pub write-refusal-spec : {M : Type 1} → statement M
 write-refusal-spec =

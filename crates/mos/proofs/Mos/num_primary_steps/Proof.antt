@@ -1,6 +1,6 @@
 -- Question 7, then the number.
 use mathlib.Core.Path.{refl}
-use Rattle.mos.proofs.Sizes.{pattern-given, pattern-refused}
+use Rattle.mos.proofs.Sizes.{pattern_given, pattern_refused}
 use borrow.Author.Rules.{rules}
 use Rattle.mos.proofs.Mos.num_primary_steps.Statement.{statement}
 use Rattle.mos.proofs.Mos.num_primary_steps.Tie as tie
@@ -9,10 +9,10 @@ is-pattern-requires : tie.Need-is-pattern-requires
 is-pattern-requires c κs = search rules
 
 returns : tie.Need-returns
-returns c = pattern-given _ c.before.is-pattern.ensures c.if1.true refl
+returns c = pattern_given _ c.before.is_pattern_lem.ensures c.if1.true refl
 
 returns-2 : tie.Need-returns-2
-returns-2 c = pattern-refused _ _ c.before.is-pattern.ensures c.if1.false
+returns-2 c = pattern_refused _ _ c.before.is_pattern_lem.ensures c.if1.false
 
 pub num-primary-steps-spec : {M : Type 1} → statement M
 num-primary-steps-spec = tie.close (tie.spec is-pattern-requires returns returns-2)

@@ -1,5 +1,5 @@
 -- Question 7, then what the part found.
-use Rattle.mos.proofs.Sizes.{pattern-given, pattern-refused}
+use Rattle.mos.proofs.Sizes.{pattern_given, pattern_refused}
 use borrow.Author.Rules.{rules}
 use Rattle.mos.proofs.Mos.num_steps.Statement.{statement}
 use Rattle.mos.proofs.Mos.num_steps.Tie as tie
@@ -11,10 +11,10 @@ count-of-requires : tie.Need-count-of-requires
 count-of-requires c κs = search rules
 
 returns : tie.Need-returns
-returns c = pattern-given _ c.before.before.is-pattern.ensures c.before.if1.true c.count_of.ensures
+returns c = pattern_given _ c.before.before.is_pattern_lem.ensures c.before.if1.true c.count_of.ensures
 
 returns-2 : tie.Need-returns-2
-returns-2 c = pattern-refused _ _ c.before.is-pattern.ensures c.if1.false
+returns-2 c = pattern_refused _ _ c.before.is_pattern_lem.ensures c.if1.false
 
 pub num-steps-spec : {M : Type 1} → statement M
 num-steps-spec = tie.close (tie.spec is-pattern-requires count-of-requires returns returns-2)

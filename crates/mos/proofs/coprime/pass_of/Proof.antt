@@ -2,7 +2,7 @@
 use Prim.Native.Nat.{◌-◌}
 use native.Mathlib.Nat.{div-le_self}
 use native.Mathlib.Omega.{arith}
-use Rattle.mos.proofs.Passes.{pass-down-one, pass-down, pass-up-one, pass_up, some-above}
+use Rattle.mos.proofs.Passes.{pass_down_one, pass_down, pass_up_one, pass_up, some_above}
 use borrow.Author.Rules.{rules}
 use Rattle.mos.proofs.coprime.pass_of.Statement.{statement}
 use Rattle.mos.proofs.coprime.pass_of.Tie as tie
@@ -11,7 +11,7 @@ div-sharp : tie.Need-nonzero-div-sharp
 div-sharp c = search rules
 
 sub-result : tie.Need-overflow-sub-result
-sub-result c = omega (arith, some-above c.before.before.args.p c.before.before.args.s (omega arith))
+sub-result c = omega (arith, some_above c.before.before.args.p c.before.before.args.s (omega arith))
 
 sub-result-2 : tie.Need-overflow-sub-result-2
 sub-result-2 c = omega (arith, div-le_self (c.before.before.args.p - c.before.before.args.s) c.before.before.args.g)
@@ -29,13 +29,13 @@ add-result-2 : tie.Need-overflow-add-result-2
 add-result-2 c = omega (arith, div-le_self (c.before.before.args.s - c.before.before.args.p) c.before.before.args.g)
 
 returns : tie.Need-returns
-returns c = pass-down-one _ _ _ (omega arith) (omega arith)
+returns c = pass_down_one _ _ _ (omega arith) (omega arith)
 
 returns-2 : tie.Need-returns-2
-returns-2 c = pass-down _ _ _ (omega arith) (omega arith)
+returns-2 c = pass_down _ _ _ (omega arith) (omega arith)
 
 returns-3 : tie.Need-returns-3
-returns-3 c = pass-up-one _ _ _ (omega arith) (omega arith)
+returns-3 c = pass_up_one _ _ _ (omega arith) (omega arith)
 
 returns-4 : tie.Need-returns-4
 returns-4 c = pass_up _ _ _ (omega arith) (omega arith)

@@ -2,9 +2,9 @@
 use mathlib.Core.Path.{sym, ap, ◌∙◌}
 use borrow.Author.Rules.{rules}
 use Rattle.mos.specs.declared.Mos.{Mos}
-use Rattle.mos.specs.Patterns.{childOf}
+use Rattle.mos.specs.Patterns.{child_of}
 use Rattle.mos.specs.Parts.{is_some}
-use Rattle.mos.proofs.Descent.{parent-there}
+use Rattle.mos.proofs.Descent.{parent_there}
 use Rattle.mos.proofs.parts.has_parent.Statement.{statement}
 use Rattle.mos.proofs.parts.has_parent.Tie as tie
 
@@ -16,9 +16,9 @@ has-child-requires c κs = search rules
 
 returns : tie.Need-returns
 returns c =
-    c.has-child.ensures
-    ∙ ap (λ (m : Mos). is_some (childOf m)) c.before.dual-of.ensures
-    ∙ sym (parent-there c.before.before.args.m)
+    c.has_child.ensures
+    ∙ ap (λ (m : Mos). is_some (child_of m)) c.before.dual-of.ensures
+    ∙ sym (parent_there c.before.before.args.m)
 
 pub has-parent-spec : {M : Type 1} → statement M
 has-parent-spec = tie.close (tie.spec dual-of-requires has-child-requires returns)

@@ -6,10 +6,10 @@ use borrow.Author.Rules.{rules}
 use lib.ListN.{length}
 use Rattle.mos_fractional.specs.Fractional.{count_of}
 use Rattle.mos_fractional.specs.Walk.{children}
-use Rattle.mos_fractional.specs.Answers.{childIn}
+use Rattle.mos_fractional.specs.Answers.{child_in}
 use Rattle.mos_fractional.specs.Parts.{Growing}
-use Rattle.mos_fractional.proofs.Descent.{child-at, child-room, child-grows}
-use Rattle.mos_fractional.proofs.Walking.{left, growing-child, fewer-left, length-next, length-end}
+use Rattle.mos_fractional.proofs.Descent.{child_at, child_room, child_grows}
+use Rattle.mos_fractional.proofs.Walking.{left, growing_child, fewer_left, length_next, length_end}
 use Rattle.mos_fractional.proofs.walks.count_from.Statement.{statement}
 use Rattle.mos_fractional.proofs.walks.count_from.Tie as tie
 
@@ -32,21 +32,21 @@ enum-known-answer c = search rules
 add-count : tie.Need-overflow-add-count invariant-loop decreases-loop
 add-count c =
     let at = c.before.before.before.before.loop in
-    let e = sym c.before.before.before.child.ensures ∙ ap childIn c.before.answer.given.1 in
-    record { fits = omega (arith, at.invariant.2, child-room (child-at e)) }
+    let e = sym c.before.before.before.child.ensures ∙ ap child_in c.before.answer.given.1 in
+    record { fits = omega (arith, at.invariant.2, child_room (child_at e)) }
 
 loop-less : tie.Need-loop-smaller invariant-loop decreases-loop
 loop-less c =
     let at = c.before.before.before.before.loop in
-    fewer-left at.here _ at.invariant.0 (sym c.before.before.before.child.ensures ∙ ap childIn c.before.answer.given.1)
+    fewer_left at.here _ at.invariant.0 (sym c.before.before.before.child.ensures ∙ ap child_in c.before.answer.given.1)
 
 loop-again : tie.Need-loop-preserved invariant-loop decreases-loop
 loop-again c =
     let at = c.before.before.before.before.loop in
-    let e = sym c.before.before.before.child.ensures ∙ ap childIn c.before.answer.given.1 in (
-      growing-child at.here _ at.invariant.0 e,
-      omega (arith, at.invariant.1, length-next at.here at.invariant.0 _ e),
-      omega (arith, at.invariant.2, child-grows (child-at e) at.invariant.0.0 at.invariant.0.1),
+    let e = sym c.before.before.before.child.ensures ∙ ap child_in c.before.answer.given.1 in (
+      growing_child at.here _ at.invariant.0 e,
+      omega (arith, at.invariant.1, length_next at.here at.invariant.0 _ e),
+      omega (arith, at.invariant.2, child_grows (child_at e) at.invariant.0.0 at.invariant.0.1),
     )
 
 enum_told : tie.Need-enum-told invariant-loop decreases-loop
@@ -58,8 +58,8 @@ returns c =
     omega (
       arith,
       at.invariant.1,
-      length-end at.here at.invariant.0
-          (sym c.before.before.child.ensures ∙ ap childIn c.enum_told.given.1),
+      length_end at.here at.invariant.0
+          (sym c.before.before.child.ensures ∙ ap child_in c.enum_told.given.1),
     )
 
 pub count-from-spec : {M : Type 1} → statement M

@@ -2,9 +2,9 @@
 use mathlib.Core.Path.{sym, ap, ◌∙◌}
 use native.Mathlib.Omega.{arith}
 use borrow.Author.Rules.{rules}
-use Rattle.mos_fractional.specs.Answers.{fractionalOutcome}
-use Rattle.mos_fractional.proofs.Walking.{growing-told, from-length}
-use Rattle.mos_fractional.proofs.Storing.{begins-refused, begins-short, begins-whole, begins-counted}
+use Rattle.mos_fractional.specs.Answers.{fractional_outcome}
+use Rattle.mos_fractional.proofs.Walking.{growing_told, from_length}
+use Rattle.mos_fractional.proofs.Storing.{begins_refused, begins_short, begins_whole, begins_counted}
 use Rattle.mos_fractional.proofs.walks.first.Statement.{statement}
 use Rattle.mos_fractional.proofs.walks.first.Tie as tie
 
@@ -20,34 +20,34 @@ enum-known-genesis-2 c = search rules
 returns : tie.Need-returns
 returns c =
     let start = c.before.before.before.before.before.args in
-    begins-whole start.generator start.room _
-    (sym (ap fractionalOutcome c.before.before.genesis2.given.1) ∙ c.before.before.before.before.new-genesis.ensures)
-    (omega (arith, from-length start.generator, c.if1.true))
+    begins_whole start.generator start.room _
+    (sym (ap fractional_outcome c.before.before.genesis2.given.1) ∙ c.before.before.before.before.new-genesis.ensures)
+    (omega (arith, from_length start.generator, c.if1.true))
 
 count-from-requires : tie.Need-count-from-requires
 count-from-requires c κs =
-    growing-told c.before.before.before.before.before.args.generator
-    (sym (ap fractionalOutcome c.before.before.genesis2.given.1) ∙ c.before.before.before.before.new-genesis.ensures)
+    growing_told c.before.before.before.before.before.args.generator
+    (sym (ap fractional_outcome c.before.before.genesis2.given.1) ∙ c.before.before.before.before.new-genesis.ensures)
 
 returns-2 : tie.Need-returns-2
 returns-2 c =
     let start = c.before.before.before.before.before.before.before.args in
-    begins-short start.generator start.room _
-    (sym (ap fractionalOutcome c.before.before.before.before.genesis2.given.1)
+    begins_short start.generator start.room _
+    (sym (ap fractional_outcome c.before.before.before.before.genesis2.given.1)
     ∙ c.before.before.before.before.before.before.new-genesis.ensures)
     (omega (arith, c.before.count-from.ensures, c.if2.true))
 
 returns-3 : tie.Need-returns-3
 returns-3 c =
     let start = c.before.before.before.before.args in
-    begins-refused start.generator start.room _
-    (sym (ap fractionalOutcome c.before.genesis.given.1) ∙ c.before.before.before.new-genesis.ensures)
+    begins_refused start.generator start.room _
+    (sym (ap fractional_outcome c.before.genesis.given.1) ∙ c.before.before.before.new-genesis.ensures)
 
 returns-4 : tie.Need-returns-4
 returns-4 c =
     let start = c.before.before.before.before.before.before.before.args in
-    begins-counted start.generator start.room _
-    (sym (ap fractionalOutcome c.before.before.before.before.genesis2.given.1)
+    begins_counted start.generator start.room _
+    (sym (ap fractional_outcome c.before.before.before.before.genesis2.given.1)
     ∙ c.before.before.before.before.before.before.new-genesis.ensures)
     (omega (arith, c.before.count-from.ensures, c.if2.false))
 

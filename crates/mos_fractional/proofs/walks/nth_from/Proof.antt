@@ -4,9 +4,9 @@ use native.Mathlib.Omega.{arith}
 use borrow.Author.Rules.{rules}
 use lib.ListN.{get_elem?}
 use Rattle.mos_fractional.specs.Walk.{children}
-use Rattle.mos_fractional.specs.Answers.{childIn}
+use Rattle.mos_fractional.specs.Answers.{child_in}
 use Rattle.mos_fractional.specs.Parts.{Growing}
-use Rattle.mos_fractional.proofs.Walking.{growing-child, nth_here, nth_end, nth-next}
+use Rattle.mos_fractional.proofs.Walking.{growing_child, nth_here, nth_end, nth_next}
 use Rattle.mos_fractional.proofs.walks.nth_from.Statement.{statement}
 use Rattle.mos_fractional.proofs.walks.nth_from.Tie as tie
 
@@ -39,8 +39,8 @@ loop-less c = omega arith
 loop-again : tie.Need-loop-preserved invariant-loop decreases-loop
 loop-again c =
     let at = c.before.before.before.before.before.loop in
-    let e = sym c.before.before.before.child.ensures ∙ ap childIn c.before.answer.given.1 in
-    (growing-child at.here _ at.invariant.0 e, nth-next at.here at.invariant.0 _ at.left _ e (omega arith) ∙ at.invariant.1)
+    let e = sym c.before.before.before.child.ensures ∙ ap child_in c.before.answer.given.1 in
+    (growing_child at.here _ at.invariant.0 e, nth_next at.here at.invariant.0 _ at.left _ e (omega arith) ∙ at.invariant.1)
 
 enum_told : tie.Need-enum-told invariant-loop decreases-loop
 enum_told c = search rules
@@ -48,7 +48,7 @@ enum_told c = search rules
 returns-2 : tie.Need-returns-2 invariant-loop decreases-loop
 returns-2 c =
     let at = c.before.before.before.before.loop in
-    let e = sym c.before.before.child.ensures ∙ ap childIn c.enum_told.given.1 in
+    let e = sym c.before.before.child.ensures ∙ ap child_in c.enum_told.given.1 in
     nth_end at.here at.invariant.0 at.left c.before.before.before.if1.false e ∙ at.invariant.1
 
 pub nth-from-spec : {M : Type 1} → statement M

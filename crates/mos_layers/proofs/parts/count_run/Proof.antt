@@ -2,12 +2,12 @@
 use mathlib.Core.Path.{sym, ap, ◌∙◌}
 use native.Mathlib.Omega.{arith}
 use lib.ListN.{length, length-replicate}
-use Rattle.mos_layers.proofs.Sizes.{drop-none, drop_all}
+use Rattle.mos_layers.proofs.Sizes.{drop_none, drop_all}
 use Rattle.mos_layers.proofs.parts.count_run.Statement.{statement}
 use Rattle.mos_layers.proofs.parts.count_run.Tie as tie
 
 returns : tie.Need-returns
-returns c = (sym (ap length (drop-none c.before.args.times c.before.args.size c.if1.true)), omega arith)
+returns c = (sym (ap length (drop_none c.before.args.times c.before.args.size c.if1.true)), omega arith)
 
 returns-2 : tie.Need-returns-2
 returns-2 c = (sym (ap length (drop_all c.before.args.times c.before.args.size c.if1.false) ∙ length-replicate c.before.args.times c.before.args.size), omega arith)

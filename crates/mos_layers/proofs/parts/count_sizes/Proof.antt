@@ -7,15 +7,15 @@ use borrow.Author.Rules.{rules}
 use lib.ListN.{length}
 use Prim.Native.Nat.{ℕ}
 use Rattle.text.specs.Writing.{joined}
-use Rattle.mos_layers.specs.Layers.{dropEmpty}
+use Rattle.mos_layers.specs.Layers.{drop_empty}
 use Rattle.mos_layers.specs.Parts.{run_at}
-use Rattle.mos_layers.proofs.Sizes.{count_none, count-more}
+use Rattle.mos_layers.proofs.Sizes.{count_none, count_more}
 use Rattle.mos_layers.proofs.parts.count_sizes.Statement.{statement}
 use Rattle.mos_layers.proofs.parts.count_sizes.Tie as tie
 
 abbrev invariant-loop : tie.invariant-loop
 invariant-loop sizes times count₀ i₀ count i =
-    (count ≡ length (dropEmpty (joined (run_at sizes times) i))) × (count ≤ 65535 * i) × (i ≤ 8)
+    (count ≡ length (drop_empty (joined (run_at sizes times) i))) × (count ≤ 65535 * i) × (i ≤ 8)
 
 abbrev decreases-loop : tie.decreases-loop
 decreases-loop sizes times count₀ i₀ count i = 8 - i
@@ -53,7 +53,7 @@ loop-again : tie.Need-loop-preserved invariant-loop decreases-loop
 loop-again c =
     let runs = c.before.before.before.before.before.args.runs in
     let loop = c.before.before.loop in (
-      count-more (run_at runs.sizes runs.times) loop.i loop.invariant.0 c.count-run.ensures.0,
+      count_more (run_at runs.sizes runs.times) loop.i loop.invariant.0 c.count_run.ensures.0,
       omega arith,
       omega arith,
     )
@@ -62,7 +62,7 @@ returns : tie.Need-returns invariant-loop decreases-loop
 returns c =
     let runs = c.before.before.before.before.args.runs in
     c.before.loop.invariant.0
-    ∙ ap (λ (n : ℕ). length (dropEmpty (joined (run_at runs.sizes runs.times) n))) (le_antisymm c.before.loop.invariant.2 c.loop-test.false)
+    ∙ ap (λ (n : ℕ). length (drop_empty (joined (run_at runs.sizes runs.times) n))) (le_antisymm c.before.loop.invariant.2 c.loop-test.false)
 
 pub count-sizes-spec : {M : Type 1} → statement M
 count-sizes-spec =

@@ -1,11 +1,11 @@
 -- Dividing by 1 changes nothing.
-use Rattle.mos_layers.proofs.Theorems.{divided-by-one}
+use Rattle.mos_layers.proofs.Theorems.{divided_by_one}
 use borrow.Author.Rules.{rules}
 use Rattle.mos_layers.proofs.parts.divided.Statement.{statement}
 use Rattle.mos_layers.proofs.parts.divided.Tie as tie
 
 returns : tie.Need-returns
-returns c = divided-by-one c.before.args.x c.before.args.cycles c.if1.true
+returns c = divided_by_one c.before.args.x c.before.args.cycles c.if1.true
 
 div-result : tie.Need-nonzero-div-result
 div-result c = search rules

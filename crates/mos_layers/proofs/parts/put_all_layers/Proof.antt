@@ -5,10 +5,10 @@ use native.Mathlib.Nat.{le_antisymm, zero-add}
 use native.Mathlib.Omega.{arith}
 use lib.ListN.{get_or}
 use Rattle.text.specs.Writing.{Wrote, joined}
-use Rattle.mos_layers.specs.Layers.{dropEmpty, numbered}
+use Rattle.mos_layers.specs.Layers.{drop_empty, numbered}
 use Rattle.mos_layers.specs.Parts.{run_at, Laid}
-use Rattle.mos_layers.proofs.Sizes.{sum-replicate}
-use Rattle.mos_layers.proofs.Cursors.{all_start, all_more, all-space, laid_as, laid-length, laid-place}
+use Rattle.mos_layers.proofs.Sizes.{sum_replicate}
+use Rattle.mos_layers.proofs.Cursors.{all_start, all_more, all_space, laid_as, laid_length, laid_place}
 use Rattle.mos_layers.proofs.parts.put_all_layers.Statement.{statement}
 use Rattle.mos_layers.proofs.parts.put_all_layers.Tie as tie
 
@@ -40,8 +40,8 @@ put-layers-requires c κs =
     let start = c.before.before.before.before.before.before in
     let runs = start.args.runs in
     let i = c.before.before.loop.i in
-    all-space (run_at runs.sizes runs.times) i 8 c.before.loop-test.true _
-    (sum-replicate (get_or runs.times i 0) (get_or runs.sizes i 0))
+    all_space (run_at runs.sizes runs.times) i 8 c.before.loop-test.true _
+    (sum_replicate (get_or runs.times i 0) (get_or runs.sizes i 0))
     (record { fits = omega (arith, start.requires.1); small = omega (arith, start.requires.0); low = omega arith })
     c.before.before.loop.invariant.0
 
@@ -60,15 +60,15 @@ loop-again c =
     )
 
 same_length : tie.Need-same-length invariant-loop decreases-loop
-same_length c = laid-length c.before.loop.invariant.0
+same_length c = laid_length c.before.loop.invariant.0
 
 returns : tie.Need-returns invariant-loop decreases-loop
 returns c =
     let start = c.before.before.before.before.before in
     let runs = start.args.runs in
     let done = laid_as (ap (joined (run_at runs.sizes runs.times)) (le_antisymm c.before.loop.invariant.1 c.loop-test.false)) c.before.loop.invariant.0 in
-    subst (λ (n : ℕ). Wrote start.args.out.now 0 (numbered 0 (dropEmpty (joined (run_at runs.sizes runs.times) 8))) c.before.loop.out n)
-    (laid-place done ∙ zero-add _)
+    subst (λ (n : ℕ). Wrote start.args.out.now 0 (numbered 0 (drop_empty (joined (run_at runs.sizes runs.times) 8))) c.before.loop.out n)
+    (laid_place done ∙ zero-add _)
     done.wrote
 
 pub put-all-layers-spec : {M : Type 1} → statement M

@@ -5,17 +5,17 @@ use mathlib.Core.List.{List}
 use native.Mathlib.Nat.{le_antisymm, zero-add}
 use native.Mathlib.Omega.{arith}
 use Rattle.text.specs.Writing.{Room, Wrote, joined}
-use Rattle.text.proofs.Writing.{wrote_as, wrote-length}
-use Rattle.text.proofs.Joined.{joined-start, joined_step, joined-room}
-use Rattle.mos_layers.specs.Layers.{dropEmpty}
+use Rattle.text.proofs.Writing.{wrote_as, wrote_length}
+use Rattle.text.proofs.Joined.{joined_start, joined_step, joined_room}
+use Rattle.mos_layers.specs.Layers.{drop_empty}
 use Rattle.mos_layers.specs.Parts.{run_at}
-use Rattle.mos_layers.proofs.Sizes.{drop-joined}
+use Rattle.mos_layers.proofs.Sizes.{drop_joined}
 use Rattle.mos_layers.proofs.parts.put_all_sizes.Statement.{statement}
 use Rattle.mos_layers.proofs.parts.put_all_sizes.Tie as tie
 
 -- the sizes of run i that are written
 abbrev written : List ℕ → List ℕ → ℕ → List ℕ
-written sizes times i = dropEmpty (run_at sizes times i)
+written sizes times i = drop_empty (run_at sizes times i)
 
 abbrev invariant-loop : tie.invariant-loop
 invariant-loop out₀ sizes times at₀ i₀ out at i = Wrote out₀ 0 (joined (written sizes times) i) out at × (i ≤ 8)
@@ -26,7 +26,7 @@ decreases-loop out₀ sizes times at₀ i₀ out at i = 8 - i
 loop-holds : tie.Need-loop-init invariant-loop decreases-loop
 loop-holds c =
     let runs = c.before.before.before.args.runs in
-    (joined-start (written runs.sizes runs.times) _ 0, omega arith)
+    (joined_start (written runs.sizes runs.times) _ 0, omega arith)
 
 mul-put-sizes : tie.Need-overflow-mul-put-sizes invariant-loop decreases-loop
 mul-put-sizes c = omega arith
@@ -44,8 +44,8 @@ put-sizes-requires : tie.Need-put-sizes-requires invariant-loop decreases-loop
 put-sizes-requires c κs =
     let start = c.before.before.before.before.before.before in
     let runs = start.args.runs in
-    joined-room (written runs.sizes runs.times) c.before.before.loop.i 8 (omega arith) c.before.before.loop.invariant.0
-    (subst (Room start.args.out.now 0) (drop-joined (run_at runs.sizes runs.times) 8) start.requires)
+    joined_room (written runs.sizes runs.times) c.before.before.loop.i 8 (omega arith) c.before.before.loop.invariant.0
+    (subst (Room start.args.out.now 0) (drop_joined (run_at runs.sizes runs.times) 8) start.requires)
 
 add-i : tie.Need-overflow-add-i invariant-loop decreases-loop
 add-i c = omega arith
@@ -62,17 +62,17 @@ loop-again c =
     )
 
 same_length : tie.Need-same-length invariant-loop decreases-loop
-same_length c = wrote-length c.before.loop.invariant.0
+same_length c = wrote_length c.before.loop.invariant.0
 
 returns : tie.Need-returns invariant-loop decreases-loop
 returns c =
     let start = c.before.before.before.before.before in
     let runs = start.args.runs in
-    let all : joined (written runs.sizes runs.times) c.before.loop.i ≡ dropEmpty (joined (run_at runs.sizes runs.times) 8)
+    let all : joined (written runs.sizes runs.times) c.before.loop.i ≡ drop_empty (joined (run_at runs.sizes runs.times) 8)
     = ap (joined (written runs.sizes runs.times)) (le_antisymm c.before.loop.invariant.1 c.loop-test.false)
-    ∙ sym (drop-joined (run_at runs.sizes runs.times) 8) in
+    ∙ sym (drop_joined (run_at runs.sizes runs.times) 8) in
     let done = wrote_as all c.before.loop.invariant.0 in
-    subst (λ (n : ℕ). Wrote start.args.out.now 0 (dropEmpty (joined (run_at runs.sizes runs.times) 8)) c.before.loop.out n)
+    subst (λ (n : ℕ). Wrote start.args.out.now 0 (drop_empty (joined (run_at runs.sizes runs.times) 8)) c.before.loop.out n)
     (done.end ∙ zero-add _)
     done
 

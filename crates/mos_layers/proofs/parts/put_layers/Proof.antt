@@ -5,7 +5,7 @@ use native.Mathlib.Nat.{le_antisymm}
 use native.Mathlib.Omega.{arith}
 use lib.ListN.{replicate}
 use Rattle.mos_layers.specs.Parts.{Laid, Space}
-use Rattle.mos_layers.proofs.Cursors.{laid_none, laid-empty, laid_one, laid_more, laid_as, laid-length, space-after, space-run, one_more}
+use Rattle.mos_layers.proofs.Cursors.{laid_none, laid_empty, laid_one, laid_more, laid_as, laid_length, space_after, space_run, one_more}
 use Rattle.mos_layers.proofs.parts.put_layers.Statement.{statement}
 use Rattle.mos_layers.proofs.parts.put_layers.Tie as tie
 
@@ -18,7 +18,7 @@ decreases-loop out₀ size times next₀ i₀ out next i = times - i
 returns : tie.Need-returns invariant-loop decreases-loop
 returns c =
     let start = c.before.before in
-    laid-empty start.args.times start.args.size _ _ c.if1.true
+    laid_empty start.args.times start.args.size _ _ c.if1.true
 
 loop-holds : tie.Need-loop-init invariant-loop decreases-loop
 loop-holds c = (laid_none _ _, omega arith)
@@ -27,11 +27,11 @@ loop-holds c = (laid_none _ _, omega arith)
 space : (c : tie.In-loop invariant-loop decreases-loop) → Space c.before.before.before.before.args.size c.before.loop.next c.before.loop.out
 space c =
     let start = c.before.before.before.before in
-    space-after (start.args.times * start.args.size) start.args.size start.requires c.before.loop.invariant.0
+    space_after (start.args.times * start.args.size) start.args.size start.requires c.before.loop.invariant.0
     (one_more c.before.loop.i start.args.times start.args.size c.loop-test.true)
 
 put-run-requires : tie.Need-put-run-requires invariant-loop decreases-loop
-put-run-requires c κs = space-run (space c.before)
+put-run-requires c κs = space_run (space c.before)
 
 add-t14 : tie.Need-overflow-add-t14 invariant-loop decreases-loop
 add-t14 c =
@@ -54,7 +54,7 @@ loop-again c =
     )
 
 same_length : tie.Need-same-length invariant-loop decreases-loop
-same_length c = laid-length c.before.loop.invariant.0
+same_length c = laid_length c.before.loop.invariant.0
 
 returns-2 : tie.Need-returns-2 invariant-loop decreases-loop
 returns-2 c =

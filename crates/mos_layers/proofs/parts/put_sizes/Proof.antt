@@ -2,13 +2,13 @@
 use mathlib.Core.Path.{sym, subst}
 use Rattle.text.specs.Writing.{Room}
 use Rattle.text.proofs.Writing.{wrote_as, wrote_none}
-use Rattle.mos_layers.proofs.Sizes.{drop-none, drop_all}
+use Rattle.mos_layers.proofs.Sizes.{drop_none, drop_all}
 use borrow.Author.Rules.{rules}
 use Rattle.mos_layers.proofs.parts.put_sizes.Statement.{statement}
 use Rattle.mos_layers.proofs.parts.put_sizes.Tie as tie
 
 returns : tie.Need-returns
-returns c = wrote_as (sym (drop-none c.before.before.args.times c.before.before.args.size c.if1.true)) (wrote_none _ _)
+returns c = wrote_as (sym (drop_none c.before.before.args.times c.before.before.args.size c.if1.true)) (wrote_none _ _)
 
 put-run-requires : tie.Need-put-run-requires
 put-run-requires c κs = subst (Room c.before.before.before.args.out.now c.before.before.before.args.at) (drop_all c.before.before.before.args.times c.before.before.before.args.size c.before.if1.false) c.before.before.before.requires

@@ -1,5 +1,5 @@
 -- The divisor of the steps, and the runs over it.
-use Rattle.mos_layers.proofs.Theorems.{code-cycles}
+use Rattle.mos_layers.proofs.Theorems.{code_cycles}
 use borrow.Author.Rules.{rules}
 use Rattle.mos_layers.proofs.parts.runs_in.Statement.{statement}
 use Rattle.mos_layers.proofs.parts.runs_in.Tie as tie
@@ -8,7 +8,7 @@ gcd-u16-requires : tie.Need-gcd-u16-requires
 gcd-u16-requires c κs = search rules
 
 runs-over-requires : tie.Need-runs-over-requires
-runs-over-requires c κs = (c.before.requires, code-cycles c.before.args.m _ c.gcd-u16.ensures.is)
+runs-over-requires c κs = (c.before.requires, code_cycles c.before.args.m _ c.gcd-u16.ensures.is)
 
 returns : tie.Need-returns
 returns c = search rules

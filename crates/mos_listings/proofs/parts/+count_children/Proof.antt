@@ -6,7 +6,7 @@ use borrow.Author.Rules.{rules}
 use borrow.Fn.Kinds.{In}
 use borrow.Fn.PlainCycle.{Measures, is, falls, and}
 use Rattle.mos.specs.Patterns.{steps_of}
-use Rattle.mos.proofs.Sequences.{children-one, children-few}
+use Rattle.mos.proofs.Sequences.{children_one, children_few}
 use Rattle.mos_listings.proofs.parts.count_children.Reads as count-children
 use Rattle.mos_listings.proofs.parts.count_children.Kinds as count-children-kinds
 use Rattle.mos_listings.proofs.parts.+count_children.Lts-count_children as count-children-lts
@@ -39,7 +39,7 @@ has-child-requires : (t : ℕ) → count-children-lts.Need-has-child-requires (c
 has-child-requires t c κs = search rules
 
 leap-from-requires : (t : ℕ) → count-children-lts.Need-leap-from-requires (calls t) (count-children-at t) count-children.Post
-leap-from-requires t c κs = (c.before.before.requires.1, sym c.before.has-child.ensures ∙ c.if1.true)
+leap-from-requires t c κs = (c.before.before.requires.1, sym c.before.has_child.ensures ∙ c.if1.true)
 
 count-children-requires : (t : ℕ) → count-children-lts.Need-count-children-requires (calls t) (count-children-at t) count-children.Post
 count-children-requires t c κs =
@@ -53,13 +53,13 @@ cast-result : (t : ℕ) → count-children-lts.Need-overflow-cast-result (calls 
 cast-result t c = search rules
 
 add-result : (t : ℕ) → count-children-lts.Need-overflow-add-result (calls t) (count-children-at t) count-children.Post
-add-result t c = omega (arith, children-few c.before.before.before.leap-from.result.to)
+add-result t c = omega (arith, children_few c.before.before.before.leap-from.result.to)
 
 returns : (t : ℕ) → count-children-lts.Need-returns (calls t) (count-children-at t) count-children.Post
 returns t c = ap (λ (j : ℕ). j + c.before.before.before.leap-from.result.turns) c.before.count-children.ensures ∙ sym c.before.before.before.leap-from.ensures.counted
 
 returns-2 : (t : ℕ) → count-children-lts.Need-returns-2 (calls t) (count-children-at t) count-children.Post
-returns-2 t c = children-one _ (sym c.before.has-child.ensures ∙ c.if1.false)
+returns-2 t c = children_one _ (sym c.before.has_child.ensures ∙ c.if1.false)
 
 pub +count-children-spec : {M : Type 1} → statement M
 +count-children-spec =

@@ -5,12 +5,12 @@ use native.Mathlib.Omega.{arith}
 use borrow.Author.Rules.{rules}
 use borrow.Fn.Kinds.{In}
 use borrow.Fn.PlainCycle.{Measures, is, falls, and}
-use Rattle.text.proofs.Writing.{wrote-length}
+use Rattle.text.proofs.Writing.{wrote_length}
 use Rattle.mos.specs.Patterns.{steps_of}
 use Rattle.mos.specs.Walks.{children}
-use Rattle.mos.proofs.Descent.{child-at, child-falls}
-use Rattle.mos.proofs.Sequences.{children-follow, none_of}
-use Rattle.mos_listings.proofs.Runs.{listing-room, listing-more, listing-end, listing-rest, listing-whole}
+use Rattle.mos.proofs.Descent.{child_at, child_falls}
+use Rattle.mos.proofs.Sequences.{children_follow, none_of}
+use Rattle.mos_listings.proofs.Runs.{listing_room, listing_more, listing_end, listing_rest, listing_whole}
 use Rattle.mos_listings.proofs.parts.list_children.Reads as list-children
 use Rattle.mos_listings.proofs.parts.list_children.Kinds as list-children-kinds
 use Rattle.mos_listings.proofs.parts.+list_children.Lts-list_children as list-children-lts
@@ -50,45 +50,45 @@ list-child-run-requires t c κs = c.before.before.requires.1
 
 put-pattern-requires : (t : ℕ) → list-children-lts.Need-put-pattern-requires (calls t) (list-children-at t) list-children.Post
 put-pattern-requires t c κs =
-    listing-room children (λ m. m) children-follow _ _ c.before.before.before.before.list-child-run.ensures c.before.before.before.before.before.before.before.requires.1.1
+    listing_room children (λ m. m) children_follow _ _ c.before.before.before.before.list-child-run.ensures c.before.before.before.before.before.before.before.requires.1.1
 
 has-child-requires : (t : ℕ) → list-children-lts.Need-has-child-requires (calls t) (list-children-at t) list-children.Post
 has-child-requires t c κs = search rules
 
 child-of-requires : (t : ℕ) → list-children-lts.Need-child-of-requires (calls t) (list-children-at t) list-children.Post
-child-of-requires t c κs = (c.before.before.before.before.before.before.before.before.before.list-child-run.ensures.pattern, sym c.before.has-child.ensures ∙ c.if1.true)
+child-of-requires t c κs = (c.before.before.before.before.before.before.before.before.before.list-child-run.ensures.pattern, sym c.before.has_child.ensures ∙ c.if1.true)
 
 list-children-requires : (t : ℕ) → list-children-lts.Need-list-children-requires (calls t) (list-children-at t) list-children.Post
 list-children-requires t c κs =
     let start = c.before.before.before.before.before.before.before.before.before.before.before.before.before.before in
     let run = c.before.before.before.before.before.before.before.before.before.before.before.list-child-run.ensures in
     let there = c.before.child-of.ensures in
-    let more = listing-more children (λ m. m) children-follow _ _ run _ there c.before.before.before.before.before.before.put-pattern.ensures in (
-      subst (λ (j : ℕ). steps_of c.before.child-of.result < j) start.requires.0 (omega (arith, run.falls, child-falls (child-at there))),
+    let more = listing_more children (λ m. m) children_follow _ _ run _ there c.before.before.before.before.before.before.put-pattern.ensures in (
+      subst (λ (j : ℕ). steps_of c.before.child-of.result < j) start.requires.0 (omega (arith, run.falls, child_falls (child_at there))),
       (
         more.pattern,
-        listing-rest children (λ m. m) children-follow _ _ more start.requires.1.1,
+        listing_rest children (λ m. m) children_follow _ _ more start.requires.1.1,
       ),
     )
 
 same_length : (t : ℕ) → list-children-lts.Need-same-length (calls t) (list-children-at t) list-children.Post
 same_length t c =
-    wrote-length c.before.before.list-children.ensures
-    ∙ wrote-length c.before.before.before.before.before.before.before.before.before.put-pattern.ensures
-    ∙ wrote-length c.before.before.before.before.before.before.before.before.before.before.before.before.before.before.list-child-run.ensures.wrote
+    wrote_length c.before.before.list-children.ensures
+    ∙ wrote_length c.before.before.before.before.before.before.before.before.before.put-pattern.ensures
+    ∙ wrote_length c.before.before.before.before.before.before.before.before.before.before.before.before.before.before.list-child-run.ensures.wrote
 
 returns : (t : ℕ) → list-children-lts.Need-returns (calls t) (list-children-at t) list-children.Post
 returns t c =
-    listing-whole children (λ m. m) children-follow _ _
-    (listing-more children (λ m. m) children-follow _ _ c.before.before.before.before.before.before.before.before.before.before.before.before.before.before.list-child-run.ensures _ c.before.before.before.before.child-of.ensures c.before.before.before.before.before.before.before.before.before.put-pattern.ensures)
+    listing_whole children (λ m. m) children_follow _ _
+    (listing_more children (λ m. m) children_follow _ _ c.before.before.before.before.before.before.before.before.before.before.before.before.before.before.list-child-run.ensures _ c.before.before.before.before.child-of.ensures c.before.before.before.before.before.before.before.before.before.put-pattern.ensures)
     c.before.before.list-children.ensures
 
 same-length-2 : (t : ℕ) → list-children-lts.Need-same-length-2 (calls t) (list-children-at t) list-children.Post
-same-length-2 t c = wrote-length c.before.before.before.before.put-pattern.ensures ∙ wrote-length c.before.before.before.before.before.before.before.before.before.list-child-run.ensures.wrote
+same-length-2 t c = wrote_length c.before.before.before.before.put-pattern.ensures ∙ wrote_length c.before.before.before.before.before.before.before.before.before.list-child-run.ensures.wrote
 
 returns-2 : (t : ℕ) → list-children-lts.Need-returns-2 (calls t) (list-children-at t) list-children.Post
 returns-2 t c =
-    listing-end children (λ m. m) children-follow _ _ c.before.before.before.before.before.before.before.before.before.list-child-run.ensures (none_of _ (sym c.before.has-child.ensures ∙ c.if1.false))
+    listing_end children (λ m. m) children_follow _ _ c.before.before.before.before.before.before.before.before.before.list-child-run.ensures (none_of _ (sym c.before.has_child.ensures ∙ c.if1.false))
     c.before.before.before.before.put-pattern.ensures
 
 pub +list-children-spec : {M : Type 1} → statement M

@@ -5,13 +5,13 @@ use native.Mathlib.Omega.{arith}
 use borrow.Author.Rules.{rules}
 use borrow.Fn.Kinds.{In}
 use borrow.Fn.PlainCycle.{Measures, is, falls, and}
-use Rattle.text.proofs.Writing.{wrote_as, wrote-length}
-use Rattle.mos.specs.Patterns.{steps_of, dualOf}
+use Rattle.text.proofs.Writing.{wrote_as, wrote_length}
+use Rattle.mos.specs.Patterns.{steps_of, dual_of}
 use Rattle.mos.specs.Walks.{fields}
-use Rattle.mos_listings.specs.Parts.{dualParents}
-use Rattle.mos.proofs.Descent.{child-at, child-falls}
+use Rattle.mos_listings.specs.Parts.{dual_parents}
+use Rattle.mos.proofs.Descent.{child_at, child_falls}
 use Rattle.mos.proofs.Sequences.{none_of}
-use Rattle.mos_listings.proofs.Runs.{dual-follow, listing-room, listing-more, listing-end, listing-rest, listing-whole}
+use Rattle.mos_listings.proofs.Runs.{dual_follow, listing_room, listing_more, listing_end, listing_rest, listing_whole}
 use Rattle.mos_listings.proofs.parts.list_dual_parents.Reads as list-dual-parents
 use Rattle.mos_listings.proofs.parts.list_dual_parents.Kinds as list-dual-parents-kinds
 use Rattle.mos_listings.proofs.parts.+list_dual_parents.Lts-list_dual_parents as list-dual-parents-lts
@@ -57,45 +57,45 @@ dual-of-requires t c κs = search rules
 
 put-pattern-requires : (t : ℕ) → list-dual-parents-lts.Need-put-pattern-requires (calls t) (list-dual-parents-at t) list-dual-parents.Post
 put-pattern-requires t c κs =
-    listing-room dualParents dualOf dual-follow _ _ c.before.before.before.before.before.list-parent-run.ensures c.before.before.before.before.before.before.before.before.requires.1.1
+    listing_room dual_parents dual_of dual_follow _ _ c.before.before.before.before.before.list-parent-run.ensures c.before.before.before.before.before.before.before.before.requires.1.1
 
 has-child-requires : (t : ℕ) → list-dual-parents-lts.Need-has-child-requires (calls t) (list-dual-parents-at t) list-dual-parents.Post
 has-child-requires t c κs = search rules
 
 child-of-requires : (t : ℕ) → list-dual-parents-lts.Need-child-of-requires (calls t) (list-dual-parents-at t) list-dual-parents.Post
-child-of-requires t c κs = (c.before.before.before.before.before.before.before.before.before.before.list-parent-run.ensures.pattern, sym c.before.has-child.ensures ∙ c.if1.true)
+child-of-requires t c κs = (c.before.before.before.before.before.before.before.before.before.before.list-parent-run.ensures.pattern, sym c.before.has_child.ensures ∙ c.if1.true)
 
 list-dual-parents-requires : (t : ℕ) → list-dual-parents-lts.Need-list-dual-parents-requires (calls t) (list-dual-parents-at t) list-dual-parents.Post
 list-dual-parents-requires t c κs =
     let start = c.before.before.before.before.before.before.before.before.before.before.before.before.before.before.before in
     let run = c.before.before.before.before.before.before.before.before.before.before.before.before.list-parent-run.ensures in
     let there = c.before.child-of.ensures in
-    let more = listing-more dualParents dualOf dual-follow _ _ run _ there (wrote_as (ap fields c.before.before.before.before.before.before.before.before.dual-of.ensures) c.before.before.before.before.before.before.put-pattern.ensures) in (
-      subst (λ (j : ℕ). steps_of c.before.child-of.result < j) start.requires.0 (omega (arith, run.falls, child-falls (child-at there))),
+    let more = listing_more dual_parents dual_of dual_follow _ _ run _ there (wrote_as (ap fields c.before.before.before.before.before.before.before.before.dual-of.ensures) c.before.before.before.before.before.before.put-pattern.ensures) in (
+      subst (λ (j : ℕ). steps_of c.before.child-of.result < j) start.requires.0 (omega (arith, run.falls, child_falls (child_at there))),
       (
         more.pattern,
-        listing-rest dualParents dualOf dual-follow _ _ more start.requires.1.1,
+        listing_rest dual_parents dual_of dual_follow _ _ more start.requires.1.1,
       ),
     )
 
 same_length : (t : ℕ) → list-dual-parents-lts.Need-same-length (calls t) (list-dual-parents-at t) list-dual-parents.Post
 same_length t c =
-    wrote-length c.before.before.list-dual-parents.ensures
-    ∙ wrote-length c.before.before.before.before.before.before.before.before.before.put-pattern.ensures
-    ∙ wrote-length c.before.before.before.before.before.before.before.before.before.before.before.before.before.before.before.list-parent-run.ensures.wrote
+    wrote_length c.before.before.list-dual-parents.ensures
+    ∙ wrote_length c.before.before.before.before.before.before.before.before.before.put-pattern.ensures
+    ∙ wrote_length c.before.before.before.before.before.before.before.before.before.before.before.before.before.before.before.list-parent-run.ensures.wrote
 
 returns : (t : ℕ) → list-dual-parents-lts.Need-returns (calls t) (list-dual-parents-at t) list-dual-parents.Post
 returns t c =
-    listing-whole dualParents dualOf dual-follow _ _
-    (listing-more dualParents dualOf dual-follow _ _ c.before.before.before.before.before.before.before.before.before.before.before.before.before.before.before.list-parent-run.ensures _ c.before.before.before.before.child-of.ensures (wrote_as (ap fields c.before.before.before.before.before.before.before.before.before.before.before.dual-of.ensures) c.before.before.before.before.before.before.before.before.before.put-pattern.ensures))
+    listing_whole dual_parents dual_of dual_follow _ _
+    (listing_more dual_parents dual_of dual_follow _ _ c.before.before.before.before.before.before.before.before.before.before.before.before.before.before.before.list-parent-run.ensures _ c.before.before.before.before.child-of.ensures (wrote_as (ap fields c.before.before.before.before.before.before.before.before.before.before.before.dual-of.ensures) c.before.before.before.before.before.before.before.before.before.put-pattern.ensures))
     c.before.before.list-dual-parents.ensures
 
 same-length-2 : (t : ℕ) → list-dual-parents-lts.Need-same-length-2 (calls t) (list-dual-parents-at t) list-dual-parents.Post
-same-length-2 t c = wrote-length c.before.before.before.before.put-pattern.ensures ∙ wrote-length c.before.before.before.before.before.before.before.before.before.before.list-parent-run.ensures.wrote
+same-length-2 t c = wrote_length c.before.before.before.before.put-pattern.ensures ∙ wrote_length c.before.before.before.before.before.before.before.before.before.before.list-parent-run.ensures.wrote
 
 returns-2 : (t : ℕ) → list-dual-parents-lts.Need-returns-2 (calls t) (list-dual-parents-at t) list-dual-parents.Post
 returns-2 t c =
-    listing-end dualParents dualOf dual-follow _ _ c.before.before.before.before.before.before.before.before.before.before.list-parent-run.ensures (none_of _ (sym c.before.has-child.ensures ∙ c.if1.false))
+    listing_end dual_parents dual_of dual_follow _ _ c.before.before.before.before.before.before.before.before.before.before.list-parent-run.ensures (none_of _ (sym c.before.has_child.ensures ∙ c.if1.false))
     (wrote_as (ap fields c.before.before.before.before.before.before.dual-of.ensures) c.before.before.before.before.put-pattern.ensures)
 
 pub +list-dual-parents-spec : {M : Type 1} → statement M

@@ -1,8 +1,8 @@
 -- A bound on the number of patterns, or their count.
 use borrow.Author.Rules.{rules}
 use Rattle.mos.specs.Walks.{children}
-use Rattle.mos.proofs.Sequences.{children-few}
-use Rattle.mos_listings.proofs.Listings.{fits-most, fits_count}
+use Rattle.mos.proofs.Sequences.{children_few}
+use Rattle.mos_listings.proofs.Listings.{fits_most, fits_count}
 use Rattle.mos_listings.proofs.parts.children_fit.Statement.{statement}
 use Rattle.mos_listings.proofs.parts.children_fit.Tie as tie
 
@@ -22,7 +22,7 @@ mul_most : tie.Need-overflow-mul-most
 mul_most c = search rules
 
 returns : tie.Need-returns
-returns c = fits-most (children c.before.before.before.args.m) _ _ (children-few c.before.before.before.args.m) c.if1.true
+returns c = fits_most (children c.before.before.before.args.m) _ _ (children_few c.before.before.before.args.m) c.if1.true
 
 count-children-requires : tie.Need-count-children-requires
 count-children-requires c κs = search rules

@@ -1,23 +1,23 @@
 -- A run: what is listed and what is still to come make up the whole walk; the steps of the dual fall with each pattern.
 use mathlib.Core.Path.{ap}
 use borrow.Author.Rules.{rules}
-use Rattle.text.proofs.Writing.{wrote_as, wrote-length}
-use Rattle.mos.specs.Patterns.{steps_of, dualOf}
+use Rattle.text.proofs.Writing.{wrote_as, wrote_length}
+use Rattle.mos.specs.Patterns.{steps_of, dual_of}
 use Rattle.mos.specs.Walks.{fields}
-use Rattle.mos_listings.specs.Parts.{Listing, dualParents}
-use Rattle.mos.proofs.Descent.{child-at, child-falls}
-use Rattle.mos_listings.proofs.Runs.{dual-follow, both_left, listing_start, listing-room, listing-more}
+use Rattle.mos_listings.specs.Parts.{Listing, dual_parents}
+use Rattle.mos.proofs.Descent.{child_at, child_falls}
+use Rattle.mos_listings.proofs.Runs.{dual_follow, both_left, listing_start, listing_room, listing_more}
 use Rattle.mos_listings.proofs.parts.list_parent_run.Statement.{statement}
 use Rattle.mos_listings.proofs.parts.list_parent_run.Tie as tie
 
 abbrev invariant-loop : tie.invariant-loop
-invariant-loop out₀ at primary next₀ place₀ out next place = Listing dualParents next₀ out₀ place₀ next out place
+invariant-loop out₀ at primary next₀ place₀ out next place = Listing dual_parents next₀ out₀ place₀ next out place
 
 abbrev decreases-loop : tie.decreases-loop
 decreases-loop out₀ at primary next₀ place₀ out next place = steps_of next
 
 loop-holds : tie.Need-loop-init invariant-loop decreases-loop
-loop-holds c = listing_start dualParents dualOf dual-follow _ _ _ c.before.before.requires.0
+loop-holds c = listing_start dual_parents dual_of dual_follow _ _ _ c.before.before.requires.0
 
 shortens-requires : tie.Need-shortens-requires invariant-loop decreases-loop
 shortens-requires c κs = search rules
@@ -27,20 +27,20 @@ dual-of-requires c κs = search rules
 
 put-pattern-requires : tie.Need-put-pattern-requires invariant-loop decreases-loop
 put-pattern-requires c κs =
-    listing-room dualParents dualOf dual-follow _ _ c.before.before.before.before.loop.invariant c.before.before.before.before.before.before.before.requires.1
+    listing_room dual_parents dual_of dual_follow _ _ c.before.before.before.before.loop.invariant c.before.before.before.before.before.before.before.requires.1
 
 child-of-requires : tie.Need-child-of-requires invariant-loop decreases-loop
 child-of-requires c κs = (c.before.before.before.before.before.before.before.loop.invariant.pattern, both_left _ _ c.before.before.before.before.before.before.shortens.ensures c.before.before.before.before.before.if1.true)
 
 loop-less : tie.Need-loop-smaller invariant-loop decreases-loop
-loop-less c = child-falls (child-at c.child-of.ensures)
+loop-less c = child_falls (child_at c.child-of.ensures)
 
 loop-again : tie.Need-loop-preserved invariant-loop decreases-loop
 loop-again c =
-    listing-more dualParents dualOf dual-follow _ _ c.before.before.before.before.before.before.before.before.loop.invariant c.child-of.result c.child-of.ensures (wrote_as (ap fields c.before.before.before.before.before.dual-of.ensures) c.before.before.before.put-pattern.ensures)
+    listing_more dual_parents dual_of dual_follow _ _ c.before.before.before.before.before.before.before.before.loop.invariant c.child-of.result c.child-of.ensures (wrote_as (ap fields c.before.before.before.before.before.dual-of.ensures) c.before.before.before.put-pattern.ensures)
 
 same_length : tie.Need-same-length invariant-loop decreases-loop
-same_length c = wrote-length c.before.before.loop.invariant.wrote
+same_length c = wrote_length c.before.before.loop.invariant.wrote
 
 returns : tie.Need-returns invariant-loop decreases-loop
 returns c = c.before.before.loop.invariant

@@ -2,7 +2,7 @@
 use native.Mathlib.Omega.{arith}
 use lib.ListN.{length-set}
 use borrow.Author.Rules.{rules}
-use Rattle.mos_listings.proofs.Listings.{wrote-four}
+use Rattle.mos_listings.proofs.Listings.{wrote_four}
 use Rattle.mos_listings.proofs.parts.put_pattern.Statement.{statement}
 use Rattle.mos_listings.proofs.parts.put_pattern.Tie as tie
 
@@ -46,7 +46,7 @@ same_length : tie.Need-same-length
 same_length c = search rules
 
 returns : tie.Need-returns
-returns c = wrote-four _ _ _ _ _ _
+returns c = wrote_four _ _ _ _ _ _
 
 pub put-pattern-spec : {M : Type 1} → statement M
 put-pattern-spec =

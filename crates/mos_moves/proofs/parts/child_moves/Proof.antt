@@ -1,6 +1,6 @@
 -- Which of the two steps is the longer one decides.
 use borrow.Author.Rules.{rules}
-use Rattle.mos_moves.proofs.Going.{moves-longer-primary, moves-longer-secondary}
+use Rattle.mos_moves.proofs.Going.{moves_longer_primary, moves_longer_secondary}
 use Rattle.mos_moves.proofs.parts.child_moves.Statement.{statement}
 use Rattle.mos_moves.proofs.parts.child_moves.Tie as tie
 
@@ -16,7 +16,7 @@ less-row-requires c κs = search rules
 returns : tie.Need-returns
 returns c =
     let start = c.before.before.before.before.before in
-    moves-longer-primary start.args.pattern start.args.t2 c.before.if1.true c.less-row.ensures
+    moves_longer_primary start.args.pattern start.args.t2 c.before.if1.true c.less-row.ensures
 
 less-row-requires-2 : tie.Need-less-row-requires-2
 less-row-requires-2 c κs = search rules
@@ -24,7 +24,7 @@ less-row-requires-2 c κs = search rules
 returns-2 : tie.Need-returns-2
 returns-2 c =
     let start = c.before.before.before.before.before in
-    moves-longer-secondary start.args.pattern start.args.t2 c.before.if1.false c.less-row2.ensures
+    moves_longer_secondary start.args.pattern start.args.t2 c.before.if1.false c.less-row2.ensures
 
 pub child-moves-spec : {M : Type 1} → statement M
 child-moves-spec =

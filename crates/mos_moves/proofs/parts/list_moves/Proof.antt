@@ -2,10 +2,10 @@
 use mathlib.Core.Path.{sym, ◌∙◌}
 use borrow.Author.Rules.{rules}
 use Rattle.mos.specs.Patterns.{steps_of}
-use Rattle.mos.proofs.Descent.{child-at, child-falls}
-use Rattle.mos_moves.proofs.Going.{going-pattern, going-small}
-use Rattle.text.proofs.Writing.{wrote-length}
-use Rattle.mos_moves.proofs.Listing.{Listing, listing_start, listing-room, listing-more, listing-end}
+use Rattle.mos.proofs.Descent.{child_at, child_falls}
+use Rattle.mos_moves.proofs.Going.{going_pattern, going_small}
+use Rattle.text.proofs.Writing.{wrote_length}
+use Rattle.mos_moves.proofs.Listing.{Listing, listing_start, listing_room, listing_more, listing_end}
 use Rattle.mos_moves.proofs.parts.list_moves.Statement.{statement}
 use Rattle.mos_moves.proofs.parts.list_moves.Tie as tie
 
@@ -22,7 +22,7 @@ start-requires : tie.Need-start-requires invariant-loop decreases-loop
 start-requires c κs = c.before.requires.0
 
 loop-holds : tie.Need-loop-init invariant-loop decreases-loop
-loop-holds c = listing_start _ _ c.before.before.requires.0 _ _ _ c.before.genesis-of.ensures c.start.ensures
+loop-holds c = listing_start _ _ c.before.before.requires.0 _ _ _ c.before.genesis_of_lem.ensures c.start.ensures
 
 has-child-requires : tie.Need-has-child-requires invariant-loop decreases-loop
 has-child-requires c κs = search rules
@@ -31,43 +31,43 @@ put-moves-requires : tie.Need-put-moves-requires invariant-loop decreases-loop
 put-moves-requires c κs =
     let start = c.before.before.before.before.before.before in
     let l = c.before.before.before.loop.invariant in (
-      listing-room l start.requires.1,
-      going-small _ _ start.requires.0 (search rules) (search rules) _ _ l.going,
+      listing_room l start.requires.1,
+      going_small _ _ start.requires.0 (search rules) (search rules) _ _ l.going,
     )
 
 child-moves-requires : tie.Need-child-moves-requires invariant-loop decreases-loop
 child-moves-requires c κs =
     let start = c.before.before.before.before.before.before.before.before in
-    going-small _ _ start.requires.0 (search rules) (search rules) _ _ c.before.before.before.before.before.loop.invariant.going
+    going_small _ _ start.requires.0 (search rules) (search rules) _ _ c.before.before.before.before.before.loop.invariant.going
 
 child-of-requires : tie.Need-child-of-requires invariant-loop decreases-loop
 child-of-requires c κs =
     let start = c.before.before.before.before.before.before.before.before.before in (
-      going-pattern _ _ start.requires.0 (search rules) (search rules) _ _ c.before.before.before.before.before.before.loop.invariant.going,
-      sym c.before.before.before.before.before.has-child.ensures ∙ c.before.before.before.before.if1.true,
+      going_pattern _ _ start.requires.0 (search rules) (search rules) _ _ c.before.before.before.before.before.before.loop.invariant.going,
+      sym c.before.before.before.before.before.has_child.ensures ∙ c.before.before.before.before.if1.true,
     )
 
 loop-less : tie.Need-loop-smaller invariant-loop decreases-loop
-loop-less c = child-falls (child-at c.child-of.ensures)
+loop-less c = child_falls (child_at c.child-of.ensures)
 
 loop-again : tie.Need-loop-preserved invariant-loop decreases-loop
 loop-again c =
-    listing-more c.before.before.before.before.before.before.before.loop.invariant c.before.before.before.put-moves.ensures _ c.child-of.ensures _ c.before.child-moves.ensures
+    listing_more c.before.before.before.before.before.before.before.loop.invariant c.before.before.before.put-moves.ensures _ c.child-of.ensures _ c.before.child-moves.ensures
 
 put-moves-requires-2 : tie.Need-put-moves-requires-2 invariant-loop decreases-loop
 put-moves-requires-2 c κs =
     let start = c.before.before.before.before.before.before in
     let l = c.before.before.before.loop.invariant in (
-      listing-room l start.requires.1,
-      going-small _ _ start.requires.0 (search rules) (search rules) _ _ l.going,
+      listing_room l start.requires.1,
+      going_small _ _ start.requires.0 (search rules) (search rules) _ _ l.going,
     )
 
 same_length : tie.Need-same-length invariant-loop decreases-loop
-same_length c = wrote-length c.before.put-moves2.ensures ∙ wrote-length c.before.before.before.before.before.loop.invariant.stored
+same_length c = wrote_length c.before.put-moves2.ensures ∙ wrote_length c.before.before.before.before.before.loop.invariant.stored
 
 returns : tie.Need-returns invariant-loop decreases-loop
 returns c =
-    listing-end c.before.before.before.before.before.loop.invariant c.before.put-moves2.ensures (sym c.before.before.before.before.has-child.ensures ∙ c.before.before.before.if1.false)
+    listing_end c.before.before.before.before.before.loop.invariant c.before.put-moves2.ensures (sym c.before.before.before.before.has_child.ensures ∙ c.before.before.before.if1.false)
 
 pub list-moves-spec : {M : Type 1} → statement M
 list-moves-spec =

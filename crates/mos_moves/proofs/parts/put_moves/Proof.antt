@@ -2,8 +2,8 @@
 use native.Mathlib.Omega.{arith}
 use lib.ListN.{length-set}
 use borrow.Author.Rules.{rules}
-use Rattle.mos_moves.proofs.SignedRows.{numbers-read}
-use Rattle.mos_moves.proofs.Listing.{stored-four}
+use Rattle.mos_moves.proofs.SignedRows.{numbers_read}
+use Rattle.mos_moves.proofs.Listing.{stored_four}
 use Rattle.mos_moves.proofs.parts.put_moves.Statement.{statement}
 use Rattle.mos_moves.proofs.parts.put_moves.Tie as tie
 
@@ -67,7 +67,7 @@ same_length c = search rules
 returns : tie.Need-returns
 returns c =
     let start = c.before.before.before.before.before.before in
-    stored-four _ _ _ _ _ _ (numbers-read start.args.t3 start.requires.1)
+    stored_four _ _ _ _ _ _ (numbers_read start.args.t3 start.requires.1)
 
 pub put-moves-spec : {M : Type 1} → statement M
 put-moves-spec =

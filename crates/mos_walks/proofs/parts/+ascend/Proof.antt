@@ -6,9 +6,9 @@ use borrow.Author.Rules.{rules}
 use borrow.Fn.Kinds.{In}
 use borrow.Fn.PlainCycle.{Measures, is, falls, and}
 use Rattle.mos.specs.Patterns.{count_of}
-use Rattle.mos.proofs.Descent.{parent-falls, parent-keeps-pattern}
-use Rattle.mos.proofs.Sequences.{parent-here, parent-later, parent-never}
-use Rattle.mos_walks.proofs.Meeting.{meets-here, meets-none, meets-as}
+use Rattle.mos.proofs.Descent.{parent_falls, parent_keeps_pattern}
+use Rattle.mos.proofs.Sequences.{parent_here, parent_later, parent_never}
+use Rattle.mos_walks.proofs.Meeting.{meets_here, meets_none, meets_as}
 use Rattle.mos_walks.proofs.parts.ascend.Reads as ascend
 use Rattle.mos_walks.proofs.parts.ascend.Kinds as ascend-kinds
 use Rattle.mos_walks.proofs.parts.+ascend.Lts-ascend as ascend-lts
@@ -38,7 +38,7 @@ calls t = (
 )
 
 returns : (t : ℕ) → ascend-lts.Need-returns (calls t) (ascend-at t) ascend.Post
-returns t c = meets-here _ _ (parent-here _ _ c.before.if1.true)
+returns t c = meets_here _ _ (parent_here _ _ c.before.if1.true)
 
 has-parent-requires : (t : ℕ) → ascend-lts.Need-has-parent-requires (calls t) (ascend-at t) ascend.Post
 has-parent-requires t c κs = search rules
@@ -53,17 +53,17 @@ ascend-requires : (t : ℕ) → ascend-lts.Need-ascend-requires (calls t) (ascen
 ascend-requires t c κs =
     let start = c.before.before.before.before.before in
     let there = c.before.parent_of.ensures in (
-      subst (λ (j : ℕ). count_of c.before.parent_of.result < j) start.requires.0 (parent-falls _ _ there),
-      parent-keeps-pattern _ _ there start.requires.1,
+      subst (λ (j : ℕ). count_of c.before.parent_of.result < j) start.requires.0 (parent_falls _ _ there),
+      parent_keeps_pattern _ _ there start.requires.1,
     )
 
 returns-2 : (t : ℕ) → ascend-lts.Need-returns-2 (calls t) (ascend-at t) ascend.Post
 returns-2 t c =
-    meets-as c.ascend.ensures
-    (parent-later _ _ c.before.before.parent_of.result c.before.before.before.before.before.if1.false c.before.before.parent_of.ensures)
+    meets_as c.ascend.ensures
+    (parent_later _ _ c.before.before.parent_of.result c.before.before.before.before.before.if1.false c.before.before.parent_of.ensures)
 
 returns-3 : (t : ℕ) → ascend-lts.Need-returns-3 (calls t) (ascend-at t) ascend.Post
-returns-3 t c = meets-none _ (parent-never _ _ c.before.before.if1.false (sym c.before.has-parent.ensures ∙ c.if2.false))
+returns-3 t c = meets_none _ (parent_never _ _ c.before.before.if1.false (sym c.before.has-parent.ensures ∙ c.if2.false))
 
 pub +ascend-spec : {M : Type 1} → statement M
 +ascend-spec =

@@ -6,9 +6,9 @@ use borrow.Author.Rules.{rules}
 use borrow.Fn.Kinds.{In}
 use borrow.Fn.PlainCycle.{Measures, is, falls, and}
 use Rattle.mos.specs.Patterns.{steps_of}
-use Rattle.mos.proofs.Descent.{child-at, child-falls, child-keeps-pattern}
-use Rattle.mos.proofs.Sequences.{child-here, child-later, child-never}
-use Rattle.mos_walks.proofs.Meeting.{meets-here, meets-none, meets-as}
+use Rattle.mos.proofs.Descent.{child_at, child_falls, child_keeps_pattern}
+use Rattle.mos.proofs.Sequences.{child_here, child_later, child_never}
+use Rattle.mos_walks.proofs.Meeting.{meets_here, meets_none, meets_as}
 use Rattle.mos_walks.proofs.parts.descend.Reads as descend
 use Rattle.mos_walks.proofs.parts.descend.Kinds as descend-kinds
 use Rattle.mos_walks.proofs.parts.+descend.Lts-descend as descend-lts
@@ -38,13 +38,13 @@ calls t = (
 )
 
 returns : (t : ℕ) → descend-lts.Need-returns (calls t) (descend-at t) descend.Post
-returns t c = meets-here _ _ (child-here _ _ c.before.if1.true)
+returns t c = meets_here _ _ (child_here _ _ c.before.if1.true)
 
 has-child-requires : (t : ℕ) → descend-lts.Need-has-child-requires (calls t) (descend-at t) descend.Post
 has-child-requires t c κs = search rules
 
 child-of-requires : (t : ℕ) → descend-lts.Need-child-of-requires (calls t) (descend-at t) descend.Post
-child-of-requires t c κs = (c.before.before.before.requires.1, sym c.before.has-child.ensures ∙ c.if2.true)
+child-of-requires t c κs = (c.before.before.before.requires.1, sym c.before.has_child.ensures ∙ c.if2.true)
 
 sub-descend : (t : ℕ) → descend-lts.Need-overflow-sub-descend (calls t) (descend-at t) descend.Post
 sub-descend t c = omega arith
@@ -52,18 +52,18 @@ sub-descend t c = omega arith
 descend-requires : (t : ℕ) → descend-lts.Need-descend-requires (calls t) (descend-at t) descend.Post
 descend-requires t c κs =
     let start = c.before.before.before.before.before in
-    let there = child-at c.before.child-of.ensures in (
-      subst (λ (j : ℕ). steps_of c.before.child-of.result < j) start.requires.0 (child-falls there),
-      child-keeps-pattern there start.requires.1,
+    let there = child_at c.before.child-of.ensures in (
+      subst (λ (j : ℕ). steps_of c.before.child-of.result < j) start.requires.0 (child_falls there),
+      child_keeps_pattern there start.requires.1,
     )
 
 returns-2 : (t : ℕ) → descend-lts.Need-returns-2 (calls t) (descend-at t) descend.Post
 returns-2 t c =
-    meets-as c.descend.ensures
-    (child-later _ _ c.before.before.child-of.result c.before.before.before.before.before.if1.false c.before.before.child-of.ensures)
+    meets_as c.descend.ensures
+    (child_later _ _ c.before.before.child-of.result c.before.before.before.before.before.if1.false c.before.before.child-of.ensures)
 
 returns-3 : (t : ℕ) → descend-lts.Need-returns-3 (calls t) (descend-at t) descend.Post
-returns-3 t c = meets-none _ (child-never _ _ c.before.before.if1.false (sym c.before.has-child.ensures ∙ c.if2.false))
+returns-3 t c = meets_none _ (child_never _ _ c.before.before.if1.false (sym c.before.has_child.ensures ∙ c.if2.false))
 
 pub +descend-spec : {M : Type 1} → statement M
 +descend-spec =

@@ -6,9 +6,9 @@ use borrow.Author.Rules.{rules}
 use borrow.Fn.Kinds.{In}
 use borrow.Fn.PlainCycle.{Measures, is, falls, and}
 use Rattle.mos.specs.Patterns.{count_of}
-use Rattle.mos.proofs.Descent.{parent-falls, parent-keeps-pattern}
-use Rattle.mos.proofs.Sequences.{genesis-here, genesis-next}
-use Rattle.mos_walks.proofs.Meeting.{meets-here, meets-as}
+use Rattle.mos.proofs.Descent.{parent_falls, parent_keeps_pattern}
+use Rattle.mos.proofs.Sequences.{genesis_here, genesis_next}
+use Rattle.mos_walks.proofs.Meeting.{meets_here, meets_as}
 use Rattle.mos_walks.proofs.parts.root.Reads as root
 use Rattle.mos_walks.proofs.parts.root.Kinds as root-kinds
 use Rattle.mos_walks.proofs.parts.+root.Lts-root as root-lts
@@ -47,15 +47,15 @@ root-requires : (t : ℕ) → root-lts.Need-root-requires (calls t) (root-at t) 
 root-requires t c κs =
     let start = c.before.before.before.before in
     let there = c.before.parent_of.ensures in (
-      subst (λ (j : ℕ). count_of c.before.parent_of.result < j) start.requires.0 (parent-falls _ _ there),
-      parent-keeps-pattern _ _ there start.requires.1,
+      subst (λ (j : ℕ). count_of c.before.parent_of.result < j) start.requires.0 (parent_falls _ _ there),
+      parent_keeps_pattern _ _ there start.requires.1,
     )
 
 returns : (t : ℕ) → root-lts.Need-returns (calls t) (root-at t) root.Post
-returns t c = meets-as c.root.ensures (ap some (genesis-next _ _ c.before.before.parent_of.ensures))
+returns t c = meets_as c.root.ensures (ap some (genesis_next _ _ c.before.before.parent_of.ensures))
 
 returns-2 : (t : ℕ) → root-lts.Need-returns-2 (calls t) (root-at t) root.Post
-returns-2 t c = meets-here _ _ (ap some (genesis-here _ (sym c.before.before.has-parent.ensures ∙ c.before.if1.false)))
+returns-2 t c = meets_here _ _ (ap some (genesis_here _ (sym c.before.before.has-parent.ensures ∙ c.before.if1.false)))
 
 pub +root-spec : {M : Type 1} → statement M
 +root-spec =

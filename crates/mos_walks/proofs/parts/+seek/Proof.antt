@@ -6,9 +6,9 @@ use borrow.Author.Rules.{rules}
 use borrow.Fn.Kinds.{In}
 use borrow.Fn.PlainCycle.{Measures, is, falls, and}
 use Rattle.mos.specs.Patterns.{mos, steps_of}
-use Rattle.mos.proofs.Descent.{child-at, child-falls, child-keeps-pattern}
-use Rattle.mos_walks.proofs.Meeting.{meets-here, meets-none, meets-as}
-use Rattle.mos_walks.proofs.Searches.{find-here, find_past, find-end, find-next}
+use Rattle.mos.proofs.Descent.{child_at, child_falls, child_keeps_pattern}
+use Rattle.mos_walks.proofs.Meeting.{meets_here, meets_none, meets_as}
+use Rattle.mos_walks.proofs.Searches.{find_here, find_past, find_end, find_next}
 use Rattle.mos_walks.proofs.parts.seek.Reads as seek
 use Rattle.mos_walks.proofs.parts.seek.Kinds as seek-kinds
 use Rattle.mos_walks.proofs.parts.+seek.Lts-seek as seek-lts
@@ -44,10 +44,10 @@ count-of-requires : (t : ℕ) → seek-lts.Need-count-of-requires (calls t) (see
 count-of-requires t c κs = search rules
 
 returns : (t : ℕ) → seek-lts.Need-returns (calls t) (seek-at t) seek.Post
-returns t c = meets-here _ _ (find-here _ _ (sym c.before.before.count_of.ensures ∙ c.before.if1.true))
+returns t c = meets_here _ _ (find_here _ _ (sym c.before.before.count_of.ensures ∙ c.before.if1.true))
 
 returns-2 : (t : ℕ) → seek-lts.Need-returns-2 (calls t) (seek-at t) seek.Post
-returns-2 t c = meets-none _ (find_past _ _ (omega arith))
+returns-2 t c = meets_none _ (find_past _ _ (omega arith))
 
 has-child-requires : (t : ℕ) → seek-lts.Need-has-child-requires (calls t) (seek-at t) seek.Post
 has-child-requires t c κs = search rules
@@ -56,24 +56,24 @@ child-of-requires : (t : ℕ) → seek-lts.Need-child-of-requires (calls t) (see
 child-of-requires t c κs =
     let start = c.before.before.before.before.before in (
       start.requires.1,
-      sym c.before.has-child.ensures ∙ c.if3.true,
+      sym c.before.has_child.ensures ∙ c.if3.true,
     )
 
 seek-requires : (t : ℕ) → seek-lts.Need-seek-requires (calls t) (seek-at t) seek.Post
 seek-requires t c κs =
     let start = c.before.before.before.before.before.before.before in
-    let child = child-at c.before.child-of.ensures in (
-      subst (λ (j : ℕ). steps_of c.before.child-of.result < j) start.requires.0 (child-falls child),
-      child-keeps-pattern child start.requires.1,
+    let child = child_at c.before.child-of.ensures in (
+      subst (λ (j : ℕ). steps_of c.before.child-of.result < j) start.requires.0 (child_falls child),
+      child_keeps_pattern child start.requires.1,
     )
 
 returns-3 : (t : ℕ) → seek-lts.Need-returns-3 (calls t) (seek-at t) seek.Post
 returns-3 t c =
-    meets-as c.seek.ensures
-    (find-next _ _ c.before.before.child-of.result (omega arith) c.before.before.child-of.ensures)
+    meets_as c.seek.ensures
+    (find_next _ _ c.before.before.child-of.result (omega arith) c.before.before.child-of.ensures)
 
 returns-4 : (t : ℕ) → seek-lts.Need-returns-4 (calls t) (seek-at t) seek.Post
-returns-4 t c = meets-none _ (find-end _ _ (omega arith) (sym c.before.has-child.ensures ∙ c.if3.false))
+returns-4 t c = meets_none _ (find_end _ _ (omega arith) (sym c.before.has_child.ensures ∙ c.if3.false))
 
 pub +seek-spec : {M : Type 1} → statement M
 +seek-spec =

@@ -4,15 +4,15 @@ use mathlib.Core.Bool.{true}
 use native.Mathlib.Omega.{arith}
 use borrow.Author.Rules.{rules}
 use borrow.Author.Tests.{not-true, not-false}
-use Rattle.mos.specs.Patterns.{isPattern, steps_of}
-use Rattle.mos.specs.Walks.{children, firstWith}
-use Rattle.mos.proofs.Descent.{child-at, child-falls, child-keeps-pattern}
-use Rattle.mos_walks.proofs.Searches.{find-here, find_past, find-end, find-next}
+use Rattle.mos.specs.Patterns.{is_pattern, steps_of}
+use Rattle.mos.specs.Walks.{children, first_with}
+use Rattle.mos.proofs.Descent.{child_at, child_falls, child_keeps_pattern}
+use Rattle.mos_walks.proofs.Searches.{find_here, find_past, find_end, find_next}
 use Rattle.mos_walks.proofs.search.first_with.Statement.{statement}
 use Rattle.mos_walks.proofs.search.first_with.Tie as tie
 
 abbrev invariant-loop : tie.invariant-loop
-invariant-loop n pattern₀ pattern = (isPattern pattern ≡ true) × (firstWith n (children pattern) ≡ firstWith n (children pattern₀))
+invariant-loop n pattern₀ pattern = (is_pattern pattern ≡ true) × (first_with n (children pattern) ≡ first_with n (children pattern₀))
 
 abbrev decreases-loop : tie.decreases-loop
 decreases-loop n pattern₀ pattern = steps_of pattern
@@ -34,26 +34,26 @@ has-child-requires c κs = search rules
 
 returns-2 : tie.Need-returns-2 invariant-loop decreases-loop
 returns-2 c =
-    find-end _ _ (omega arith) (sym c.before.has-child.ensures ∙ not-true _ c.if3.true)
+    find_end _ _ (omega arith) (sym c.before.has_child.ensures ∙ not-true _ c.if3.true)
     ∙ c.before.before.before.before.before.before.loop.invariant.1
 
 child-of-requires : tie.Need-child-of-requires invariant-loop decreases-loop
 child-of-requires c κs =
     let loop = c.before.before.before.before.before.before.loop in
-    (loop.invariant.0, sym c.before.has-child.ensures ∙ not-false _ c.if3.false)
+    (loop.invariant.0, sym c.before.has_child.ensures ∙ not-false _ c.if3.false)
 
 loop-less : tie.Need-loop-smaller invariant-loop decreases-loop
-loop-less c = child-falls (child-at c.child-of.ensures)
+loop-less c = child_falls (child_at c.child-of.ensures)
 
 loop-again : tie.Need-loop-preserved invariant-loop decreases-loop
 loop-again c =
     let loop = c.before.before.before.before.before.before.before.loop in (
-      child-keeps-pattern (child-at c.child-of.ensures) loop.invariant.0,
-      find-next _ _ _ (omega arith) c.child-of.ensures ∙ loop.invariant.1,
+      child_keeps_pattern (child_at c.child-of.ensures) loop.invariant.0,
+      find_next _ _ _ (omega arith) c.child-of.ensures ∙ loop.invariant.1,
     )
 
 returns-3 : tie.Need-returns-3 invariant-loop decreases-loop
-returns-3 c = find-here _ _ (omega arith) ∙ c.before.before.loop.invariant.1
+returns-3 c = find_here _ _ (omega arith) ∙ c.before.before.loop.invariant.1
 
 pub first-with-spec : {M : Type 1} → statement M
 first-with-spec =

@@ -2,7 +2,7 @@
 use mathlib.Core.Path.{ap}
 use native.Mathlib.Omega.{arith}
 use lib.ListN.{length}
-use Rattle.notes.proofs.Lengths.{length_two, length-in-parentheses, length-plain, body-bracketed, body-one}
+use Rattle.notes.proofs.Lengths.{length_two, length_in_parentheses, length_plain, body_bracketed, body_one}
 use borrow.Author.Rules.{rules}
 use Rattle.notes.proofs.plans.body_length.Statement.{statement}
 use Rattle.notes.proofs.plans.body_length.Tie as tie
@@ -26,19 +26,19 @@ returns : tie.Need-returns
 returns c =
     let p = c.before.before.before.before.before.before.args.plan in
     record {
-      length-is = omega (arith, length_two p, length-in-parentheses p c.if2.true, ap length (body-bracketed p c.before.before.if1.true));
+      length_is = omega (arith, length_two p, length_in_parentheses p c.if2.true, ap length (body_bracketed p c.before.before.if1.true));
       bound = omega arith;
     }
 
 returns-2 : tie.Need-returns-2
 returns-2 c =
     let p = c.before.before.before.before.before.before.args.plan in
-    record { length-is = omega (arith, length_two p, length-plain p c.if2.false, ap length (body-bracketed p c.before.before.if1.true)); bound = omega arith }
+    record { length_is = omega (arith, length_two p, length_plain p c.if2.false, ap length (body_bracketed p c.before.before.if1.true)); bound = omega arith }
 
 returns-3 : tie.Need-returns-3
 returns-3 c =
     let p = c.before.before.before.before.args.plan in
-    record { length-is = omega (arith, ap length (body-one p c.if1.false)); bound = omega arith }
+    record { length_is = omega (arith, ap length (body_one p c.if1.false)); bound = omega arith }
 
 pub body-length-spec : {M : Type 1} → statement M
 body-length-spec =

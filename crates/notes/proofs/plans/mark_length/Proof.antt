@@ -1,6 +1,6 @@
 -- The letter's bytes and one for each sign.
 use native.Mathlib.Omega.{arith}
-use Rattle.notes.proofs.Lengths.{length-mark}
+use Rattle.notes.proofs.Lengths.{length_mark}
 use borrow.Author.Rules.{rules}
 use Rattle.notes.proofs.plans.mark_length.Statement.{statement}
 use Rattle.notes.proofs.plans.mark_length.Tie as tie
@@ -15,7 +15,7 @@ add-result : tie.Need-overflow-add-result
 add-result c = search rules
 
 returns : tie.Need-returns
-returns c = record { length-is = omega (arith, length-mark c.before.before.args.mark); bound = omega arith }
+returns c = record { length_is = omega (arith, length_mark c.before.before.args.mark); bound = omega arith }
 
 pub mark-length-spec : {M : Type 1} → statement M
 mark-length-spec = tie.close (tie.spec letter-length-requires cast-result add-result returns)

@@ -1,6 +1,6 @@
 -- The printed spellings and one for each star.
 use native.Mathlib.Omega.{arith}
-use Rattle.notes.proofs.Lengths.{length-plan}
+use Rattle.notes.proofs.Lengths.{length_plan}
 use borrow.Author.Rules.{rules}
 use Rattle.notes.proofs.plans.plan_length.Statement.{statement}
 use Rattle.notes.proofs.plans.plan_length.Tie as tie
@@ -15,7 +15,7 @@ add-result : tie.Need-overflow-add-result
 add-result c = search rules
 
 returns : tie.Need-returns
-returns c = record { length-is = omega (arith, length-plan c.before.before.args.plan); bound = omega arith }
+returns c = record { length_is = omega (arith, length_plan c.before.before.args.plan); bound = omega arith }
 
 pub plan-length-spec : {M : Type 1} → statement M
 plan-length-spec = tie.close (tie.spec body-length-requires cast-result add-result returns)

@@ -1,5 +1,5 @@
 -- The two spellings as marks, then one law for each way in which the plan is made.
-use Rattle.notes.proofs.PlanTexts.{planned-alone, planned-sharp, planned-flat, planned-sharp-flat, planned-flat-sharp}
+use Rattle.notes.proofs.PlanTexts.{planned_alone, planned_sharp, planned_flat, planned_sharp_flat, planned_flat_sharp}
 use mathlib.Core.Path.{sym, ◌∙◌}
 use borrow.Author.Rules.{rules}
 use Rattle.notes.proofs.plans.plan_letters.Statement.{statement}
@@ -26,7 +26,7 @@ one-requires c κs = search rules
 returns : tie.Need-returns
 returns c letters at =
     let d = c.before.before in
-    planned-alone letters _ _ _ d.before.stars.ensures _ _ d.before.before.before.before.before.requires _ _ d.before.before.before.before.sharp-mark.ensures d.before.before.before.flat-mark.ensures at
+    planned_alone letters _ _ _ d.before.stars.ensures _ _ d.before.before.before.before.before.requires _ _ d.before.before.before.before.sharp-mark.ensures d.before.before.before.flat-mark.ensures at
     c.one.ensures (sym d.letter-alone.ensures ∙ c.before.if1.true)
 
 one-requires-2 : tie.Need-one-requires-2
@@ -35,7 +35,7 @@ one-requires-2 c κs = search rules
 returns-2 : tie.Need-returns-2
 returns-2 c letters at =
     let d = c.before.before.before in
-    planned-sharp letters _ _ _ d.before.stars.ensures _ _ d.before.before.before.before.before.requires _ _ d.before.before.before.before.sharp-mark.ensures d.before.before.before.flat-mark.ensures at
+    planned_sharp letters _ _ _ d.before.stars.ensures _ _ d.before.before.before.before.before.requires _ _ d.before.before.before.before.sharp-mark.ensures d.before.before.before.flat-mark.ensures at
     c.one2.ensures c.before.if2.true
 
 one-requires-3 : tie.Need-one-requires-3
@@ -44,7 +44,7 @@ one-requires-3 c κs = search rules
 returns-3 : tie.Need-returns-3
 returns-3 c letters at =
     let d = c.before.before.before.before in
-    planned-flat letters _ _ _ d.before.stars.ensures _ _ d.before.before.before.before.before.requires _ _ d.before.before.before.before.sharp-mark.ensures d.before.before.before.flat-mark.ensures at
+    planned_flat letters _ _ _ d.before.stars.ensures _ _ d.before.before.before.before.before.requires _ _ d.before.before.before.before.sharp-mark.ensures d.before.before.before.flat-mark.ensures at
     c.one3.ensures c.before.if3.true
 
 two-requires : tie.Need-two-requires
@@ -54,7 +54,7 @@ returns-4 : tie.Need-returns-4
 returns-4 c letters at =
     let e = c.before.before in
     let d = e.before.before.before in
-    planned-sharp-flat letters _ _ _ d.before.stars.ensures _ _ d.before.before.before.before.before.requires _ _ d.before.before.before.before.sharp-mark.ensures d.before.before.before.flat-mark.ensures at
+    planned_sharp_flat letters _ _ _ d.before.stars.ensures _ _ d.before.before.before.before.before.requires _ _ d.before.before.before.before.sharp-mark.ensures d.before.before.before.flat-mark.ensures at
     _ d.before.before.is-present.ensures (sym d.letter-alone.ensures ∙ e.before.before.if1.false) e.if3.false e.before.if2.false
     c.two.ensures c.before.if4.true
 
@@ -65,7 +65,7 @@ returns-5 : tie.Need-returns-5
 returns-5 c letters at =
     let e = c.before.before in
     let d = e.before.before.before in
-    planned-flat-sharp letters _ _ _ d.before.stars.ensures _ _ d.before.before.before.before.before.requires _ _ d.before.before.before.before.sharp-mark.ensures d.before.before.before.flat-mark.ensures at
+    planned_flat_sharp letters _ _ _ d.before.stars.ensures _ _ d.before.before.before.before.before.requires _ _ d.before.before.before.before.sharp-mark.ensures d.before.before.before.flat-mark.ensures at
     _ d.before.before.is-present.ensures (sym d.letter-alone.ensures ∙ e.before.before.if1.false) e.if3.false e.before.if2.false
     c.two2.ensures c.before.if4.false
 

@@ -14,7 +14,7 @@ plan-letters-requires c κs = (c.before.letter_at.ensures.1, c.letter-at2.ensure
 
 returns : tie.Need-returns
 returns c =
-    c.plan-letters.ensures _ (record { sharp-is = c.before.before.letter_at.ensures.0; flat-is = c.before.letter-at2.ensures.0 })
+    c.plan-letters.ensures _ (record { sharp_is = c.before.before.letter_at.ensures.0; flat_is = c.before.letter-at2.ensures.0 })
 
 pub plan-name-spec : {M : Type 1} → statement M
 plan-name-spec = tie.close (tie.spec letter-at-requires letter-at-requires-2 plan-letters-requires returns)

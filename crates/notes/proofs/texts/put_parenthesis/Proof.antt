@@ -5,7 +5,7 @@ use mathlib.Core.Bool.{Bool}
 use native.Mathlib.Omega.{arith}
 use lib.ListN.{length}
 use Rattle.text.proofs.Writing.{wrote_none}
-use Rattle.notes.specs.Parts.{parenthesisText}
+use Rattle.notes.specs.Parts.{parenthesis_text}
 use borrow.Author.Rules.{rules}
 use Rattle.notes.proofs.texts.put_parenthesis.Statement.{statement}
 use Rattle.notes.proofs.texts.put_parenthesis.Tie as tie
@@ -13,7 +13,7 @@ use Rattle.notes.proofs.texts.put_parenthesis.Tie as tie
 put-byte-requires : tie.Need-put-byte-requires
 put-byte-requires c κs =
     let s = c.before.before.before in
-    omega (arith, s.requires, ap (λ (b : Bool). length (parenthesisText b s.args.byte)) c.before.if1.true)
+    omega (arith, s.requires, ap (λ (b : Bool). length (parenthesis_text b s.args.byte)) c.before.if1.true)
 
 same_length : tie.Need-same-length
 same_length c = search rules

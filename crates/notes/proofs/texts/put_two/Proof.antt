@@ -1,7 +1,7 @@
 -- The first spelling, the slash, and the second.
 use native.Mathlib.Omega.{arith}
 use Rattle.text.proofs.Writing.{then}
-use Rattle.notes.specs.Parts.{twoText}
+use Rattle.notes.specs.Parts.{two_text}
 use Rattle.notes.proofs.Lengths.{length_two}
 use borrow.Author.Rules.{rules}
 use Rattle.notes.proofs.texts.put_two.Statement.{statement}
@@ -22,7 +22,7 @@ same_length : tie.Need-same-length
 same_length c = search rules
 
 returns : tie.Need-returns
-unfolding twoText
+unfolding two_text
 returns c =
     then
     (then

@@ -3,9 +3,9 @@ use lib.ListN.{length}
 use mathlib.Core.Path.{refl, ap}
 use native.Mathlib.Omega.{arith}
 use Rattle.answer.specs.Outcome.{given}
-use Rattle.text.proofs.Writing.{filled-given}
-use Rattle.answer.proofs.Lent.{held, not-held, filled-refused}
-use Rattle.notes.specs.Parts.{planText}
+use Rattle.text.proofs.Writing.{filled_given}
+use Rattle.answer.proofs.Lent.{held, not_held, filled_refused}
+use Rattle.notes.specs.Parts.{plan_text}
 use borrow.Author.Rules.{rules}
 use Rattle.notes.proofs.texts.write_planned.Statement.{statement}
 use Rattle.notes.proofs.texts.write_planned.Tie as tie
@@ -16,8 +16,8 @@ plan-length-requires c κs = search rules
 returns : tie.Need-returns
 returns c =
     let args = c.before.before.before.args in
-    let bytes = c.before.plan-length.ensures.length-is in
-    filled-refused 10 _ (not-held (length args.out.now) (planText args.plan) (omega (arith, bytes))) refl
+    let bytes = c.before.plan-length.ensures.length_is in
+    filled_refused 10 _ (not_held (length args.out.now) (plan_text args.plan) (omega (arith, bytes))) refl
 
 put-name-requires : tie.Need-put-name-requires
 put-name-requires c κs = search rules
@@ -28,8 +28,8 @@ same_length c = search rules
 returns-2 : tie.Need-returns-2
 returns-2 c =
     let args = c.before.before.before.before.before.before.before.args in
-    let bytes = c.before.before.before.before.before.plan-length.ensures.length-is in
-    filled-given (held (length args.out.now) (planText args.plan) (omega (arith, bytes))) (ap given bytes) (omega (arith, bytes))
+    let bytes = c.before.before.before.before.before.plan-length.ensures.length_is in
+    filled_given (held (length args.out.now) (plan_text args.plan) (omega (arith, bytes))) (ap given bytes) (omega (arith, bytes))
     c.before.before.put-name.ensures
 
 pub write-planned-spec : {M : Type 1} → statement M

@@ -3,7 +3,7 @@ use Prim.Native.Nat.{ℕ}
 use mathlib.Core.Path.{ap}
 use Rattle.pergen.specs.declared.Signs.TheVariants.{Sharps}
 use Rattle.pergen.specs.declared.Spelling.{Spelling}
-use Rattle.pergen.specs.Spelling.{sharpSpelling}
+use Rattle.pergen.specs.Spelling.{sharp_spelling}
 use borrow.Author.Rules.{rules}
 use Rattle.pergen.proofs.Accidentals.sharp_spelling.Statement.{statement}
 use Rattle.pergen.proofs.Accidentals.sharp_spelling.Tie as tie
@@ -18,7 +18,7 @@ abbrev spelt : ℕ → ℕ → ℕ → Spelling
 spelt i k s = record { index = i; signs = Sharps k; stars = s }
 
 returns : tie.Need-returns
-unfolding sharpSpelling
+unfolding sharp_spelling
 returns c = ap (spelt c.before.before.args.self.sharp_index c.before.before.args.self.sharp_count) c.stars.ensures
 
 pub sharp-spelling-spec : {M : Type 1} → statement M

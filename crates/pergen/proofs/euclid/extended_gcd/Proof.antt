@@ -3,7 +3,7 @@ use native.Mathlib.Nat.{mod-lt}
 use native.Mathlib.Omega.{arith}
 use borrow.Author.Rules.{rules}
 use Rattle.pergen.specs.Parts.{Going}
-use Rattle.pergen.proofs.ExtendedEuclid.{step, next_small, last-small, done}
+use Rattle.pergen.proofs.ExtendedEuclid.{step, next_small, last_small, done}
 use Rattle.pergen.proofs.euclid.extended_gcd.Statement.{statement}
 use Rattle.pergen.proofs.euclid.extended_gcd.Tie as tie
 
@@ -50,10 +50,10 @@ cast-t14 : tie.Need-overflow-cast-t14 invariant-loop decreases-loop
 cast-t14 c = omega (arith, c.before.loop.invariant.small₀)
 
 cast-t15 : tie.Need-overflow-cast-t15 invariant-loop decreases-loop
-cast-t15 c = omega (arith, last-small _ _ _ _ _ _ _ c.before.loop.invariant c.loop-test.false)
+cast-t15 c = omega (arith, last_small _ _ _ _ _ _ _ c.before.loop.invariant c.loop-test.false)
 
 cast-t16 : tie.Need-overflow-cast-t16 invariant-loop decreases-loop
-cast-t16 c = omega (arith, last-small _ _ _ _ _ _ _ c.before.loop.invariant c.loop-test.false, c.before.loop.invariant.ordered c.loop-test.false)
+cast-t16 c = omega (arith, last_small _ _ _ _ _ _ _ c.before.loop.invariant c.loop-test.false, c.before.loop.invariant.ordered c.loop-test.false)
 
 returns : tie.Need-returns invariant-loop decreases-loop
 returns c = done _ _ _ _ _ _ _ c.before.loop.invariant c.loop-test.false

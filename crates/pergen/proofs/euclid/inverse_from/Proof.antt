@@ -1,5 +1,5 @@
 -- Backward, the coefficient's rest is counted.
-use Rattle.pergen.proofs.ExtendedEuclid.{turned-back, turned_on}
+use Rattle.pergen.proofs.ExtendedEuclid.{turned_back, turned_on}
 use borrow.Author.Rules.{rules}
 use Rattle.pergen.proofs.euclid.inverse_from.Statement.{statement}
 use Rattle.pergen.proofs.euclid.inverse_from.Tie as tie
@@ -11,7 +11,7 @@ within-requires : tie.Need-within-requires
 within-requires c κs = search rules
 
 returns : tie.Need-returns
-returns c = turned-back c.before.before.before.args.found c.before.before.if1.true _ c.within.ensures
+returns c = turned_back c.before.before.before.args.found c.before.before.if1.true _ c.within.ensures
 
 within-requires-2 : tie.Need-within-requires-2
 within-requires-2 c κs = search rules

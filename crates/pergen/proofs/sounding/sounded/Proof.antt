@@ -2,7 +2,7 @@
 use Prim.Native.Nat.{◌+◌, ◌*◌}
 use native.Mathlib.Nat.{mod-lt}
 use native.Mathlib.Omega.{arith}
-use Rattle.pergen.proofs.Differences.{sounded-is, key-product}
+use Rattle.pergen.proofs.Differences.{sounded_is, key_product}
 use borrow.Author.Rules.{rules}
 use Rattle.pergen.proofs.sounding.sounded.Statement.{statement}
 use Rattle.pergen.proofs.sounding.sounded.Tie as tie
@@ -18,11 +18,11 @@ cast-key c = search rules
 
 mul-key : tie.Need-overflow-mul-key
 mul-key c =
-    omega (arith, key-product c.before.before.before.args.pergen.period c.before.before.before.args.pergen.generator c.before.before.before.args.stars c.before.place-in-period.result c.before.before.before.args.sides.above c.before.before.before.args.sides.below c.before.before.before.requires c.before.place-in-period.ensures (search rules) (search rules))
+    omega (arith, key_product c.before.before.before.args.pergen.period c.before.before.before.args.pergen.generator c.before.before.before.args.stars c.before.place-in-period.result c.before.before.before.args.sides.above c.before.before.before.args.sides.below c.before.before.before.requires c.before.place-in-period.ensures (search rules) (search rules))
 
 add-key : tie.Need-overflow-add-key
 add-key c =
-    omega (arith, key-product c.before.before.before.args.pergen.period c.before.before.before.args.pergen.generator c.before.before.before.args.stars c.before.place-in-period.result c.before.before.before.args.sides.above c.before.before.before.args.sides.below c.before.before.before.requires c.before.place-in-period.ensures (search rules) (search rules))
+    omega (arith, key_product c.before.before.before.args.pergen.period c.before.before.before.args.pergen.generator c.before.before.before.args.stars c.before.place-in-period.result c.before.before.before.args.sides.above c.before.before.before.args.sides.below c.before.before.before.requires c.before.place-in-period.ensures (search rules) (search rules))
 
 rem-result : tie.Need-nonzero-rem-result
 rem-result c = search rules
@@ -33,7 +33,7 @@ cast-result c =
 
 returns : tie.Need-returns
 returns c =
-    sounded-is c.before.before.before.args.pergen.period c.before.before.before.args.pergen.generator c.before.before.before.args.stars c.before.place-in-period.result c.before.before.before.args.sides.above c.before.before.before.args.sides.below c.before.before.before.requires c.before.place-in-period.ensures
+    sounded_is c.before.before.before.args.pergen.period c.before.before.before.args.pergen.generator c.before.before.before.args.stars c.before.place-in-period.result c.before.before.before.args.sides.above c.before.before.before.args.sides.below c.before.before.before.requires c.before.place-in-period.ensures
 
 pub sounded-spec : {M : Type 1} → statement M
 sounded-spec =

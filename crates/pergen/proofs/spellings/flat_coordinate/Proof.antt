@@ -1,5 +1,5 @@
 -- One comparison takes the remainder of N − 1 − d, which is above −R and below R.
-use Rattle.pergen.proofs.Indices.{flat-inside, flat-past}
+use Rattle.pergen.proofs.Indices.{flat_inside, flat_past}
 use borrow.Author.Rules.{rules}
 use Rattle.pergen.proofs.spellings.flat_coordinate.Statement.{statement}
 use Rattle.pergen.proofs.spellings.flat_coordinate.Tie as tie
@@ -14,10 +14,10 @@ sub-result : tie.Need-overflow-sub-result
 sub-result c = search rules
 
 returns : tie.Need-returns
-returns c = flat-past _ _ _ (search rules) c.if1.true (search rules)
+returns c = flat_past _ _ _ (search rules) c.if1.true (search rules)
 
 returns-2 : tie.Need-returns-2
-returns-2 c = flat-inside _ _ _ (search rules) (search rules) c.if1.false
+returns-2 c = flat_inside _ _ _ (search rules) (search rules) c.if1.false
 
 pub flat-coordinate-spec : {M : Type 1} → statement M
 flat-coordinate-spec = tie.close (tie.spec sub-last add-result sub-result returns returns-2)

@@ -3,8 +3,8 @@ use Prim.Native.Nat.{◌*◌, ◌≤◌, ◌<◌}
 use mathlib.Core.Path.{refl}
 use native.Mathlib.Nat.{mod-lt}
 use native.Mathlib.Omega.{arith}
-use Rattle.pergen.proofs.Calls.{product-fits}
-use Rattle.pergen.proofs.CarriedWalk.{at-found, turn-fits, turn_below, rest_below}
+use Rattle.pergen.proofs.Calls.{product_fits}
+use Rattle.pergen.proofs.CarriedWalk.{at_found, turn_fits, turn_below, rest_below}
 use borrow.Author.Rules.{rules}
 use Rattle.pergen.proofs.stepping.key_at.Statement.{statement}
 use Rattle.pergen.proofs.stepping.key_at.Tie as tie
@@ -30,7 +30,7 @@ mul-degree c =
     let some : 0 < R = omega (arith, c.before.before.before.before.requires.0.below) in
     let small : c.before.within-cycle.result ≤ 65535
     = omega (arith, c.before.within-cycle.ensures, mod-lt c.before.before.turn-of.result some) in
-    omega (arith, product-fits solved.generator_inverse c.before.within-cycle.result (search rules) small)
+    omega (arith, product_fits solved.generator_inverse c.before.within-cycle.result (search rules) small)
 
 rem-degree : tie.Need-nonzero-rem-degree
 rem-degree c = search rules
@@ -41,12 +41,12 @@ cast-cycle c = search rules
 mul-cycle : tie.Need-overflow-mul-cycle
 mul-cycle c =
     let start = c.before.before.before.before.before in
-    omega (arith, turn-fits _ start.requires.0 start.args.number _ c.before.before.before.turn-of.ensures)
+    omega (arith, turn_fits _ start.requires.0 start.args.number _ c.before.before.before.turn-of.ensures)
 
 sub-cycle : tie.Need-overflow-sub-cycle
 sub-cycle c =
     let start = c.before.before.before.before.before in
-    turn-fits _ start.requires.0 start.args.number _ c.before.before.before.turn-of.ensures
+    turn_fits _ start.requires.0 start.args.number _ c.before.before.before.turn-of.ensures
 
 cast-t10 : tie.Need-overflow-cast-t10
 cast-t10 c =
@@ -63,7 +63,7 @@ cast-t11 c =
 returns : tie.Need-returns
 returns c =
     let start = c.before.before.before.before.before in
-    (at-found _ start.requires.0 _ _ c.before.before.before.turn-of.ensures c.before.before.within-cycle.ensures, refl)
+    (at_found _ start.requires.0 _ _ c.before.before.before.turn-of.ensures c.before.before.within-cycle.ensures, refl)
 
 pub key-at-spec : {M : Type 1} → statement M
 key-at-spec =

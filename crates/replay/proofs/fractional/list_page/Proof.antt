@@ -52,12 +52,12 @@ use denote.Triple.Walked.{says, Stays, stay_none, walk_of, AllGo, Goes-none, Wal
 use denote.Triple.Clauses.{ensured, lasts}
 use denote.Exit.{yes}
 use Rattle.answer.specs.Lent.{Filled}
-use Rattle.answer.specs.Refusals.{countOutcome}
+use Rattle.answer.specs.Refusals.{count_outcome}
 use Rattle.answer.specs.declared.CountAnswer.{CountAnswer}
 use Rattle.answer.specs.contracts.CountAnswer as N
 use Rattle.answer.proofs.CountAnswer.TheLaws as N'
 use Rattle.mos_fractional.specs.declared.FractionalMos.{FractionalMos}
-use Rattle.mos_fractional.specs.Answers.{listingOutcome}
+use Rattle.mos_fractional.specs.Answers.{listing_outcome}
 use Rattle.mos_fractional.specs.contracts.FractionalMos as T
 use Rattle.mos_fractional.proofs.FractionalMos.TheLaws as T'
 use Rattle.mos_fractional.specs.contracts.children as list
@@ -121,7 +121,7 @@ module _ {M : Type 1} {𝓤 : Ura M} (𝓛 : Logic 𝓤) (at_mem : Memory → SP
 
   -- what the contract says of an answer and the patterns after it
   abbrev Says : CountAnswer → List FractionalMos → Type 0
-  Says r zs = Filled (listingOutcome gen (length xs)) (countOutcome r) xs zs
+  Says r zs = Filled (listing_outcome gen (length xs)) (count_outcome r) xs zs
 
   eight : length xs ≡ 8
   eight = is.1.0.1

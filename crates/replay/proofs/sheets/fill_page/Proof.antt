@@ -49,7 +49,7 @@ use denote.Triple.Walked.{says, Stays, stay_none, walk_of, AllGo, Goes-none, Wal
 use denote.Triple.Clauses.{ensured, lasts}
 use denote.Exit.{yes}
 use Rattle.answer.specs.Lent.{Filled}
-use Rattle.answer.specs.Refusals.{countOutcome}
+use Rattle.answer.specs.Refusals.{count_outcome}
 use Rattle.answer.specs.declared.CountAnswer.{CountAnswer}
 use Rattle.answer.specs.contracts.CountAnswer as N
 use Rattle.answer.proofs.CountAnswer.TheLaws as N'
@@ -57,7 +57,7 @@ use Rattle.layout.specs.declared.IsomorphicLayout.{IsomorphicLayout}
 use Rattle.layout.specs.contracts.IsomorphicLayout as Q
 use Rattle.layout.proofs.IsomorphicLayout.TheLaws as Q'
 use Rattle.layout_sheet.specs.declared.Record.{Record}
-use Rattle.layout_sheet.specs.Answers.{getSheet}
+use Rattle.layout_sheet.specs.Answers.{get_sheet}
 use Rattle.layout_sheet.specs.contracts.Record as T
 use Rattle.layout_sheet.proofs.Record.TheLaws as T'
 use Rattle.layout_sheet.specs.contracts.fill_sheet as fill
@@ -124,7 +124,7 @@ module _ {M : Type 1} {𝓤 : Ura M} (𝓛 : Logic 𝓤) (at_mem : Memory → SP
 
   -- what the contract says of an answer and the records after it
   abbrev Says : CountAnswer → List Record → Type 0
-  Says r zs = Filled (getSheet rq xs) (countOutcome r) xs zs
+  Says r zs = Filled (get_sheet rq xs) (count_outcome r) xs zs
 
   four : length xs ≡ 4
   four = is.1.0.1

@@ -1,6 +1,6 @@
 -- A mirror image of 15 bits is in range.
 use mir.Syntax.{w16}
-use Rattle.replay.proofs.Minus.{mirror-in-range}
+use Rattle.replay.proofs.Minus.{mirror_in_range}
 use borrow.Author.Rules.{rules}
 use Rattle.replay.proofs.words.short_after.Statement.{statement}
 use Rattle.replay.proofs.words.short_after.Tie as tie
@@ -15,7 +15,7 @@ cast-value : tie.Need-overflow-cast-value
 cast-value c = search rules
 
 sub-t6 : tie.Need-overflow-sub-t6
-sub-t6 c = mirror-in-range w16 c.before.before.before.before.signed-after.result.value (search rules)
+sub-t6 c = mirror_in_range w16 c.before.before.before.before.signed-after.result.value (search rules)
 
 returns-2 : tie.Need-returns-2
 returns-2 c = search rules

@@ -5,7 +5,7 @@ use Rattle.streams.proofs.input.begin.Statement.{statement}
 use Rattle.streams.proofs.input.begin.Tie as tie
 
 returns : tie.Need-returns
-returns c = record { none = taken_none _ refl; none_kept = refl; not-ended = refl }
+returns c = record { none = taken_none _ refl; none_kept = refl; not_ended = refl }
 
 pub begin-spec : {M : Type 1} → statement M
 begin-spec = tie.close (tie.spec returns)

@@ -1,7 +1,7 @@
 -- At the end nothing is counted; else one byte more, here and in the lent count.
 use mathlib.Core.Bool.{false≢true}
 use Rattle.std.proofs.Common.{sym, refl, rules}
-use Rattle.streams.specs.Streams.{taken-same, taken_more}
+use Rattle.streams.specs.Streams.{taken_same, taken_more}
 use Rattle.streams.proofs.input.next_byte.Statement.{statement}
 use Rattle.streams.proofs.input.next_byte.Tie as tie
 
@@ -13,10 +13,10 @@ read-full-requires c κs = search rules
 
 returns : tie.Need-returns
 returns c = record {
-  ended = λ e bytes h. taken-same _ _ _ bytes refl h;
+  ended = λ e bytes h. taken_same _ _ _ bytes refl h;
   more = λ e bytes h. absurd (false≢true (sym e));
   same_kept = λ e. refl;
-  more-kept = λ e. absurd (false≢true (sym e));
+  more_kept = λ e. absurd (false≢true (sym e));
 }
 
 wrapping-add-usize-requires : tie.Need-wrapping-add-usize-requires
@@ -39,7 +39,7 @@ returns-2 c =
       ended = λ e bytes h. absurd (false≢true e);
       more = λ e bytes h. taken_more _ _ _ _ bytes _ taken counted h;
       same_kept = λ e. absurd (false≢true e);
-      more-kept = λ e. c.one_more.ensures;
+      more_kept = λ e. c.one_more.ensures;
     }
 
 pub next-byte-spec : {M : Type 1} → statement M

@@ -1,7 +1,7 @@
 -- The part's bytes are counted after those before it.
 use mathlib.Core.Bool.{false≢true}
 use Rattle.std.proofs.Common.{sym, rules}
-use Rattle.streams.specs.Streams.{handed-more}
+use Rattle.streams.specs.Streams.{handed_more}
 use Rattle.streams.proofs.output.write.Statement.{statement}
 use Rattle.streams.proofs.output.write.Tie as tie
 
@@ -13,13 +13,13 @@ wrapping-add-usize-requires c κs = search rules
 
 returns : tie.Need-returns
 returns c = record {
-  next = λ bytes h. handed-more _ _ bytes _ c.before.wrapping-add-usize.ensures h;
+  next = λ bytes h. handed_more _ _ bytes _ c.before.wrapping-add-usize.ensures h;
   all = λ t. c.if1.true;
 }
 
 returns-2 : tie.Need-returns-2
 returns-2 c = record {
-  next = λ bytes h. handed-more _ _ bytes _ c.before.wrapping-add-usize.ensures h;
+  next = λ bytes h. handed_more _ _ bytes _ c.before.wrapping-add-usize.ensures h;
   all = λ t. absurd (false≢true t);
 }
 

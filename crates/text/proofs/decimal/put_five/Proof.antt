@@ -1,7 +1,7 @@
 -- The digits of a tenth of the number; the last digit follows.
 use native.Mathlib.Omega.{arith}
 use borrow.Author.Rules.{rules}
-use Rattle.text.proofs.Digits.{length_more, room-last, wrote-digits}
+use Rattle.text.proofs.Digits.{length_more, room_last, wrote_digits}
 use Rattle.text.proofs.decimal.put_five.Statement.{statement}
 use Rattle.text.proofs.decimal.put_five.Tie as tie
 
@@ -22,7 +22,7 @@ add-put-byte c = search rules
 put-byte-requires : tie.Need-put-byte-requires
 put-byte-requires c κs =
     let start = c.before.before.before.before.before.before in
-    room-last (omega (arith, start.requires.0)) c.before.before.before.put_four.ensures start.requires.1
+    room_last (omega (arith, start.requires.0)) c.before.before.before.put_four.ensures start.requires.1
 
 same_length : tie.Need-same-length
 same_length c = search rules
@@ -31,7 +31,7 @@ returns : tie.Need-returns
 returns c =
     let first = c.before.before.before.before.before.before in
     let start = first.before.before.before in
-    wrote-digits (omega (arith, start.requires.0)) first.put_four.ensures c.before.before.put_byte.ensures
+    wrote_digits (omega (arith, start.requires.0)) first.put_four.ensures c.before.before.put_byte.ensures
 
 pub put-five-spec : {M : Type 1} → statement M
 put-five-spec =

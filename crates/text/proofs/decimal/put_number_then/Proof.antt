@@ -1,7 +1,7 @@
 -- The digits, then the byte.
 use mathlib.Core.List.{[], ◌∷◌}
 use Rattle.text.specs.Decimal.{digits}
-use Rattle.text.proofs.Writing.{then, room-first, room_next}
+use Rattle.text.proofs.Writing.{then, room_first, room_next}
 use borrow.Author.Rules.{rules}
 use Rattle.text.proofs.decimal.put_number_then.Statement.{statement}
 use Rattle.text.proofs.decimal.put_number_then.Tie as tie
@@ -9,7 +9,7 @@ use Rattle.text.proofs.decimal.put_number_then.Tie as tie
 put-number-requires : tie.Need-put-number-requires
 put-number-requires c κs =
     let s = c.before.before in
-    room-first s.args.out.now s.args.at (digits s.args.n) (s.args.behind ∷ []) s.requires
+    room_first s.args.out.now s.args.at (digits s.args.n) (s.args.behind ∷ []) s.requires
 
 put-byte-requires : tie.Need-put-byte-requires
 put-byte-requires c κs = room_next _ c.before.before.before.put-number.ensures c.before.before.before.before.before.before.requires

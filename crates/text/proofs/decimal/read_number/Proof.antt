@@ -2,7 +2,7 @@
 use Prim.Native.Nat.{◌+◌, ◌-◌, ◌≤◌}
 use native.Mathlib.Omega.{arith}
 use mathlib.Core.Path.{refl}
-use Rattle.text.proofs.Numbers.{Read, read_none, read_more, digit-inside, too_large, too_long, no-digit-at-all, number_read}
+use Rattle.text.proofs.Numbers.{Read, read_none, read_more, digit_inside, too_large, too_long, no_digit_at_all, number_read}
 use borrow.Author.Rules.{rules}
 use Rattle.text.proofs.decimal.read_number.Statement.{statement}
 use Rattle.text.proofs.decimal.read_number.Tie as tie
@@ -27,7 +27,7 @@ add-value : tie.Need-overflow-add-value invariant-loop decreases-loop
 add-value c = search rules
 
 add-next : tie.Need-overflow-add-next invariant-loop decreases-loop
-add-next c = omega (arith, digit-inside _ _ _ _ _ c.before.loop.invariant.0 c.loop-test.true)
+add-next c = omega (arith, digit_inside _ _ _ _ _ c.before.loop.invariant.0 c.loop-test.true)
 
 returns : tie.Need-returns invariant-loop decreases-loop
 returns c =
@@ -59,7 +59,7 @@ loop-again c =
 returns-3 : tie.Need-returns-3 invariant-loop decreases-loop
 returns-3 c =
     let b = c.before in
-    no-digit-at-all _ _ _ _ _ b.before.loop.invariant.0 b.loop-test.false c.if3.true
+    no_digit_at_all _ _ _ _ _ b.before.loop.invariant.0 b.loop-test.false c.if3.true
 
 cast-t10 : tie.Need-overflow-cast-t10 invariant-loop decreases-loop
 cast-t10 c = search rules

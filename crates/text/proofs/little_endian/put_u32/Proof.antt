@@ -2,7 +2,7 @@
 use native.Mathlib.Omega.{arith}
 use Rattle.text.proofs.Writing.{then}
 use Rattle.text.specs.LittleEndian.{le32}
-use Rattle.text.proofs.FourBytes.{length-le32}
+use Rattle.text.proofs.FourBytes.{length_le32}
 use borrow.Author.Rules.{rules}
 use Rattle.text.proofs.little_endian.put_u32.Statement.{statement}
 use Rattle.text.proofs.little_endian.put_u32.Tie as tie
@@ -11,25 +11,25 @@ cast-put-byte : tie.Need-overflow-cast-put-byte
 cast-put-byte c = search rules
 
 put-byte-requires : tie.Need-put-byte-requires
-put-byte-requires c κs = omega (arith, length-le32 c.before.before.args.n)
+put-byte-requires c κs = omega (arith, length_le32 c.before.before.args.n)
 
 cast-put-byte-2 : tie.Need-overflow-cast-put-byte-2
 cast-put-byte-2 c = search rules
 
 put-byte-requires-2 : tie.Need-put-byte-requires-2
-put-byte-requires-2 c κs = omega (arith, length-le32 c.before.before.before.before.before.before.args.n)
+put-byte-requires-2 c κs = omega (arith, length_le32 c.before.before.before.before.before.before.args.n)
 
 cast-put-byte-3 : tie.Need-overflow-cast-put-byte-3
 cast-put-byte-3 c = search rules
 
 put-byte-requires-3 : tie.Need-put-byte-requires-3
-put-byte-requires-3 c κs = omega (arith, length-le32 c.before.before.before.before.before.before.before.before.before.before.args.n)
+put-byte-requires-3 c κs = omega (arith, length_le32 c.before.before.before.before.before.before.before.before.before.before.args.n)
 
 cast-put-byte-4 : tie.Need-overflow-cast-put-byte-4
 cast-put-byte-4 c = search rules
 
 put-byte-requires-4 : tie.Need-put-byte-requires-4
-put-byte-requires-4 c κs = omega (arith, length-le32 c.before.before.before.before.before.before.before.before.before.before.before.before.before.before.args.n)
+put-byte-requires-4 c κs = omega (arith, length_le32 c.before.before.before.before.before.before.before.before.before.before.before.before.before.before.args.n)
 
 same_length : tie.Need-same-length
 same_length c = search rules

@@ -1,4 +1,4 @@
-use Rattle.text.proofs.FourBytes.{value-is}
+use Rattle.text.proofs.FourBytes.{value_is}
 use borrow.Author.Rules.{rules}
 use Rattle.text.proofs.little_endian.read_u32.Statement.{statement}
 use Rattle.text.proofs.little_endian.read_u32.Tie as tie
@@ -59,7 +59,7 @@ returns c =
     let b = c.before.before in
     let a = b.before.before in
     let f = a.before.before in
-    value-is _ _ _ _ _ _ f.wide.ensures.0 a.wide2.ensures.0 b.wide3.ensures.0 c.wide4.ensures.0
+    value_is _ _ _ _ _ _ f.wide.ensures.0 a.wide2.ensures.0 b.wide3.ensures.0 c.wide4.ensures.0
 
 pub read-u32-spec : {M : Type 1} → statement M
 read-u32-spec =

@@ -1,5 +1,5 @@
 -- The text is copied over the part from `at` on that is as long as it.
-use Rattle.text.proofs.Copying.{part-copied}
+use Rattle.text.proofs.Copying.{part_copied}
 use borrow.Author.Rules.{rules}
 use Rattle.text.proofs.writer.put_text.Statement.{statement}
 use Rattle.text.proofs.writer.put_text.Tie as tie
@@ -25,7 +25,7 @@ same_length c = search rules
 returns : tie.Need-returns
 returns c =
     let b = c.before.before.before.before.before.before in
-    part-copied _ _ _ _ b.requires c.before.before.copy.ensures.1
+    part_copied _ _ _ _ b.requires c.before.before.copy.ensures.1
 
 pub put-text-spec : {M : Type 1} → statement M
 put-text-spec =

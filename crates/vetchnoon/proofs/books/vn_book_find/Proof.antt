@@ -1,13 +1,13 @@
 -- Question 10, the questions 11 to 13 of the book, then the two numbers in the first two places.
 use mathlib.Core.Path.{refl, sym, ap, ◌∙◌}
 use Rattle.text.proofs.Writing.{wrote_one, then}
-use Rattle.book.specs.Answers.{findAnswered}
-use Rattle.book.specs.Books.{findOutcome}
-use Rattle.vetchnoon_codes.specs.Numbers.{asNumbers}
-use Rattle.vetchnoon.specs.Written.{placeNumbers}
-use Rattle.vetchnoon_codes.proofs.Coding.{coded, fills-refused, fills-given}
-use Rattle.vetchnoon.proofs.Pairs.{no_room, room-for-two}
-use Rattle.vetchnoon.proofs.Outputs.{key-handed-on}
+use Rattle.book.specs.Answers.{find_answered}
+use Rattle.book.specs.Books.{find_outcome}
+use Rattle.vetchnoon_codes.specs.Numbers.{as_numbers}
+use Rattle.vetchnoon.specs.Written.{place_numbers}
+use Rattle.vetchnoon_codes.proofs.Coding.{coded, fills_refused, fills_given}
+use Rattle.vetchnoon.proofs.Pairs.{no_room, room_for_two}
+use Rattle.vetchnoon.proofs.Outputs.{key_handed_on}
 use borrow.Author.Rules.{rules}
 use Rattle.vetchnoon.proofs.books.vn_book_find.Statement.{statement}
 use Rattle.vetchnoon.proofs.books.vn_book_find.Tie as tie
@@ -16,7 +16,7 @@ refused-requires : tie.Need-refused-requires
 refused-requires c κs = search rules
 
 returns : tie.Need-returns
-returns c = fills-refused _ _ (no_room _ _ _ c.before.if1.true) (coded c.refused.type-inv c.refused.ensures)
+returns c = fills_refused _ _ (no_room _ _ _ c.before.if1.true) (coded c.refused.type-inv c.refused.ensures)
 
 find-requires : tie.Need-find-requires
 find-requires c κs = search rules
@@ -39,12 +39,12 @@ slice-write-out-2 c = search rules
 returns-2 : tie.Need-returns-2
 returns-2 c =
     let found = c.before.before.before.before in
-    fills-refused _ _
-    (ap (asNumbers placeNumbers)
-    (sym (ap findAnswered c.before.before.question.given.1)
+    fills_refused _ _
+    (ap (as_numbers place_numbers)
+    (sym (ap find_answered c.before.before.question.given.1)
     ∙ found.find.ensures
-    ∙ key-handed-on (findOutcome _) found.before.before.before.before.args.key found.before.before.before.before.ranges.key)
-    ∙ room-for-two _ _ _ found.before.if1.false)
+    ∙ key_handed_on (find_outcome _) found.before.before.before.before.args.key found.before.before.before.before.ranges.key)
+    ∙ room_for_two _ _ _ found.before.if1.false)
     (coded c.refused2.type-inv c.refused2.ensures)
 
 same_length : tie.Need-same-length
@@ -53,12 +53,12 @@ same_length c = search rules
 returns-3 : tie.Need-returns-3
 returns-3 c =
     let found = c.before.before.before in
-    fills-given _ _
-    (ap (asNumbers placeNumbers)
-    (sym (ap findAnswered c.before.place.given.1)
+    fills_given _ _
+    (ap (as_numbers place_numbers)
+    (sym (ap find_answered c.before.place.given.1)
     ∙ found.find.ensures
-    ∙ key-handed-on (findOutcome _) found.before.before.before.before.args.key found.before.before.before.before.ranges.key)
-    ∙ room-for-two _ _ _ found.before.if1.false)
+    ∙ key_handed_on (find_outcome _) found.before.before.before.before.args.key found.before.before.before.before.ranges.key)
+    ∙ room_for_two _ _ _ found.before.if1.false)
     refl
     found.before.if1.false
     (then (wrote_one _ 0 _) (wrote_one _ 1 _))

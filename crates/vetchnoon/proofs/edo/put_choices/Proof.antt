@@ -1,8 +1,8 @@
 -- One number, or two.
 use mathlib.Core.Path.{ap}
 use Rattle.answer.specs.Outcome.{given}
-use Rattle.edo_tritaves.proofs.Choosing.{one_number, two-numbers}
-use Rattle.vetchnoon_codes.proofs.Coding.{fills-as}
+use Rattle.edo_tritaves.proofs.Choosing.{one_number, two_numbers}
+use Rattle.vetchnoon_codes.proofs.Coding.{fills_as}
 use borrow.Author.Rules.{rules}
 use Rattle.vetchnoon.proofs.edo.put_choices.Statement.{statement}
 use Rattle.vetchnoon.proofs.edo.put_choices.Tie as tie
@@ -18,7 +18,7 @@ same_length c = search rules
 
 returns : tie.Need-returns
 returns c =
-    fills-as
+    fills_as
     (ap given
     (one_number
     c.before.before.before.before.before.before.before.before.args.choices
@@ -37,9 +37,9 @@ same-length-2 c = search rules
 
 returns-2 : tie.Need-returns-2
 returns-2 c =
-    fills-as
+    fills_as
     (ap given
-    (two-numbers
+    (two_numbers
     c.before.before.before.before.before.before.before.before.args.choices
     c.before.before.before.before.before.if1.false))
     c.before.before.put2.type-inv

@@ -2,9 +2,9 @@
 use mathlib.Core.Path.{sym, ap, ◌∙◌}
 use Rattle.answer.specs.Outcome.{Outcome}
 use Rattle.edo_tritaves.specs.declared.Choices.{Choices}
-use Rattle.edo_tritaves.specs.Tritaves.{choiceNumbers, tritavesOutcome}
-use Rattle.vetchnoon_codes.specs.Numbers.{asNumbers}
-use Rattle.vetchnoon_codes.proofs.Coding.{coded, fills-as, fills-refused}
+use Rattle.edo_tritaves.specs.Tritaves.{choice_numbers, tritaves_outcome}
+use Rattle.vetchnoon_codes.specs.Numbers.{as_numbers}
+use Rattle.vetchnoon_codes.proofs.Coding.{coded, fills_as, fills_refused}
 use borrow.Author.Rules.{rules}
 use Rattle.vetchnoon.proofs.edo.vn_tritaves.Statement.{statement}
 use Rattle.vetchnoon.proofs.edo.vn_tritaves.Tie as tie
@@ -26,10 +26,10 @@ put-choices-requires c κs = search rules
 
 returns : tie.Need-returns
 returns c =
-    fills-refused _ _
+    fills_refused _ _
     (ap
-    (λ (o : Outcome Choices). asNumbers choiceNumbers o)
-    (sym (ap tritavesOutcome c.before.before.q.given.1) ∙ c.before.before.before.before.tritaves.ensures))
+    (λ (o : Outcome Choices). as_numbers choice_numbers o)
+    (sym (ap tritaves_outcome c.before.before.q.given.1) ∙ c.before.before.before.before.tritaves.ensures))
     (coded c.refused.type-inv c.refused.ensures)
 
 same_length : tie.Need-same-length
@@ -37,10 +37,10 @@ same_length c = search rules
 
 returns-2 : tie.Need-returns-2
 returns-2 c =
-    fills-as
+    fills_as
     (ap
-    (λ (o : Outcome Choices). asNumbers choiceNumbers o)
-    (sym (ap tritavesOutcome c.before.before.before.before.before.choices.given.1)
+    (λ (o : Outcome Choices). as_numbers choice_numbers o)
+    (sym (ap tritaves_outcome c.before.before.before.before.before.choices.given.1)
     ∙ c.before.before.before.before.before.before.before.tritaves.ensures))
     c.before.before.put-choices.type-inv
     c.before.before.put-choices.ensures

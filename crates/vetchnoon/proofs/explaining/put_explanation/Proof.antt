@@ -2,8 +2,8 @@
 use mathlib.Core.Path.{refl}
 use native.Mathlib.Omega.{arith}
 use lib.ListN.{length-set}
-use Rattle.vetchnoon_codes.proofs.Coding.{coded, fills-short}
-use Rattle.vetchnoon.proofs.ExplanationNumbers.{explanation-stored}
+use Rattle.vetchnoon_codes.proofs.Coding.{coded, fills_short}
+use Rattle.vetchnoon.proofs.ExplanationNumbers.{explanation_stored}
 use borrow.Author.Rules.{rules}
 use Rattle.vetchnoon.proofs.explaining.put_explanation.Statement.{statement}
 use Rattle.vetchnoon.proofs.explaining.put_explanation.Tie as tie
@@ -12,7 +12,7 @@ refused-requires : tie.Need-refused-requires
 refused-requires c κs = search rules
 
 returns : tie.Need-returns
-returns c = fills-short _ _ refl c.before.if1.true (coded c.refused.type-inv c.refused.ensures)
+returns c = fills_short _ _ refl c.before.if1.true (coded c.refused.type-inv c.refused.ensures)
 
 verdict-number-requires : tie.Need-verdict-number-requires
 verdict-number-requires c κs = search rules
@@ -72,12 +72,12 @@ returns-2 : tie.Need-returns-2
 returns-2 c =
     let start = c.before.before.before.before.before.before.before.before.before.before.before.before in
     let told = c.before.before.before.before.before.before.before.before in
-    explanation-stored start.args.explanation
+    explanation_stored start.args.explanation
     (record {
       place = record { sfits = c.before.before.before.before.before.before.before.struct_told.given.0.1 };
       other_place = record { sfits = c.before.before.before.before.before.before.struct-told2.given.0.1 };
       stars = search rules;
-      other-stars = search rules;
+      other_stars = search rules;
       key = search rules;
       other_key = search rules;
       apart = start.requires;

@@ -1,9 +1,9 @@
 -- The questions of layout and texts, then nine numbers, which are `put_explanation`'s.
 use mathlib.Core.Path.{sym, ap, ◌∙◌}
-use Rattle.layout_explaining.specs.Answers.{explanationOutcome}
-use Rattle.vetchnoon.specs.TypedNames.{as_signed, explanationNumbers}
-use Rattle.vetchnoon_codes.proofs.Coding.{coded, fills-refused, fills-as}
-use Rattle.vetchnoon.proofs.Distances.{apart-small}
+use Rattle.layout_explaining.specs.Answers.{explanation_outcome}
+use Rattle.vetchnoon.specs.TypedNames.{as_signed, explanation_numbers}
+use Rattle.vetchnoon_codes.proofs.Coding.{coded, fills_refused, fills_as}
+use Rattle.vetchnoon.proofs.Distances.{apart_small}
 use borrow.Author.Rules.{rules}
 use Rattle.vetchnoon.proofs.explaining.vn_explain.Statement.{statement}
 use Rattle.vetchnoon.proofs.explaining.vn_explain.Tie as tie
@@ -22,14 +22,14 @@ enum-known-explanation c = search rules
 
 put-explanation-requires : tie.Need-put-explanation-requires
 put-explanation-requires c κs =
-    apart-small _ _ _ _
-    (sym c.before.before.before.before.explain.ensures ∙ ap explanationOutcome c.before.before.explanation.given.1)
+    apart_small _ _ _ _
+    (sym c.before.before.before.before.explain.ensures ∙ ap explanation_outcome c.before.before.explanation.given.1)
 
 returns : tie.Need-returns
 returns c =
-    fills-refused _ _
-    (ap (as_signed explanationNumbers)
-    (sym (ap explanationOutcome c.before.before.question.given.1) ∙ c.before.before.before.before.explain.ensures))
+    fills_refused _ _
+    (ap (as_signed explanation_numbers)
+    (sym (ap explanation_outcome c.before.before.question.given.1) ∙ c.before.before.before.before.explain.ensures))
     (coded c.refused.type-inv c.refused.ensures)
 
 same_length : tie.Need-same-length
@@ -37,9 +37,9 @@ same_length c = search rules
 
 returns-2 : tie.Need-returns-2
 returns-2 c =
-    fills-as
-    (ap (as_signed explanationNumbers)
-    (sym (ap explanationOutcome c.before.before.before.before.explanation.given.1) ∙ c.before.before.before.before.before.before.explain.ensures))
+    fills_as
+    (ap (as_signed explanation_numbers)
+    (sym (ap explanation_outcome c.before.before.before.before.explanation.given.1) ∙ c.before.before.before.before.before.before.explain.ensures))
     c.before.put-explanation.type-inv c.before.put-explanation.ensures
 
 pub vn-explain-spec : {M : Type 1} → statement M

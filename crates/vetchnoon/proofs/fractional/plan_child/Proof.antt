@@ -2,9 +2,9 @@
 use mathlib.Core.Path.{refl, sym, ap, ◌∙◌}
 use borrow.Author.Rules.{rules}
 use mir.Syntax.{w64}
-use Rattle.math.proofs.Signed.{read_back}
-use Rattle.mos_fractional.specs.Answers.{childIn}
-use Rattle.vetchnoon.proofs.FractionalCalls.{plans-none, plans-short, plans-stored}
+use Rattle.math.proofs.Signed.{read_back_lem}
+use Rattle.mos_fractional.specs.Answers.{child_in}
+use Rattle.vetchnoon.proofs.FractionalCalls.{plans_none, plans_short, plans_stored}
 use Rattle.vetchnoon.proofs.fractional.plan_child.Statement.{statement}
 use Rattle.vetchnoon.proofs.fractional.plan_child.Tie as tie
 
@@ -23,20 +23,20 @@ refused-requires c κs = search rules
 returns : tie.Need-returns
 returns c =
     let start = c.before.before.before.before.before.before.args in
-    plans-short start.pattern start.room _
-    (sym c.before.before.before.before.before.child.ensures ∙ ap childIn c.before.before.before.answer.given.1)
-    c.before.if1.true (read_back w64 c.refused.result (record { sfits = c.refused.type-inv }) ∙ c.refused.ensures)
+    plans_short start.pattern start.room _
+    (sym c.before.before.before.before.before.child.ensures ∙ ap child_in c.before.before.before.answer.given.1)
+    c.before.if1.true (read_back_lem w64 c.refused.result (record { sfits = c.refused.type-inv }) ∙ c.refused.ensures)
 
 returns-2 : tie.Need-returns-2
 returns-2 c =
     let start = c.before.before.before.args in
-    plans-none start.pattern start.room _ (sym c.before.before.child.ensures ∙ ap childIn c.enum_told.given.1) refl
+    plans_none start.pattern start.room _ (sym c.before.before.child.ensures ∙ ap child_in c.enum_told.given.1) refl
 
 returns-3 : tie.Need-returns-3
 returns-3 c =
     let start = c.before.before.before.before.before.args in
-    plans-stored start.pattern start.room _
-    (sym c.before.before.before.before.child.ensures ∙ ap childIn c.before.before.answer.given.1)
+    plans_stored start.pattern start.room _
+    (sym c.before.before.before.before.child.ensures ∙ ap child_in c.before.before.answer.given.1)
     c.if1.false refl
 
 pub plan-child-spec : {M : Type 1} → statement M

@@ -51,7 +51,7 @@ use Rattle.mos_fractional.specs.declared.FractionalMos.{FractionalMos}
 use Rattle.mos_fractional.specs.contracts.FractionalMos as T
 use Rattle.mos_fractional.proofs.FractionalMos.TheLaws as T'
 use Rattle.vetchnoon.specs.declared.fractional.ChildPlan.{ChildPlan}
-use Rattle.vetchnoon.specs.FractionalPatterns.{putFirst, PlansChild}
+use Rattle.vetchnoon.specs.FractionalPatterns.{put_first, PlansChild}
 use Rattle.vetchnoon.specs.contracts.fractional.ChildPlan as P
 use Rattle.vetchnoon.proofs.fractional.ChildPlan.TheLaws as P'
 use Rattle.vetchnoon.specs.contracts.fractional.plan_child as plans
@@ -135,7 +135,7 @@ module _ {M : Type 1} {𝓤 : Ura M} (𝓛 : Logic 𝓤) (at_mem : Memory → SP
 
     -- what the slice holds at the end, as long as before
     record Last (zs : List FractionalMos) : Type 0 where
-      content : zs ≡ putFirst p.stores p.child xs
+      content : zs ≡ put_first p.stores p.child xs
       long : length zs ≡ n
 
     exits : (zs : List FractionalMos) → Last zs
@@ -216,12 +216,12 @@ module _ {M : Type 1} {𝓤 : Ura M} (𝓛 : Logic 𝓤) (at_mem : Memory → SP
           forget ! 3 refl $
           rest_at (set xs 0 p.child)
           (record {
-            content = sym (ap (λ (t : Bool). putFirst t p.child xs) (is_true p.stores yes-stores));
+            content = sym (ap (λ (t : Bool). put_first t p.child xs) (is_true p.stores yes-stores));
             long = length-set xs 0 _;
           })))
           (λ no_Stores.
           skips ! $ exec ! C Λ En mir.t-6 (at_ret En Post) $
-          rest_at xs (record { content = sym (ap (λ (t : Bool). putFirst t p.child xs) (is_false p.stores no_Stores)); long = refl }))
+          rest_at xs (record { content = sym (ap (λ (t : Bool). put_first t p.child xs) (is_false p.stores no_Stores)); long = refl }))
 
   abbrev to-plan : (Plan 𝓛 at_mem run).Ghost
   to-plan = ((tt, tt, tt, (pat, (n, tt)), (T-vals pat, (vint w64 n ∷ [], tt))), tt)

@@ -43,25 +43,25 @@ use denote.Triple.Table.{entered, cited}
 use denote.Triple.Walked.{says, Stays, stay_none, gave_slice, walk_of, AllGo, Goes-none, Goes-gave_slice, Walks, ends_at, walked, walk_Meets}
 use denote.Exit.{yes}
 use Rattle.answer.specs.Lent.{Filled}
-use Rattle.answer.specs.Refusals.{countOutcome}
+use Rattle.answer.specs.Refusals.{count_outcome}
 use Rattle.answer.specs.declared.CountAnswer.{CountAnswer}
 use Rattle.answer.specs.contracts.CountAnswer as N
 use Rattle.answer.proofs.CountAnswer.TheLaws as N'
 use Rattle.mos_fractional.specs.declared.FractionalMos.{FractionalMos}
-use Rattle.mos_fractional.specs.Walk.{childrenFrom}
-use Rattle.mos_fractional.specs.Answers.{ofGenerator, listingOutcome}
+use Rattle.mos_fractional.specs.Walk.{children_from}
+use Rattle.mos_fractional.specs.Answers.{of_generator, listing_outcome}
 use Rattle.mos_fractional.specs.contracts.FractionalMos as T
 use Rattle.mos_fractional.specs.contracts.children as list
 use Rattle.mos_fractional.proofs.children.Symbol as list-def
 use Rattle.mos_fractional.proofs.children.Symbol.{name as #mos-fractional·children}
 use Rattle.mos_fractional.proofs.children.Met as list-thm
 use Rattle.vetchnoon_codes.specs.Codes.{code_of, Fills, SmallCount}
-use Rattle.vetchnoon_codes.proofs.Coding.{fills-filled, small-filled}
+use Rattle.vetchnoon_codes.proofs.Coding.{fills_filled, small_filled}
 use Rattle.vetchnoon_codes.specs.contracts.count as count
 use Rattle.vetchnoon_codes.proofs.count.Symbol as count-def
 use Rattle.vetchnoon_codes.proofs.count.Symbol.{name as #vetchnoon-codes·count}
 use Rattle.vetchnoon_codes.proofs.count.Met as count-thm
-use Rattle.vetchnoon.proofs.FractionalCalls.{patterns-in-room}
+use Rattle.vetchnoon.proofs.FractionalCalls.{patterns_in_room}
 use Rattle.vetchnoon.specs.contracts.fractional.vn_fractional_children.Key.{name as #vetchnoon·fractional·vn-fractional-children}
 use Rattle.vetchnoon.specs.contracts.fractional.vn_fractional_children as f
 use Rattle.vetchnoon.proofs.fractional.vn_fractional_children.Statement as stated
@@ -83,8 +83,8 @@ module _ {M : Type 1} {𝓤 : Ura M} (𝓛 : Logic 𝓤) (mem : Memory → SProp
 
   -- of `count`'s `ensured`, the clause alone
   count-says : (a : CountAnswer) (z : ℤ)
-      → ent 𝓤 (ensured 𝓛 count.ended (count.clauses 𝓛 mem run) tt (a, tt) tt z) (fact 𝓤 (z ≡ code_of (countOutcome a)))
-  count-says a z = ex_e 𝓤 _ (λ ws. snd∗ 𝓤 (sem 𝓛 (lasts count.ended tt (a, tt) ws)) (fact 𝓤 (z ≡ code_of (countOutcome a))))
+      → ent 𝓤 (ensured 𝓛 count.ended (count.clauses 𝓛 mem run) tt (a, tt) tt z) (fact 𝓤 (z ≡ code_of (count_outcome a)))
+  count-says a z = ex_e 𝓤 _ (λ ws. snd∗ 𝓤 (sem 𝓛 (lasts count.ended tt (a, tt) ws)) (fact 𝓤 (z ≡ code_of (count_outcome a))))
 
 module _ {M : Type 1} {𝓤 : Ura M} (𝓛 : Logic 𝓤) (mem : Memory → SProp 𝓤) (run : Routine → Fun 𝓤)
     (κ : Lft) (q : Share) (b o : ℕ) (γ : GName) (xs : List FractionalMos) (gen : Float) (gen-is : Is f64 gen (float_vals binary64 gen))
@@ -107,7 +107,7 @@ module _ {M : Type 1} {𝓤 : Ura M} (𝓛 : Logic 𝓤) (mem : Memory → SProp
   Post = (walk_of 𝓛 f.ended stayed (f.clauses 𝓛 mem run)).post (((κ, tt), (q, tt), tt, a, vals), tt)
 
   abbrev Filled-by : CountAnswer → List FractionalMos → Type 0
-  Filled-by r zs = Filled (listingOutcome gen (length xs)) (countOutcome r) xs zs
+  Filled-by r zs = Filled (listing_outcome gen (length xs)) (count_outcome r) xs zs
 
   -- what each callee's triple binds outside, and that the caller has what it asks
   abbrev to-list : (List-all 𝓛 mem run).Ghost
@@ -134,9 +134,9 @@ module _ {M : Type 1} {𝓤 : Ura M} (𝓛 : Logic 𝓤) (mem : Memory → SProp
   small : (c : CountAnswer) (zs : List FractionalMos) → Filled-by c zs → length zs ≡ length xs → SmallCount c
   small c zs e l =
       let bytes : length xs * 24 < 2 ^ 63 = room.1 in
-      small-filled c e (omega (arith, bytes, l))
+      small_filled c e (omega (arith, bytes, l))
 
-  exits : (z : ℤ) (w : Val) (zs : List FractionalMos) → Fills (ofGenerator gen (childrenFrom gen)) z xs zs → length zs ≡ length xs
+  exits : (z : ℤ) (w : Val) (zs : List FractionalMos) → Fills (of_generator gen (children_from gen)) z xs zs → length zs ≡ length xs
       → ent 𝓤
       (sep 𝓤 (sep 𝓤 (A.lft κ q) (sem 𝓛 ftrue)) (sep 𝓤 (sem 𝓛 (finally T.the_row γ zs)) (sem 𝓛 (i64.own_val z (w ∷ [])))))
       (Post w)
@@ -203,8 +203,8 @@ module _ {M : Type 1} {𝓤 : Ura M} (𝓛 : Logic 𝓤) (mem : Memory → SProp
         (λ (z : ℤ).
         (‵ ftrue ⊛ ‵ (i64.own_val z (w ∷ []))) ⊛ raw (ensured 𝓛 count.ended (count.clauses 𝓛 mem run) tt (r, tt) tt z)))) (id⊢ 𝓤 _) $
         await ! tt $ pick ! (λ z. split ! $ move ! (1 ∷ []) $
-        use1 𝓛 (raw (fact 𝓤 (z ≡ code_of (countOutcome r)))) (count-says 𝓛 mem run r z) $
-        heard ! (z ≡ code_of (countOutcome r)) (λ coded. split ! $ drop ! $
+        use1 𝓛 (raw (fact 𝓤 (z ≡ code_of (count_outcome r)))) (count-says 𝓛 mem run r z) $
+        heard ! (z ≡ code_of (count_outcome r)) (λ coded. split ! $ drop ! $
         peeks ! i64 (Is i64) (shows 𝓛 i64) z (w ∷ []) (λ is.
         -- [the result; the token; the last list; true; …]: local j's cell stands at 4 + 2 · (5 − j)
         land ! (from ! (stop !)) (init ! 14 refl ((sint_Lawful 𝓛 w64).typed z _ is).0) $ returns ! (look ! 14 refl) $
@@ -212,7 +212,7 @@ module _ {M : Type 1} {𝓤 : Ura M} (𝓛 : Logic 𝓤) (mem : Memory → SProp
         move ! (14 ∷ 15 ∷ []) $ free1 ! $ move ! (12 ∷ 13 ∷ []) $ free1 ! $ move ! (10 ∷ 11 ∷ []) $ free1 ! $ move ! (8 ∷ 9 ∷ []) $
         free1 ! $
         move ! (6 ∷ 7 ∷ []) $ free1 ! $ move ! (4 ∷ 5 ∷ []) $ free1 ! $ free0 ! $
-        keep ! (1 ∷ 2 ∷ 0 ∷ []) $ by ! (exits z w ws.1.0 (fills-filled (patterns-in-room (length xs) gen) e coded) l)))))))))))))))))
+        keep ! (1 ∷ 2 ∷ 0 ∷ []) $ by ! (exits z w ws.1.0 (fills_filled (patterns_in_room (length xs) gen) e coded) l)))))))))))))))))
       where
         spelled : (r : CountAnswer) (v : Val) → Is N.the_row r (v ∷ []) → Is N.the_row r (N-val r ∷ [])
         spelled r v was = subst (Is N.the_row r) (EL.tells N.the_type N'.the_laws r _ was) was

@@ -1,8 +1,8 @@
 -- The library's answer, as a code.
 use mathlib.Core.Path.{ap, ◌∙◌}
-use Rattle.layout_lamps.specs.Answers.{getLamp}
+use Rattle.layout_lamps.specs.Answers.{get_lamp}
 use Rattle.vetchnoon.specs.Written.{layout}
-use Rattle.vetchnoon.proofs.Outputs.{key-handed-on}
+use Rattle.vetchnoon.proofs.Outputs.{key_handed_on}
 use Rattle.vetchnoon_codes.specs.Codes.{code_of}
 use Rattle.vetchnoon_codes.proofs.Coding.{coded}
 use borrow.Author.Rules.{rules}
@@ -21,7 +21,7 @@ returns c =
     coded c.number.type-inv
     (c.number.ensures
     ∙ ap code_of
-    (c.before.lamp.ensures ∙ key-handed-on (getLamp (layout start.args.chain start.args.octave start.args.tritave start.args.start)) start.args.key start.ranges.key))
+    (c.before.lamp.ensures ∙ key_handed_on (get_lamp (layout start.args.chain start.args.octave start.args.tritave start.args.start)) start.args.key start.ranges.key))
 
 pub vn-lamp-spec : {M : Type 1} → statement M
 vn-lamp-spec = tie.close (tie.spec lamp-requires number-requires returns)

@@ -1,6 +1,6 @@
 -- The two numbers are `put`'s.
-use Rattle.vetchnoon_codes.proofs.Coding.{fills-as}
-use Rattle.vetchnoon.proofs.Outputs.{kind-given}
+use Rattle.vetchnoon_codes.proofs.Coding.{fills_as}
+use Rattle.vetchnoon.proofs.Outputs.{kind_given}
 use borrow.Author.Rules.{rules}
 use Rattle.vetchnoon.proofs.layouts.vn_layer_kind.Statement.{statement}
 use Rattle.vetchnoon.proofs.layouts.vn_layer_kind.Tie as tie
@@ -25,8 +25,8 @@ same_length c = search rules
 
 returns : tie.Need-returns
 returns c =
-    fills-as
-    (kind-given _ _ c.before.before.before.before.before.before.before.kind.ensures c.before.before.before.before.before.before.kind-number.ensures c.before.before.before.before.before.kind-level.ensures)
+    fills_as
+    (kind_given _ _ c.before.before.before.before.before.before.before.kind.ensures c.before.before.before.before.before.before.kind_number_lem.ensures c.before.before.before.before.before.kind-level.ensures)
     c.before.before.put.type-inv
     c.before.before.put.ensures
 

@@ -1,19 +1,19 @@
 -- Questions 1 to 4 and 18, then the numbers that were found and solved.
 use mathlib.Core.Path.{◌≡◌, sym, ap, ◌∙◌}
-use Rattle.pergen.specs.Parts.{solvedOf}
-use Rattle.layout.specs.Parts.{foundOutcome, Ready}
+use Rattle.pergen.specs.Parts.{solved_of}
+use Rattle.layout.specs.Parts.{found_outcome, Ready}
 use Rattle.layout.specs.declared.parts.Found.{Found}
 use Rattle.layout.specs.declared.prepared.Prepared.{Prepared}
 use Rattle.layout.proofs.Calls.{laid_of}
-use Rattle.vetchnoon_codes.proofs.Coding.{coded, fills-refused, fills-as}
-use Rattle.vetchnoon.proofs.Outputs.{layout-refused, layout-given}
+use Rattle.vetchnoon_codes.proofs.Coding.{coded, fills_refused, fills_as}
+use Rattle.vetchnoon.proofs.Outputs.{layout_refused, layout_given}
 use borrow.Author.Rules.{rules}
 use Rattle.vetchnoon.proofs.layouts.vn_layout.Statement.{statement}
 use Rattle.vetchnoon.proofs.layouts.vn_layout.Tie as tie
 
 -- what was solved is solved of the layout that was found
-solved-by : (p : Prepared) (f : Found) → Ready p × (p.found ≡ f) → p.solved ≡ solvedOf f.octave f.generator
-solved-by p f made = made.0.solved-is ∙ ap (λ (x : Found). solvedOf x.octave x.generator) made.1
+solved-by : (p : Prepared) (f : Found) → Ready p × (p.found ≡ f) → p.solved ≡ solved_of f.octave f.generator
+solved-by p f made = made.0.solved_is ∙ ap (λ (x : Found). solved_of x.octave x.generator) made.1
 
 ask-requires : tie.Need-ask-requires
 ask-requires c κs = search rules
@@ -28,7 +28,7 @@ enum-known-found : tie.Need-enum-known-found
 enum-known-found c = search rules
 
 prepare-requires : tie.Need-prepare-requires
-prepare-requires c κs = laid_of _ _ (sym (ap foundOutcome c.before.found.given.1) ∙ c.before.before.before.ask.ensures)
+prepare-requires c κs = laid_of _ _ (sym (ap found_outcome c.before.found.given.1) ∙ c.before.before.before.ask.ensures)
 
 slice-aggregate-put : tie.Need-slice-aggregate-put
 slice-aggregate-put c = search rules
@@ -38,7 +38,7 @@ put-requires c κs = search rules
 
 returns : tie.Need-returns
 returns c =
-    fills-refused _ _ (layout-refused _ _ (sym (ap foundOutcome c.before.before.question.given.1) ∙ c.before.before.before.before.ask.ensures))
+    fills_refused _ _ (layout_refused _ _ (sym (ap found_outcome c.before.before.question.given.1) ∙ c.before.before.before.before.ask.ensures))
     (coded c.refused.type-inv c.refused.ensures)
 
 same_length : tie.Need-same-length
@@ -46,7 +46,7 @@ same_length c = search rules
 
 returns-2 : tie.Need-returns-2
 returns-2 c =
-    fills-as (layout-given _ _ _ (sym (ap foundOutcome c.before.before.before.before.before.before.before.before.before.found.given.1) ∙ c.before.before.before.before.before.before.before.before.before.before.before.ask.ensures) (solved-by c.before.before.before.before.before.before.before.prepare.result _ c.before.before.before.before.before.before.before.prepare.ensures))
+    fills_as (layout_given _ _ _ (sym (ap found_outcome c.before.before.before.before.before.before.before.before.before.found.given.1) ∙ c.before.before.before.before.before.before.before.before.before.before.before.ask.ensures) (solved-by c.before.before.before.before.before.before.before.prepare.result _ c.before.before.before.before.before.before.before.prepare.ensures))
     c.before.before.put.type-inv
     c.before.before.put.ensures
 

@@ -1,10 +1,10 @@
 -- The library's answer, in numbers.
 use mathlib.Core.Path.{ap, ◌∙◌}
-use Rattle.layout.specs.Answers.{getAccidentals}
+use Rattle.layout.specs.Answers.{get_accidentals}
 use Rattle.vetchnoon.specs.Written.{layout}
-use Rattle.vetchnoon.proofs.Outputs.{key-handed-on}
-use Rattle.vetchnoon_codes.specs.Numbers.{asNumbers, accidentalsNumbers}
-use Rattle.vetchnoon_codes.proofs.Coding.{fills-as}
+use Rattle.vetchnoon.proofs.Outputs.{key_handed_on}
+use Rattle.vetchnoon_codes.specs.Numbers.{as_numbers, accidentals_numbers}
+use Rattle.vetchnoon_codes.proofs.Coding.{fills_as}
 use borrow.Author.Rules.{rules}
 use Rattle.vetchnoon.proofs.layouts.vn_layout_accidentals.Statement.{statement}
 use Rattle.vetchnoon.proofs.layouts.vn_layout_accidentals.Tie as tie
@@ -21,10 +21,10 @@ same_length c = search rules
 returns : tie.Need-returns
 returns c =
     let start = c.before.before.before.before.before.before in
-    fills-as
-    (ap (asNumbers accidentalsNumbers)
+    fills_as
+    (ap (as_numbers accidentals_numbers)
     (c.before.before.before.get-accidentals.ensures
-    ∙ key-handed-on (getAccidentals (layout start.args.chain start.args.octave start.args.tritave start.args.start)) start.args.key start.ranges.key))
+    ∙ key_handed_on (get_accidentals (layout start.args.chain start.args.octave start.args.tritave start.args.start)) start.args.key start.ranges.key))
     c.before.before.accidentals.type-inv c.before.before.accidentals.ensures
 
 pub vn-layout-accidentals-spec : {M : Type 1} → statement M

@@ -1,10 +1,10 @@
 -- The library's answer for the spelling with these signs, as a code. The number of signs is handed on as it is.
 use mathlib.Core.Path.{ap, ◌∙◌}
 use mir.Syntax.{w32}
-use Rattle.math.proofs.Signed.{read_back}
+use Rattle.math.proofs.Signed.{read_back_lem}
 use Rattle.pergen.specs.declared.Signs.{Signs}
-use Rattle.pergen.specs.Spelling.{signsOf}
-use Rattle.layout.specs.Answers.{getSoundedKey}
+use Rattle.pergen.specs.Spelling.{signs_of}
+use Rattle.layout.specs.Answers.{get_sounded_key}
 use Rattle.vetchnoon_codes.specs.Codes.{code_of}
 use Rattle.vetchnoon_codes.proofs.Coding.{coded}
 use Rattle.vetchnoon.specs.Written.{layout}
@@ -28,8 +28,8 @@ returns c =
     ∙ ap code_of
     (c.before.get-sounded-key.ensures
     ∙ ap
-    (λ (s : Signs). getSoundedKey (layout c.before.before.before.args.chain c.before.before.before.args.octave c.before.before.before.args.tritave c.before.before.before.args.start) (record { index = c.before.before.before.args.letter; signs = s; stars = c.before.before.before.args.stars }))
-    (c.before.before.from-number.ensures ∙ ap signsOf (read_back w32 c.before.before.before.args.signs c.before.before.before.ranges.signs))))
+    (λ (s : Signs). get_sounded_key (layout c.before.before.before.args.chain c.before.before.before.args.octave c.before.before.before.args.tritave c.before.before.before.args.start) (record { index = c.before.before.before.args.letter; signs = s; stars = c.before.before.before.args.stars }))
+    (c.before.before.from-number.ensures ∙ ap signs_of (read_back_lem w32 c.before.before.before.args.signs c.before.before.before.ranges.signs))))
 
 pub vn-sounded-key-spec : {M : Type 1} → statement M
 vn-sounded-key-spec =

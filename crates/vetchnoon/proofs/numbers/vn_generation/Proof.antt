@@ -1,10 +1,10 @@
 -- Question 2, then the numbers of the generation.
 use mathlib.Core.Path.{sym, ap, ◌∙◌}
-use Rattle.pergen.specs.Answers.{getGeneration, generationOutcome}
-use Rattle.vetchnoon_codes.specs.Numbers.{asNumbers}
-use Rattle.vetchnoon.specs.Written.{pergen, generationNumbers}
-use Rattle.vetchnoon_codes.proofs.Coding.{coded, fills-refused, fills-as}
-use Rattle.vetchnoon.proofs.Outputs.{generation-given, key-handed-on}
+use Rattle.pergen.specs.Answers.{get_generation, generation_outcome}
+use Rattle.vetchnoon_codes.specs.Numbers.{as_numbers}
+use Rattle.vetchnoon.specs.Written.{pergen, generation_numbers}
+use Rattle.vetchnoon_codes.proofs.Coding.{coded, fills_refused, fills_as}
+use Rattle.vetchnoon.proofs.Outputs.{generation_given, key_handed_on}
 use borrow.Author.Rules.{rules}
 use Rattle.vetchnoon.proofs.numbers.vn_generation.Statement.{statement}
 use Rattle.vetchnoon.proofs.numbers.vn_generation.Tie as tie
@@ -37,11 +37,11 @@ returns : tie.Need-returns
 returns c =
     let made = c.before.before.before.before in
     let start = made.before.before in
-    fills-refused _ _
-    (ap (asNumbers generationNumbers)
-    (sym (ap generationOutcome c.before.before.question.given.1)
+    fills_refused _ _
+    (ap (as_numbers generation_numbers)
+    (sym (ap generation_outcome c.before.before.question.given.1)
     ∙ made.get-generation.ensures
-    ∙ key-handed-on (getGeneration (pergen start.args.period start.args.generator)) start.args.key start.ranges.key))
+    ∙ key_handed_on (get_generation (pergen start.args.period start.args.generator)) start.args.key start.ranges.key))
     (coded c.refused.type-inv c.refused.ensures)
 
 same_length : tie.Need-same-length
@@ -51,11 +51,11 @@ returns-2 : tie.Need-returns-2
 returns-2 c =
     let made = c.before.before.before.before.before.before.before.before.before.before in
     let start = made.before.before in
-    fills-as
-    (generation-given _ _ _
-    (sym (ap generationOutcome c.before.before.before.before.before.before.before.before.generation.given.1)
+    fills_as
+    (generation_given _ _ _
+    (sym (ap generation_outcome c.before.before.before.before.before.before.before.before.generation.given.1)
     ∙ made.get-generation.ensures
-    ∙ key-handed-on (getGeneration (pergen start.args.period start.args.generator)) start.args.key start.ranges.key) c.before.before.before.before.before.before.presence.ensures c.before.before.before.before.before.stars.ensures)
+    ∙ key_handed_on (get_generation (pergen start.args.period start.args.generator)) start.args.key start.ranges.key) c.before.before.before.before.before.before.presence.ensures c.before.before.before.before.before.stars.ensures)
     c.before.before.put.type-inv
     c.before.before.put.ensures
 

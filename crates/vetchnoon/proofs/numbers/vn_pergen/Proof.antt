@@ -1,6 +1,6 @@
 -- Question 2, then the numbers that were solved.
-use Rattle.vetchnoon_codes.proofs.Coding.{coded, fills-refused, fills-as}
-use Rattle.vetchnoon.proofs.Outputs.{pergen-refused, pergen-given}
+use Rattle.vetchnoon_codes.proofs.Coding.{coded, fills_refused, fills_as}
+use Rattle.vetchnoon.proofs.Outputs.{pergen_refused, pergen_given}
 use borrow.Author.Rules.{rules}
 use Rattle.vetchnoon.proofs.numbers.vn_pergen.Statement.{statement}
 use Rattle.vetchnoon.proofs.numbers.vn_pergen.Tie as tie
@@ -9,7 +9,7 @@ refused-requires : tie.Need-refused-requires
 refused-requires c κs = search rules
 
 returns : tie.Need-returns
-returns c = fills-refused _ 2 (pergen-refused _ _ c.before.if1.true) (coded c.refused.type-inv c.refused.ensures)
+returns c = fills_refused _ 2 (pergen_refused _ _ c.before.if1.true) (coded c.refused.type-inv c.refused.ensures)
 
 solve-requires : tie.Need-solve-requires
 solve-requires c κs = search rules
@@ -25,7 +25,7 @@ same_length c = search rules
 
 returns-2 : tie.Need-returns-2
 returns-2 c =
-    fills-as (pergen-given _ _ _ c.before.before.before.before.before.before.if1.false c.before.before.before.before.before.solve.ensures) c.before.before.put.type-inv c.before.before.put.ensures
+    fills_as (pergen_given _ _ _ c.before.before.before.before.before.before.if1.false c.before.before.before.before.before.solve.ensures) c.before.before.put.type-inv c.before.before.put.ensures
 
 pub vn-pergen-spec : {M : Type 1} → statement M
 vn-pergen-spec =

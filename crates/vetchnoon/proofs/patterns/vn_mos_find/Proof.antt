@@ -1,9 +1,9 @@
 -- Question 2, then the walk from the genesis, which always is a pattern.
 use mathlib.Core.Path.{sym, ap, ◌∙◌}
 use native.Mathlib.Omega.{arith}
-use Rattle.mos.specs.Answers.{mosOutcome}
-use Rattle.vetchnoon_codes.proofs.Coding.{coded, fills-refused, fills-as}
-use Rattle.vetchnoon.proofs.Outputs.{find-refused, find-given}
+use Rattle.mos.specs.Answers.{mos_outcome}
+use Rattle.vetchnoon_codes.proofs.Coding.{coded, fills_refused, fills_as}
+use Rattle.vetchnoon.proofs.Outputs.{find_refused, find_given}
 use borrow.Author.Rules.{rules}
 use Rattle.vetchnoon.proofs.patterns.vn_mos_find.Statement.{statement}
 use Rattle.vetchnoon.proofs.patterns.vn_mos_find.Tie as tie
@@ -28,7 +28,7 @@ walk-requires c κs = search rules
 
 returns : tie.Need-returns
 returns c =
-    fills-refused _ _ (find-refused _ _ _ _ (sym (ap mosOutcome c.before.before.question.given.1) ∙ c.before.before.before.before.new-genesis.ensures))
+    fills_refused _ _ (find_refused _ _ _ _ (sym (ap mos_outcome c.before.before.question.given.1) ∙ c.before.before.before.before.new-genesis.ensures))
     (coded c.refused.type-inv c.refused.ensures)
 
 same_length : tie.Need-same-length
@@ -36,8 +36,8 @@ same_length c = search rules
 
 returns-2 : tie.Need-returns-2
 returns-2 c =
-    fills-as
-    (find-given _ _ _ _ _ (omega arith) (sym (ap mosOutcome c.before.before.before.before.before.before.genesis.given.1) ∙ c.before.before.before.before.before.before.before.before.new-genesis.ensures) c.before.before.before.find-child.ensures)
+    fills_as
+    (find_given _ _ _ _ _ (omega arith) (sym (ap mos_outcome c.before.before.before.before.before.before.genesis.given.1) ∙ c.before.before.before.before.before.before.before.before.new-genesis.ensures) c.before.before.before.find-child.ensures)
     c.before.before.walk.type-inv
     c.before.before.walk.ensures
 

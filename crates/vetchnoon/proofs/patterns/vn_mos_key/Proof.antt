@@ -1,8 +1,8 @@
 -- Question 7, question 10, then the key in the first place.
 use mathlib.Core.Path.{refl, sym, ap, ◌∙◌}
-use Rattle.mos.specs.Answers.{keyOutcome}
-use Rattle.vetchnoon_codes.proofs.Coding.{coded, one-refused, one-short, one-given}
-use Rattle.vetchnoon.proofs.Outputs.{key-read-back}
+use Rattle.mos.specs.Answers.{key_outcome}
+use Rattle.vetchnoon_codes.proofs.Coding.{coded, one_refused, one_short, one_given}
+use Rattle.vetchnoon.proofs.Outputs.{key_read_back}
 use borrow.Author.Rules.{rules}
 use Rattle.vetchnoon.proofs.patterns.vn_mos_key.Statement.{statement}
 use Rattle.vetchnoon.proofs.patterns.vn_mos_key.Tie as tie
@@ -24,7 +24,7 @@ refused-requires-2 c κs = search rules
 
 returns : tie.Need-returns
 returns c =
-    one-short _ _ (sym (ap keyOutcome c.before.before.before.key.given.1) ∙ c.before.before.before.before.before.get_key.ensures ∙ key-read-back _ _ _ c.before.before.before.before.before.before.ranges.p c.before.before.before.before.before.before.ranges.s)
+    one_short _ _ (sym (ap key_outcome c.before.before.before.key.given.1) ∙ c.before.before.before.before.before.get_key.ensures ∙ key_read_back _ _ _ c.before.before.before.before.before.before.ranges.p c.before.before.before.before.before.before.ranges.s)
     c.before.if1.true
     (coded c.refused2.type-inv c.refused2.ensures)
 
@@ -33,7 +33,7 @@ slice-set-from-key c = search rules
 
 returns-2 : tie.Need-returns-2
 returns-2 c =
-    one-refused _ _ (sym (ap keyOutcome c.before.before.question.given.1) ∙ c.before.before.before.before.get_key.ensures ∙ key-read-back _ _ _ c.before.before.before.before.before.ranges.p c.before.before.before.before.before.ranges.s)
+    one_refused _ _ (sym (ap key_outcome c.before.before.question.given.1) ∙ c.before.before.before.before.get_key.ensures ∙ key_read_back _ _ _ c.before.before.before.before.before.ranges.p c.before.before.before.before.before.ranges.s)
     (coded c.refused.type-inv c.refused.ensures)
 
 same_length : tie.Need-same-length
@@ -41,7 +41,7 @@ same_length c = search rules
 
 returns-3 : tie.Need-returns-3
 returns-3 c =
-    one-given _ _ _ (sym (ap keyOutcome c.before.before.key.given.1) ∙ c.before.before.before.before.get_key.ensures ∙ key-read-back _ _ _ c.before.before.before.before.before.ranges.p c.before.before.before.before.before.ranges.s)
+    one_given _ _ _ (sym (ap key_outcome c.before.before.key.given.1) ∙ c.before.before.before.before.get_key.ensures ∙ key_read_back _ _ _ c.before.before.before.before.before.ranges.p c.before.before.before.before.before.ranges.s)
     c.if1.false
     refl
     (coded c.before.known-told2.given.0.1 refl)

@@ -3,11 +3,11 @@ use mathlib.Core.Path.{sym}
 use lib.IntN.{ℤ}
 use lib.ListN.{length}
 use native.Mathlib.Omega.{arith}
-use Rattle.answer.specs.Lent.{inRoom}
-use Rattle.layout_reach.specs.Answers.{getReach}
+use Rattle.answer.specs.Lent.{in_room}
+use Rattle.layout_reach.specs.Answers.{get_reach}
 use Rattle.vetchnoon.specs.Written.{layout}
-use Rattle.vetchnoon.proofs.Outputs.{key-handed-on}
-use Rattle.vetchnoon_codes.proofs.Coding.{coded, fills-filled, small-filled}
+use Rattle.vetchnoon.proofs.Outputs.{key_handed_on}
+use Rattle.vetchnoon_codes.proofs.Coding.{coded, fills_filled, small_filled}
 use borrow.Author.Rules.{rules}
 use Rattle.vetchnoon.proofs.reach.vn_keys_in_reach.Statement.{statement}
 use Rattle.vetchnoon.proofs.reach.vn_keys_in_reach.Tie as tie
@@ -16,7 +16,7 @@ keys-in-reach-requires : tie.Need-keys-in-reach-requires
 keys-in-reach-requires c κs = search rules
 
 count-requires : tie.Need-count-requires
-count-requires c κs = small-filled c.before.before.keys-in-reach.result c.before.before.keys-in-reach.ensures (omega arith)
+count-requires c κs = small_filled c.before.before.keys-in-reach.result c.before.before.keys-in-reach.ensures (omega arith)
 
 same_length : tie.Need-same-length
 same_length c = search rules
@@ -24,10 +24,10 @@ same_length c = search rules
 returns : tie.Need-returns
 returns c =
     let start = c.before.before.before.before.before.before in
-    fills-filled
+    fills_filled
     (sym
-    (key-handed-on
-    (λ (z : ℤ). inRoom (length start.args.out.now) (getReach (layout start.args.chain start.args.octave start.args.tritave start.args.start) z start.args.distance))
+    (key_handed_on
+    (λ (z : ℤ). in_room (length start.args.out.now) (get_reach (layout start.args.chain start.args.octave start.args.tritave start.args.start) z start.args.distance))
     start.args.key start.ranges.key))
     c.before.before.before.keys-in-reach.ensures (coded c.count.type-inv c.count.ensures)
 

@@ -1,9 +1,9 @@
 -- The library's answer, as a code.
 use mathlib.Core.Path.{ap, ◌∙◌}
 use lib.IntN.{ℤ}
-use Rattle.layout_reach.specs.Answers.{getNearest}
+use Rattle.layout_reach.specs.Answers.{get_nearest}
 use Rattle.vetchnoon.specs.Written.{layout}
-use Rattle.vetchnoon.proofs.Outputs.{key-handed-on}
+use Rattle.vetchnoon.proofs.Outputs.{key_handed_on}
 use Rattle.vetchnoon_codes.specs.Codes.{code_of}
 use Rattle.vetchnoon_codes.proofs.Coding.{coded}
 use borrow.Author.Rules.{rules}
@@ -23,7 +23,7 @@ returns c =
     (c.number.ensures
     ∙ ap code_of
     (c.before.nearest-natural.ensures
-    ∙ key-handed-on (λ (z : ℤ). getNearest (layout start.args.chain start.args.octave start.args.tritave start.args.start) z start.args.letter)
+    ∙ key_handed_on (λ (z : ℤ). get_nearest (layout start.args.chain start.args.octave start.args.tritave start.args.start) z start.args.letter)
     start.args.key start.ranges.key))
 
 pub vn-nearest-natural-spec : {M : Type 1} → statement M

@@ -1,9 +1,9 @@
 -- The library's answer, as a code. The number of signs is handed on as it is.
 use mathlib.Core.Path.{ap, ◌∙◌}
 use lib.IntN.{ℤ}
-use Rattle.layout_retuning.specs.Answers.{getMoved}
+use Rattle.layout_retuning.specs.Answers.{get_moved}
 use Rattle.vetchnoon.specs.Written.{retuning, spelling}
-use Rattle.vetchnoon.proofs.Outputs.{key-handed-on}
+use Rattle.vetchnoon.proofs.Outputs.{key_handed_on}
 use Rattle.vetchnoon_codes.specs.Codes.{code_of}
 use Rattle.vetchnoon_codes.proofs.Coding.{coded}
 use borrow.Author.Rules.{rules}
@@ -23,8 +23,8 @@ returns c =
     (c.number.ensures
     ∙ ap code_of
     (c.before.moved.ensures
-    ∙ key-handed-on
-    (λ (z : ℤ). getMoved (retuning start.args.chain start.args.octave start.args.start start.args.from-tritave start.args.to-tritave) (spelling start.args.letter z start.args.stars))
+    ∙ key_handed_on
+    (λ (z : ℤ). get_moved (retuning start.args.chain start.args.octave start.args.start start.args.from-tritave start.args.to-tritave) (spelling start.args.letter z start.args.stars))
     start.args.signs start.ranges.signs))
 
 pub vn-moved-spec : {M : Type 1} → statement M

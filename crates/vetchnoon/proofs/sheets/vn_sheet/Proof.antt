@@ -43,7 +43,7 @@ use denote.Triple.Table.{entered, cited}
 use denote.Triple.Walked.{says, Stays, stay_none, gave_slice, walk_of, AllGo, Goes-none, Goes-gave_slice, Walks, ends_at, walked, walk_Meets}
 use denote.Exit.{yes}
 use Rattle.answer.specs.Lent.{Filled}
-use Rattle.answer.specs.Refusals.{countOutcome}
+use Rattle.answer.specs.Refusals.{count_outcome}
 use Rattle.answer.specs.declared.CountAnswer.{CountAnswer}
 use Rattle.answer.specs.contracts.CountAnswer as N
 use Rattle.answer.proofs.CountAnswer.TheLaws as N'
@@ -51,15 +51,15 @@ use Rattle.layout.specs.declared.IsomorphicLayout.{IsomorphicLayout}
 use Rattle.layout.specs.contracts.IsomorphicLayout as Q
 use Rattle.layout.proofs.IsomorphicLayout.TheLaws as Q'
 use Rattle.layout_sheet.specs.declared.Record.{Record}
-use Rattle.layout_sheet.specs.Answers.{getSheet}
-use Rattle.layout_sheet.proofs.Calls.{sheet-has-room}
+use Rattle.layout_sheet.specs.Answers.{get_sheet}
+use Rattle.layout_sheet.proofs.Calls.{sheet_has_room}
 use Rattle.layout_sheet.specs.contracts.Record as T
 use Rattle.layout_sheet.specs.contracts.fill_sheet as fill
 use Rattle.layout_sheet.proofs.fill_sheet.Symbol as fill-def
 use Rattle.layout_sheet.proofs.fill_sheet.Symbol.{name as #layout-sheet·fill-sheet}
 use Rattle.layout_sheet.proofs.fill_sheet.Met as fill-thm
 use Rattle.vetchnoon_codes.specs.Codes.{code_of, Fills, SmallCount}
-use Rattle.vetchnoon_codes.proofs.Coding.{fills-filled, small-filled}
+use Rattle.vetchnoon_codes.proofs.Coding.{fills_filled, small_filled}
 use Rattle.vetchnoon_codes.specs.contracts.count as count
 use Rattle.vetchnoon_codes.proofs.count.Symbol as count-def
 use Rattle.vetchnoon_codes.proofs.count.Symbol.{name as #vetchnoon-codes·count}
@@ -92,12 +92,12 @@ module _ {M : Type 1} {𝓤 : Ura M} (𝓛 : Logic 𝓤) (mem : Memory → SProp
 
   -- of `count`'s `ensured`, the clause alone
   count-says : (a : CountAnswer) (z : ℤ)
-      → ent 𝓤 (ensured 𝓛 count.ended (count.clauses 𝓛 mem run) tt (a, tt) tt z) (fact 𝓤 (z ≡ code_of (countOutcome a)))
-  count-says a z = ex_e 𝓤 _ (λ ws. snd∗ 𝓤 (sem 𝓛 (lasts count.ended tt (a, tt) ws)) (fact 𝓤 (z ≡ code_of (countOutcome a))))
+      → ent 𝓤 (ensured 𝓛 count.ended (count.clauses 𝓛 mem run) tt (a, tt) tt z) (fact 𝓤 (z ≡ code_of (count_outcome a)))
+  count-says a z = ex_e 𝓤 _ (λ ws. snd∗ 𝓤 (sem 𝓛 (lasts count.ended tt (a, tt) ws)) (fact 𝓤 (z ≡ code_of (count_outcome a))))
 
 module _ {M : Type 1} {𝓤 : Ura M} (𝓛 : Logic 𝓤) (mem : Memory → SProp 𝓤) (run : Routine → Fun 𝓤)
     (κ : Lft) (q : Share) (b o : ℕ) (γ : GName) (xs : List Record) (chain octave tritave start : ℕ)
-    (Chain-fits : chain < 2 ^ 16) (octave-fits : octave < 2 ^ 16) (tritave-fits : tritave < 2 ^ 16) (start_fits : start < 2 ^ 16)
+    (Chain-fits : chain < 2 ^ 16) (octave_fits : octave < 2 ^ 16) (tritave-fits : tritave < 2 ^ 16) (start_fits : start < 2 ^ 16)
     (room : Room T.the_row (length xs)) where
   open 𝓛 use {H, A}
 
@@ -129,7 +129,7 @@ module _ {M : Type 1} {𝓤 : Ura M} (𝓛 : Logic 𝓤) (mem : Memory → SProp
   rq-is : Is Q.the_row rq (rq-val ∷ [])
   rq-is = (
     (vint w16 chain ∷ [], (vint w16 octave ∷ [], (vint w16 tritave ∷ [], (vint w16 start ∷ [], tt)))),
-    (refl, ((refl, Chain-fits), ((refl, octave-fits), ((refl, tritave-fits), ((refl, start_fits), tt))))),
+    (refl, ((refl, Chain-fits), ((refl, octave_fits), ((refl, tritave-fits), ((refl, start_fits), tt))))),
   )
 
   -- what each callee's triple binds outside, and that the caller has what it asks
@@ -154,12 +154,12 @@ module _ {M : Type 1} {𝓤 : Ura M} (𝓛 : Logic 𝓤) (mem : Memory → SProp
       nothing ! $ join ! $ done !
 
   -- the records' bytes are in memory, so there are few
-  small : (c : CountAnswer) (zs : List Record) → Filled (getSheet rq xs) (countOutcome c) xs zs → length zs ≡ length xs → SmallCount c
+  small : (c : CountAnswer) (zs : List Record) → Filled (get_sheet rq xs) (count_outcome c) xs zs → length zs ≡ length xs → SmallCount c
   small c zs e l =
       let bytes : length xs * 16 < 2 ^ 63 = room.1 in
-      small-filled c e (omega (arith, bytes, l))
+      small_filled c e (omega (arith, bytes, l))
 
-  exits : (z : ℤ) (w : Val) (zs : List Record) → Fills (getSheet rq xs) z xs zs → length zs ≡ length xs
+  exits : (z : ℤ) (w : Val) (zs : List Record) → Fills (get_sheet rq xs) z xs zs → length zs ≡ length xs
       → ent 𝓤
       (sep 𝓤 (sep 𝓤 (A.lft κ q) (sem 𝓛 ftrue)) (sep 𝓤 (sem 𝓛 (finally T.the_row γ zs)) (sem 𝓛 (i64.own_val z (w ∷ [])))))
       (Post w)
@@ -171,7 +171,7 @@ module _ {M : Type 1} {𝓤 : Ura M} (𝓛 : Logic 𝓤) (mem : Memory → SProp
       says ! e $ frame ! $ nothing ! $ move ! (1 ∷ 0 ∷ []) $ fjoin ! $
       owned ! u16 (Is u16) (uint_Makes 𝓛 w16) start _ (refl, start_fits) $ fjoin ! $
       owned ! u16 (Is u16) (uint_Makes 𝓛 w16) tritave _ (refl, tritave-fits) $ fjoin ! $
-      owned ! u16 (Is u16) (uint_Makes 𝓛 w16) octave _ (refl, octave-fits) $ fjoin ! $
+      owned ! u16 (Is u16) (uint_Makes 𝓛 w16) octave _ (refl, octave_fits) $ fjoin ! $
       owned ! u16 (Is u16) (uint_Makes 𝓛 w16) chain _ (refl, Chain-fits) $ fjoin ! $ done !
 
   module _ (C : Calls 𝓤 H) (Λ : Loops 𝓤 H) (fm : FmC 𝓤 H 𝓛.laws C)
@@ -189,7 +189,7 @@ module _ {M : Type 1} {𝓤 : Ura M} (𝓛 : Logic 𝓤) (mem : Memory → SProp
         alloc1 ! (λ l₀. alloc1 ! (λ l₁. alloc1 ! (λ l₂. alloc1 ! (λ l₃. alloc1 ! (λ l₄.
         alloc1 ! (λ l₅. alloc1 ! (λ l₆. alloc1 ! (λ l₇. alloc1 ! (λ l₈. alloc1 ! (λ l₉. alloc0 ! $ params1 ! $
         -- local j's cell stands at 2 · (9 − j)
-        pass1 ! (init ! 16 refl (tt, record { fits = Chain-fits })) $ pass1 ! (init ! 14 refl (tt, record { fits = octave-fits })) $
+        pass1 ! (init ! 16 refl (tt, record { fits = Chain-fits })) $ pass1 ! (init ! 14 refl (tt, record { fits = octave_fits })) $
         pass1 ! (init ! 12 refl (tt, record { fits = tritave-fits })) $ pass1 ! (init ! 10 refl (tt, record { fits = start_fits })) $
         pass1 ! (init ! 8 refl (tt, (tt, (record { fits = room.0 }, tt)))) $ pass0 ! $
         -- the layout, and the slice once more
@@ -219,8 +219,8 @@ module _ {M : Type 1} {𝓤 : Ura M} (𝓛 : Logic 𝓤) (mem : Memory → SProp
         use1 𝓛
         (some
         (λ (ws : Unit {0} × (List Record × Unit {0})).
-        ‵ (lasts fill.ended (κ, tt) (rq, (x, tt)) ws) ⊛ raw (fact 𝓤 (Filled (getSheet rq xs) (countOutcome r) xs ws.1.0)))) (id⊢ 𝓤 _) $
-        pick ! (λ ws. split ! $ move ! (1 ∷ []) $ heard ! (Filled (getSheet rq xs) (countOutcome r) xs ws.1.0) (λ e.
+        ‵ (lasts fill.ended (κ, tt) (rq, (x, tt)) ws) ⊛ raw (fact 𝓤 (Filled (get_sheet rq xs) (count_outcome r) xs ws.1.0)))) (id⊢ 𝓤 _) $
+        pick ! (λ ws. split ! $ move ! (1 ∷ []) $ heard ! (Filled (get_sheet rq xs) (count_outcome r) xs ws.1.0) (λ e.
         fsplit ! $ drop ! $ fsplit ! $ fsplit ! $ move ! (1 ∷ []) $ feq_l ! (λ l.
         -- [the last list; true; the token and the result; …]
         move ! (2 ∷ []) $ split ! $ move ! (1 ∷ []) $ facts ! N.the_row (Is N.the_row) (shows 𝓛 N.the_row) r (v ∷ []) (λ was.
@@ -235,8 +235,8 @@ module _ {M : Type 1} {𝓤 : Ura M} (𝓛 : Logic 𝓤) (mem : Memory → SProp
         (some
         (λ (z : ℤ).
         (‵ ftrue ⊛ ‵ (i64.own_val z (w ∷ []))) ⊛ raw (ensured 𝓛 count.ended (count.clauses 𝓛 mem run) tt (r, tt) tt z)))) (id⊢ 𝓤 _) $
-        await ! tt $ pick ! (λ z. split ! $ move ! (1 ∷ []) $ use1 𝓛 (raw (fact 𝓤 (z ≡ code_of (countOutcome r)))) (count-says 𝓛 mem run r z) $
-        heard ! (z ≡ code_of (countOutcome r)) (λ coded. split ! $ drop ! $
+        await ! tt $ pick ! (λ z. split ! $ move ! (1 ∷ []) $ use1 𝓛 (raw (fact 𝓤 (z ≡ code_of (count_outcome r)))) (count-says 𝓛 mem run r z) $
+        heard ! (z ≡ code_of (count_outcome r)) (λ coded. split ! $ drop ! $
         peeks ! i64 (Is i64) (shows 𝓛 i64) z (w ∷ []) (λ is.
         -- [the result; the token; the last list; true; …]: local j's cell stands at 4 + 2 · (9 − j)
         land ! (from ! (stop !)) (init ! 22 refl ((sint_Lawful 𝓛 w64).typed z _ is).0) $ returns ! (look ! 22 refl) $
@@ -245,7 +245,7 @@ module _ {M : Type 1} {𝓤 : Ura M} (𝓛 : Logic 𝓤) (mem : Memory → SProp
         move ! (22 ∷ 23 ∷ []) $ free1 ! $ move ! (20 ∷ 21 ∷ []) $ free1 ! $ move ! (18 ∷ 19 ∷ []) $ free1 ! $ move ! (16 ∷ 17 ∷ []) $ free1 ! $
         move ! (14 ∷ 15 ∷ []) $ free1 ! $ move ! (12 ∷ 13 ∷ []) $ free1 ! $ move ! (10 ∷ 11 ∷ []) $ free1 ! $ move ! (8 ∷ 9 ∷ []) $ free1 ! $
         move ! (6 ∷ 7 ∷ []) $ free1 ! $ move ! (4 ∷ 5 ∷ []) $ free1 ! $ free0 ! $
-        keep ! (1 ∷ 2 ∷ 0 ∷ []) $ by ! (exits z w ws.1.0 (fills-filled (sheet-has-room rq xs) e coded) l)))))))))))))))))))))
+        keep ! (1 ∷ 2 ∷ 0 ∷ []) $ by ! (exits z w ws.1.0 (fills_filled (sheet_has_room rq xs) e coded) l)))))))))))))))))))))
       where
         spelled : (r : CountAnswer) (v : Val) → Is N.the_row r (v ∷ []) → Is N.the_row r (N-val r ∷ [])
         spelled r v was = subst (Is N.the_row r) (EL.tells N.the_type N'.the_laws r _ was) was

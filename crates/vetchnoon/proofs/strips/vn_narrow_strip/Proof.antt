@@ -1,7 +1,7 @@
 -- The library filled the slice; the code is its count.
 use mathlib.Core.Path.{refl}
 use native.Mathlib.Omega.{arith}
-use Rattle.vetchnoon_codes.proofs.Coding.{coded, fills-filled, small-filled}
+use Rattle.vetchnoon_codes.proofs.Coding.{coded, fills_filled, small_filled}
 use borrow.Author.Rules.{rules}
 use Rattle.vetchnoon.proofs.strips.vn_narrow_strip.Statement.{statement}
 use Rattle.vetchnoon.proofs.strips.vn_narrow_strip.Tie as tie
@@ -10,13 +10,13 @@ narrow-strip-requires : tie.Need-narrow-strip-requires
 narrow-strip-requires c κs = search rules
 
 count-requires : tie.Need-count-requires
-count-requires c κs = small-filled c.before.before.narrow-strip.result c.before.before.narrow-strip.ensures (omega arith)
+count-requires c κs = small_filled c.before.before.narrow-strip.result c.before.before.narrow-strip.ensures (omega arith)
 
 same_length : tie.Need-same-length
 same_length c = search rules
 
 returns : tie.Need-returns
-returns c = fills-filled refl c.before.before.before.narrow-strip.ensures (coded c.count.type-inv c.count.ensures)
+returns c = fills_filled refl c.before.before.before.narrow-strip.ensures (coded c.count.type-inv c.count.ensures)
 
 pub vn-narrow-strip-spec : {M : Type 1} → statement M
 vn-narrow-strip-spec = tie.close (tie.spec narrow-strip-requires count-requires same_length returns)

@@ -4,8 +4,8 @@ use Prim.Native.Nat.{◌<◌, ◌^◌}
 use native.Mathlib.Omega.{arith}
 use mir.Syntax.{w64}
 use mir.ValLaws.{to_z_pos}
-use Rattle.vetchnoon_codes.proofs.Coding.{minus-fits, minus_is}
-use Rattle.vetchnoon.specs.TypedNames.{signsNumber}
+use Rattle.vetchnoon_codes.proofs.Coding.{minus_fits, minus_is}
+use Rattle.vetchnoon.specs.TypedNames.{signs_number}
 use borrow.Author.Rules.{rules}
 use Rattle.vetchnoon.proofs.typed.signs_number.Statement.{statement}
 use Rattle.vetchnoon.proofs.typed.signs_number.Tie as tie
@@ -24,17 +24,17 @@ cast-result-2 c = search rules
 
 sub-result : tie.Need-overflow-sub-result
 sub-result c =
-    minus-fits c.before.signs2.given.0.0 (let word : c.before.signs2.given.0.0 < 4294967296 = search rules in omega arith)
+    minus_fits c.before.signs2.given.0.0 (let word : c.before.signs2.given.0.0 < 4294967296 = search rules in omega arith)
 
 returns : tie.Need-returns
 returns c =
     to_z_pos w64 c.before.signs.given.0.0 (let word : c.before.signs.given.0.0 < 4294967296 = search rules in omega arith)
-    ∙ sym (ap signsNumber c.before.signs.given.1)
+    ∙ sym (ap signs_number c.before.signs.given.1)
 
 returns-2 : tie.Need-returns-2
 returns-2 c =
     minus_is c.before.signs2.given.0.0 (let word : c.before.signs2.given.0.0 < 4294967296 = search rules in omega arith)
-    ∙ sym (ap signsNumber c.before.signs2.given.1)
+    ∙ sym (ap signs_number c.before.signs2.given.1)
 
 pub signs-number-spec : {M : Type 1} → statement M
 signs-number-spec =

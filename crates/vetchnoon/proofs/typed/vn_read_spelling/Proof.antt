@@ -2,10 +2,10 @@
 use mathlib.Core.Path.{sym, ap, ◌∙◌}
 use native.Mathlib.Omega.{arith}
 use lib.ListN.{length-set}
-use Rattle.layout_reading.specs.Answers.{spellingOutcome}
-use Rattle.vetchnoon.specs.TypedNames.{as_signed, spellingNumbers}
-use Rattle.vetchnoon_codes.proofs.Coding.{coded, fills-refused, fills-short}
-use Rattle.vetchnoon.proofs.SpellingNumbers.{spelling-stored}
+use Rattle.layout_reading.specs.Answers.{spelling_outcome}
+use Rattle.vetchnoon.specs.TypedNames.{as_signed, spelling_numbers}
+use Rattle.vetchnoon_codes.proofs.Coding.{coded, fills_refused, fills_short}
+use Rattle.vetchnoon.proofs.SpellingNumbers.{spelling_stored}
 use borrow.Author.Rules.{rules}
 use Rattle.vetchnoon.proofs.typed.vn_read_spelling.Statement.{statement}
 use Rattle.vetchnoon.proofs.typed.vn_read_spelling.Tie as tie
@@ -27,9 +27,9 @@ refused-requires-2 c κs = search rules
 
 returns : tie.Need-returns
 returns c =
-    fills-short _ _
-    (ap (as_signed spellingNumbers)
-    (sym (ap spellingOutcome c.before.before.before.spelling.given.1) ∙ c.before.before.before.before.before.read-spelling.ensures))
+    fills_short _ _
+    (ap (as_signed spelling_numbers)
+    (sym (ap spelling_outcome c.before.before.before.spelling.given.1) ∙ c.before.before.before.before.before.read-spelling.ensures))
     c.before.if1.true
     (coded c.refused2.type-inv c.refused2.ensures)
 
@@ -53,9 +53,9 @@ slice-set-from-out-2 c = simp length-set (omega arith)
 
 returns-2 : tie.Need-returns-2
 returns-2 c =
-    fills-refused _ _
-    (ap (as_signed spellingNumbers)
-    (sym (ap spellingOutcome c.before.before.question.given.1) ∙ c.before.before.before.before.read-spelling.ensures))
+    fills_refused _ _
+    (ap (as_signed spelling_numbers)
+    (sym (ap spelling_outcome c.before.before.question.given.1) ∙ c.before.before.before.before.read-spelling.ensures))
     (coded c.refused.type-inv c.refused.ensures)
 
 same_length : tie.Need-same-length
@@ -64,9 +64,9 @@ same_length c = search rules
 returns-3 : tie.Need-returns-3
 returns-3 c =
     let spelling = c.before.before.before.before.before.spelling in
-    spelling-stored spelling.given.0.0 _ (search rules) (search rules)
+    spelling_stored spelling.given.0.0 _ (search rules) (search rules)
     (coded c.before.before.signs-number.type-inv c.before.before.signs-number.ensures)
-    _ (sym (ap spellingOutcome spelling.given.1) ∙ c.before.before.before.before.before.before.before.read-spelling.ensures)
+    _ (sym (ap spelling_outcome spelling.given.1) ∙ c.before.before.before.before.before.before.before.read-spelling.ensures)
     c.before.before.before.if1.false
 
 pub vn-read-spelling-spec : {M : Type 1} → statement M
