@@ -11,7 +11,7 @@ ghost use Rattle.std.specs.Prelude.{◌≡◌};
 ghost use Rattle.answer.specs.Refusals.{number_of};
 
 // The question that was answered with no.
-#[derive(Drop)]
+#[derive(Clone, Copy)]
 pub enum Refusal {
     // 1: is the chain code 0 to 5?
     Chain,
@@ -98,14 +98,14 @@ impl Refusal {
 }
 
 // A number, or a refusal.
-#[derive(Drop)]
+#[derive(Clone, Copy)]
 pub enum NumberAnswer {
     Given(u16),
     Refused(Refusal),
 }
 
 // How many elements were written to the front of a lent slice, or a refusal.
-#[derive(Drop)]
+#[derive(Clone, Copy)]
 pub enum CountAnswer {
     Given(usize),
     Refused(Refusal),

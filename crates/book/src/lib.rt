@@ -16,21 +16,21 @@ use answer::Refusal;
 use text::little_endian::read_u32;
 
 // Where a name stands: its first byte, counted from the book's start, and how many bytes it has.
-#[derive(Drop)]
+#[derive(Clone, Copy)]
 pub struct Place {
     pub offset: u32,
     pub length: u32,
 }
 
 // How many keys a book has, or a refusal.
-#[derive(Drop)]
+#[derive(Clone, Copy)]
 pub enum KeysAnswer {
     Given(u32),
     Refused(Refusal),
 }
 
 // Where a key's name stands, or a refusal.
-#[derive(Drop)]
+#[derive(Clone, Copy)]
 pub enum FindAnswer {
     Found(Place),
     Refused(Refusal),
@@ -38,7 +38,7 @@ pub enum FindAnswer {
 
 // A key's name, as the part of the caller's book that holds it, and 0; or the empty part at the book's front, and the
 // number of the question that refuses. An enum cannot hold a part of the caller's memory, so the two stand side by side.
-#[derive(Drop)]
+#[derive(Clone, Copy)]
 pub struct NameAnswer<'a> {
     pub name: &'a [u8],
     pub refusal: u8,
@@ -110,7 +110,7 @@ pub fn find(book: &[u8], key: i32) -> FindAnswer
 }
 
 // Where the part of a lookup starts and ends in the book, and the number beside it.
-#[derive(Drop)]
+#[derive(Clone, Copy)]
 struct Extent {
     start: usize,
     end: usize,

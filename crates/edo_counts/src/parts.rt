@@ -11,7 +11,7 @@ use mos::Mos;
 use text::decimal;
 
 // How many layouts have a sharpness above 0, below 0 and at 0.
-#[derive(Drop)]
+#[derive(Clone, Copy)]
 pub(crate) struct Tally {
     pub above: u16,
     pub below: u16,

@@ -19,14 +19,14 @@ use layout::IsomorphicLayout;
 use mos::Mos;
 
 // A chain's layout, whether its tritave is the second choice, and the step pattern of its letters.
-#[derive(Drop)]
+#[derive(Clone, Copy)]
 pub struct EdoLayout {
     pub layout: IsomorphicLayout,
     pub second: bool,
     pub pattern: Mos,
 }
 
-#[derive(Drop)]
+#[derive(Clone, Copy)]
 pub enum EdoAnswer {
     Given(EdoLayout),
     Refused(Refusal),

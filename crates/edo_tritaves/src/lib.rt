@@ -17,13 +17,13 @@ use crate::numbers::TRITAVES;
 use answer::Refusal;
 
 // The choices for the tritave, in steps: the first, and the second, 0 where there is none.
-#[derive(Drop)]
+#[derive(Clone, Copy)]
 pub struct Choices {
     pub first: u16,
     pub second: u16,
 }
 
-#[derive(Drop)]
+#[derive(Clone, Copy)]
 pub enum TritavesAnswer {
     Given(Choices),
     Refused(Refusal),

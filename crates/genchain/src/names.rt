@@ -9,7 +9,7 @@ use answer::{CountAnswer, Refusal};
 use text::writer;
 
 // A text in ASCII, 0 past its end, and its length.
-#[derive(Drop)]
+#[derive(Clone, Copy)]
 struct TextRow {
     text: [u8; 12],
     length: u16,

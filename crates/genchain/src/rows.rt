@@ -6,7 +6,7 @@ ghost use Rattle.text.specs.Writing.{Room, Wrote};
 ghost use Rattle.genchain.specs.Chains.{chain_of, row_of, TableRow, letters_in};
 
 // A chain's letters as code points, 0 past the last; how many there are; the place of key 0's letter.
-#[derive(Drop)]
+#[derive(Clone, Copy)]
 pub struct ChainRow {
     pub letters: [u16; 9],
     pub num_letters: u16,
@@ -69,7 +69,7 @@ pub fn row(code: u16) -> ChainRow
 }
 
 // How many letters a chain has, and the place of key 0's letter.
-#[derive(Drop)]
+#[derive(Clone, Copy)]
 pub struct ChainNumbers {
     pub num_letters: u16,
     pub start: u16,

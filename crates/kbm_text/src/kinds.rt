@@ -5,7 +5,7 @@ ghost use Rattle.kbm_text.specs.Parts.{NumberRead};
 ghost use Rattle.kbm_text.specs.Kinds.{same_bytes};
 
 // What a line says.
-#[derive(Drop)]
+#[derive(Clone, Copy)]
 pub enum Kind {
     // a number of 1 to 5 digits
     Number(u32),

@@ -11,7 +11,7 @@ use crate::kinds::{Kind, is_comment, kind_of};
 
 // What the lines so far say: how many there are without comments, whether each fits (19), whether each agrees (20), how many keys are
 // mapped.
-#[derive(Drop)]
+#[derive(Clone, Copy)]
 pub struct Scan {
     pub line: usize,
     pub fits: bool,
@@ -20,7 +20,7 @@ pub struct Scan {
 }
 
 // A line's number, and how many keys are written.
-#[derive(Drop)]
+#[derive(Clone, Copy)]
 pub struct Spot {
     pub line: usize,
     pub put: usize,

@@ -35,7 +35,7 @@ use parts::FoundAnswer;
 use pergen::{AccidentalsAnswer, PerGen, PerGenAnswer, Spelling, euclid};
 
 // A chain in a tuning: the chain's code, how many steps make an octave and a tritave, and the index of key 0's letter along the chain.
-#[derive(Drop)]
+#[derive(Clone, Copy)]
 pub struct IsomorphicLayout {
     pub genchain: u16,
     pub octave: u16,
@@ -43,7 +43,7 @@ pub struct IsomorphicLayout {
     pub start: u16,
 }
 
-#[derive(Drop)]
+#[derive(Clone, Copy)]
 pub enum LayoutAnswer {
     Given(IsomorphicLayout),
     Refused(Refusal),

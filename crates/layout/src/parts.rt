@@ -19,7 +19,7 @@ use mos_walks::search::SearchAnswer;
 use pergen::{AccidentalsFormat, PerGen, Spelling};
 
 // What questions 1 to 4 and 18 find: all that keys and names are made from.
-#[derive(Drop)]
+#[derive(Clone, Copy)]
 pub struct Found {
     pub chain: u16,
     pub octave: u16,
@@ -29,7 +29,7 @@ pub struct Found {
     pub pattern: Mos,
 }
 
-#[derive(Drop)]
+#[derive(Clone, Copy)]
 pub enum FoundAnswer {
     Given(Found),
     Refused(Refusal),

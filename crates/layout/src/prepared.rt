@@ -25,7 +25,7 @@ use pergen::stepping::Key;
 use pergen::{Accidentals, AccidentalsFormat, euclid, stepping};
 
 // What the questions found, and what follows from octave and generator: cycles, reduced period, inverse.
-#[derive(Drop)]
+#[derive(Clone, Copy)]
 pub struct Prepared {
     pub found: Found,
     pub solved: Solved,

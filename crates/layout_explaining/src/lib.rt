@@ -32,14 +32,14 @@ use layout::parts::{Found, FoundAnswer};
 use notes::plans;
 
 // Where a spelling stands: its place on the chain, counted from key 0's letter, its stars, and the key of the octave that it sounds.
-#[derive(Drop)]
+#[derive(Clone, Copy)]
 pub struct Standing {
     pub place: i64,
     pub stars: u16,
     pub key: u16,
 }
 
-#[derive(Drop)]
+#[derive(Clone, Copy)]
 pub enum Verdict {
     // Their stars agree, and their places are a multiple of the reduced period apart.
     OneKey,
@@ -50,7 +50,7 @@ pub enum Verdict {
 }
 
 // Both spellings, how many places lie between them, after how many places the chain comes round, and what follows.
-#[derive(Drop)]
+#[derive(Clone, Copy)]
 pub struct Explanation {
     pub first: Standing,
     pub second: Standing,
@@ -59,7 +59,7 @@ pub struct Explanation {
     pub verdict: Verdict,
 }
 
-#[derive(Drop)]
+#[derive(Clone, Copy)]
 pub enum ExplanationAnswer {
     Given(Explanation),
     Refused(Refusal),

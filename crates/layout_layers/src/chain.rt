@@ -6,7 +6,7 @@ ghost use Rattle.std.specs.Prelude.{◌≡◌, ◌+◌, ◌<◌};
 ghost use Rattle.layout_layers.specs.Parts.{Unbroken, SpotAt};
 
 // The numbers of a chain. A place on is `advance` scale degrees on; key 0 has the place `start`.
-#[derive(Drop)]
+#[derive(Clone, Copy)]
 pub struct Chain {
     pub num_cycles: u16,
     pub reduced_period: u16,
@@ -15,7 +15,7 @@ pub struct Chain {
 }
 
 // A place of the chain, and its scale degree.
-#[derive(Drop)]
+#[derive(Clone, Copy)]
 pub struct Spot {
     pub place: u32,
     pub turn: u32,

@@ -16,7 +16,7 @@ use pergen::stepping::Key;
 // The sizes of the layers of one cycle. Natural and full sharp layers have all letters, as many as `full` says; as many sharp ones as
 // `partial` says have the count that is left over, `rest`. The flat layers are the sharp ones in reverse. All together have as many places as
 // the chain, so that the enharmonic layer has those that the others leave; there is none where they leave none.
-#[derive(Drop)]
+#[derive(Clone, Copy)]
 pub(crate) struct Sizes {
     pub letters: u16,
     pub full: u16,

@@ -23,7 +23,7 @@ use layout::{IsomorphicLayout, prepared};
 use pergen::stepping;
 
 // What a layer's number means; sharp, enharmonic and flat layers are counted from 0.
-#[derive(Drop)]
+#[derive(Clone, Copy)]
 pub enum Layer {
     Natural,
     Sharp(u16),

@@ -45,7 +45,7 @@ use mos_layers::Runs;
 use mos_layers::parts::divided;
 
 // What all keys of a layout have in common.
-#[derive(Drop)]
+#[derive(Clone, Copy)]
 pub struct Plan {
     pub chain: Chain,
     pub runs: Runs,

@@ -108,7 +108,7 @@ pub(crate) fn reach_count(octave: u16, distance: u16) -> usize
 }
 
 // Which keys of the octave are in reach: those below `wrapped`, and those of `from` to `to` - 1.
-#[derive(Drop)]
+#[derive(Clone, Copy)]
 pub(crate) struct Span {
     pub wrapped: u16,
     pub from: u16,

@@ -20,7 +20,7 @@ use layout::IsomorphicLayout;
 use layout::parts::FoundAnswer;
 use pergen::Spelling;
 
-#[derive(Drop)]
+#[derive(Clone, Copy)]
 pub enum SpellingAnswer {
     Given(Spelling),
     Refused(Refusal),

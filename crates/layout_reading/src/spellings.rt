@@ -17,14 +17,14 @@ use mos::Mos;
 use pergen::{Signs, Spelling};
 
 // The letter that a text begins with: its index along the chain, or the number of letters, and how many bytes it takes.
-#[derive(Drop)]
+#[derive(Clone, Copy)]
 pub(crate) struct Front {
     pub index: u16,
     pub bytes: usize,
 }
 
 // Signs and stars from a place on.
-#[derive(Drop)]
+#[derive(Clone, Copy)]
 pub(crate) struct Marks {
     pub sharps: usize,
     pub flats: usize,
@@ -32,7 +32,7 @@ pub(crate) struct Marks {
 }
 
 // A spelling with any number of stars.
-#[derive(Drop)]
+#[derive(Clone, Copy)]
 pub struct Typed {
     pub index: u16,
     pub signs: Signs,
@@ -40,7 +40,7 @@ pub struct Typed {
 }
 
 // The spelling that a text is, or that it is none's (23).
-#[derive(Drop)]
+#[derive(Clone, Copy)]
 pub enum TypedAnswer {
     Given(Typed),
     Refused,

@@ -21,7 +21,7 @@ use pergen::{Signs, Spelling};
 
 // A chain's code, how many steps make an octave, the index of key 0's letter along the chain, and how many steps make a tritave before and
 // after.
-#[derive(Drop)]
+#[derive(Clone, Copy)]
 pub struct Retuning {
     pub genchain: u16,
     pub octave: u16,

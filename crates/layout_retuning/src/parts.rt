@@ -28,7 +28,7 @@ use pergen::sounding::Sides;
 use pergen::{AccidentalsFormat, PerGen, Spelling};
 
 // What both layouts' questions find: the octave, the number of letters and the start, which are the same in both, and the two generators.
-#[derive(Drop)]
+#[derive(Clone, Copy)]
 pub(crate) struct Tunings {
     pub octave: u16,
     pub num_letters: u16,
@@ -37,7 +37,7 @@ pub(crate) struct Tunings {
     pub second: u16,
 }
 
-#[derive(Drop)]
+#[derive(Clone, Copy)]
 pub(crate) enum TuningsAnswer {
     Given(Tunings),
     Refused(Refusal),
@@ -77,7 +77,7 @@ pub(crate) fn ask(retuning: Retuning) -> TuningsAnswer
 }
 
 // The keys that one place of the chain sounds in both tunings.
-#[derive(Drop)]
+#[derive(Clone, Copy)]
 pub(crate) struct Keys {
     pub first: u16,
     pub second: u16,
@@ -145,7 +145,7 @@ pub(crate) fn entries(tunings: Tunings) -> u16
 
 // How far both keys go on from an entry of the table to the next: by one sharp, or from a letter's eight sharps to the next letter's eight
 // flats, one letter on and sixteen signs back. So no entry costs a division.
-#[derive(Drop)]
+#[derive(Clone, Copy)]
 pub(crate) struct Strides {
     pub sharp: Keys,
     pub letter: Keys,

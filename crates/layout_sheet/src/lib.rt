@@ -19,7 +19,7 @@ use layout::IsomorphicLayout;
 // One line of a sheet: the key that is asked for, and what the call writes beside it. Numbers only, as C has them: an index is counted
 // along the chain, a count is a number of sharps or of flats, stars are the cycle's number or 0.
 #[repr(C)]
-#[derive(Drop)]
+#[derive(Clone, Copy)]
 pub struct Record {
     pub key: i32,
     pub sharp_index: u16,

@@ -21,14 +21,14 @@ use pergen::stepping;
 use pergen::stepping::Key;
 
 // What every record is filled from: the layout, made ready, and how many layer numbers it has.
-#[derive(Drop)]
+#[derive(Clone, Copy)]
 pub(crate) struct Source {
     pub(crate) prepared: Prepared,
     pub(crate) total: u16,
 }
 
 // What a sheet comes to: the answer, and how many records are filled, from what, and from which key on.
-#[derive(Drop)]
+#[derive(Clone, Copy)]
 pub(crate) struct Sheet {
     pub(crate) answer: CountAnswer,
     pub(crate) source: Source,
@@ -37,7 +37,7 @@ pub(crate) struct Sheet {
 }
 
 // A record that was filled, and the key of the strip that it asked for.
-#[derive(Drop)]
+#[derive(Clone, Copy)]
 pub(crate) struct Turn {
     pub(crate) record: Record,
     pub(crate) key: Key,

@@ -18,7 +18,7 @@ use answer::{NumberAnswer, Refusal};
 use text::decimal::{Reading, read_number};
 
 // What the line asks for: a chain code, and the step counts of octave and tritave.
-#[derive(Drop)]
+#[derive(Clone, Copy)]
 pub struct Line {
     pub genchain: u16,
     pub octave: u16,
@@ -26,7 +26,7 @@ pub struct Line {
 }
 
 // The three numbers, or a refusal.
-#[derive(Drop)]
+#[derive(Clone, Copy)]
 pub enum LineAnswer {
     Given(Line),
     Refused(Refusal),

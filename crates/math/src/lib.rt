@@ -41,7 +41,7 @@ pub fn gcd_u16(x: u16, y: u16) -> u16
 }
 
 // A fraction.
-#[derive(Drop)]
+#[derive(Clone, Copy)]
 pub struct Fraction {
     pub numer: u16,
     pub denom: u16,
@@ -73,38 +73,38 @@ pub fn odd_factors_u16(number: u16) -> u16
 }
 
 // Quotient and remainder of a division by a 16-bit denominator.
-#[derive(Drop)]
+#[derive(Clone, Copy)]
 pub struct DividedU16 {
     pub quotient: i32,
     pub remainder: u16,
 }
 
 // Quotient and remainder of a division by a 32-bit denominator.
-#[derive(Drop)]
+#[derive(Clone, Copy)]
 pub struct DividedU32 {
     pub quotient: i32,
     pub remainder: u32,
 }
 
-#[derive(Drop)]
+#[derive(Clone, Copy)]
 pub enum DividedU16Answer {
     Given(DividedU16),
     Refused(Refusal),
 }
 
-#[derive(Drop)]
+#[derive(Clone, Copy)]
 pub enum DividedU32Answer {
     Given(DividedU32),
     Refused(Refusal),
 }
 
-#[derive(Drop)]
+#[derive(Clone, Copy)]
 pub enum QuotientAnswer {
     Given(i32),
     Refused(Refusal),
 }
 
-#[derive(Drop)]
+#[derive(Clone, Copy)]
 pub enum RemainderU32Answer {
     Given(u32),
     Refused(Refusal),

@@ -45,7 +45,7 @@ ghost use Rattle.mos.specs.Answers.{
 use answer::{NumberAnswer, Refusal};
 
 // A step pattern: so many primary and secondary steps, and how large each is.
-#[derive(Drop)]
+#[derive(Clone, Copy)]
 pub struct Mos {
     pub num_primary_steps: u16,
     pub num_secondary_steps: u16,
@@ -53,33 +53,33 @@ pub struct Mos {
     pub secondary_step: u16,
 }
 
-#[derive(Drop)]
+#[derive(Clone, Copy)]
 pub enum MosAnswer {
     Given(Mos),
     Refused(Refusal),
 }
 
 // A pattern of a walk; or that there is none, an ordinary answer: no child, no parent, none with so many steps.
-#[derive(Drop)]
+#[derive(Clone, Copy)]
 pub enum WalkAnswer {
     Found(Mos),
     Nothing,
     Refused(Refusal),
 }
 
-#[derive(Drop)]
+#[derive(Clone, Copy)]
 pub enum TotalAnswer {
     Given(u32),
     Refused(Refusal),
 }
 
-#[derive(Drop)]
+#[derive(Clone, Copy)]
 pub enum SharpnessAnswer {
     Given(i32),
     Refused(Refusal),
 }
 
-#[derive(Drop)]
+#[derive(Clone, Copy)]
 pub enum KeyAnswer {
     Given(i64),
     Refused(Refusal),

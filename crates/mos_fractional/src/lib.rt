@@ -20,7 +20,7 @@ use answer::{CountAnswer, Refusal};
 
 // A pattern: how many primary and secondary steps it has, and how large they are, as parts of the octave.
 #[repr(C)]
-#[derive(Drop)]
+#[derive(Clone, Copy)]
 pub struct FractionalMos {
     pub num_primary_steps: u16,
     pub num_secondary_steps: u16,
@@ -29,21 +29,21 @@ pub struct FractionalMos {
 }
 
 // A pattern, or a refusal.
-#[derive(Drop)]
+#[derive(Clone, Copy)]
 pub enum FractionalAnswer {
     Given(FractionalMos),
     Refused(Refusal),
 }
 
 // The child, or that there is none.
-#[derive(Drop)]
+#[derive(Clone, Copy)]
 pub enum ChildAnswer {
     Child(FractionalMos),
     Nothing,
 }
 
 // A pattern of a walk, that the walk does not reach so far, or a refusal.
-#[derive(Drop)]
+#[derive(Clone, Copy)]
 pub enum FractionalWalkAnswer {
     Found(FractionalMos),
     Nothing,

@@ -57,7 +57,7 @@ pub(crate) fn count_from(m: FractionalMos) -> usize
 }
 
 // A turn of a listing: whether a pattern is stored, and which.
-#[derive(Drop)]
+#[derive(Clone, Copy)]
 pub(crate) struct Turn {
     pub stores: bool,
     pub pattern: FractionalMos,

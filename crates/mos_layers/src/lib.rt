@@ -20,14 +20,14 @@ use answer::{CountAnswer, Refusal};
 use mos::Mos;
 
 // The layers as eight runs of layers of one size: how large they are, and how many.
-#[derive(Drop)]
+#[derive(Clone, Copy)]
 pub struct Runs {
     pub sizes: [u16; 8],
     pub times: [u16; 8],
 }
 
 // The next place of the list of layers, and the next layer's number.
-#[derive(Drop)]
+#[derive(Clone, Copy)]
 pub struct Cursor {
     pub at: usize,
     pub number: u16,

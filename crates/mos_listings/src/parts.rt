@@ -13,7 +13,7 @@ ghost use Rattle.mos_listings.specs.Parts.{Leaps, Listing, dual_parents};
 use mos::Mos;
 
 // So many patterns further on the walk of children.
-#[derive(Drop)]
+#[derive(Clone, Copy)]
 struct Leap {
     turns: u16,
     to: Mos,
@@ -106,7 +106,7 @@ fn put_pattern(m: Mos, out: &mut [u16], at: usize) -> usize
 }
 
 // Where a listing has come to: the next pattern, and its place in the slice.
-#[derive(Drop)]
+#[derive(Clone, Copy)]
 struct Reached {
     next: Mos,
     at: usize,

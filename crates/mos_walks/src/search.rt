@@ -10,7 +10,7 @@ ghost use Rattle.mos_walks.specs.Answers.{found_by};
 use mos::Mos;
 
 // The pattern that was searched for, or that there is none.
-#[derive(Drop)]
+#[derive(Clone, Copy)]
 pub enum SearchAnswer {
     Found(Mos),
     Nothing,

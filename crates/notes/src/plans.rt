@@ -19,7 +19,7 @@ use genchain::rows::ChainRow;
 use pergen::{Accidentals, Cycle};
 
 // One spelling: a letter's code point, a sign, and how many of it.
-#[derive(Drop)]
+#[derive(Clone, Copy)]
 pub struct Mark {
     pub letter: u16,
     pub sign: u8,
@@ -27,7 +27,7 @@ pub struct Mark {
 }
 
 // A name: the first spelling, or both with / between, in parentheses where `bracketed` is set; then stars.
-#[derive(Drop)]
+#[derive(Clone, Copy)]
 pub struct NamePlan {
     pub first: Mark,
     pub second: Mark,

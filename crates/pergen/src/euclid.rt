@@ -4,7 +4,7 @@ ghost use Rattle.pergen.specs.Parts.{StandsAt, BezoutOf, forward, solved_of};
 
 // The greatest common divisor, the period divided by it, and how many generators leave the divisor on division by the period:
 // so many backward where `negative` is set.
-#[derive(Drop)]
+#[derive(Clone, Copy)]
 struct Bezout {
     gcd: u16,
     cofactor: u16,
@@ -14,7 +14,7 @@ struct Bezout {
 
 // Where the extended Euclid stands: two remainders, and how many generators leave each on division by the period. The first is left
 // backward where `negative` is set, otherwise the second.
-#[derive(Drop)]
+#[derive(Clone, Copy)]
 pub struct Remainders {
     pub first: u16,
     pub second: u16,
@@ -73,7 +73,7 @@ fn inverse_from(found: Bezout) -> u16
 }
 
 // The numbers that follow from a period and a generator.
-#[derive(Drop)]
+#[derive(Clone, Copy)]
 pub struct Solved {
     pub num_cycles: u16,
     pub reduced_period: u16,

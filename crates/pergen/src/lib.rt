@@ -34,47 +34,47 @@ ghost use Rattle.pergen.specs.Answers.{
 use answer::{NumberAnswer, Refusal};
 
 // A period and a generator, in steps of the tuning.
-#[derive(Drop)]
+#[derive(Clone, Copy)]
 pub struct PerGen {
     pub period: u16,
     pub generator: u16,
 }
 
-#[derive(Drop)]
+#[derive(Clone, Copy)]
 pub enum PerGenAnswer {
     Given(PerGen),
     Refused(Refusal),
 }
 
 // Which of several generator chains a key belongs to; absent where there is only one.
-#[derive(Drop)]
+#[derive(Clone, Copy)]
 pub enum Cycle {
     Absent,
     Number(u16),
 }
 
 // How many generators lead to a key, and its cycle.
-#[derive(Drop)]
+#[derive(Clone, Copy)]
 pub struct Generation {
     pub cycle: Cycle,
     pub degree: u16,
 }
 
-#[derive(Drop)]
+#[derive(Clone, Copy)]
 pub enum GenerationAnswer {
     Given(Generation),
     Refused(Refusal),
 }
 
 // How many symbols are named along the chain, and the place of key 0's symbol among them.
-#[derive(Drop)]
+#[derive(Clone, Copy)]
 pub struct AccidentalsFormat {
     pub num_symbols: u16,
     pub genchain_origin: u16,
 }
 
 // A key's sharp and its flat spelling.
-#[derive(Drop)]
+#[derive(Clone, Copy)]
 pub struct Accidentals {
     pub cycle: Cycle,
     pub sharp_index: u16,
@@ -83,28 +83,28 @@ pub struct Accidentals {
     pub flat_count: u16,
 }
 
-#[derive(Drop)]
+#[derive(Clone, Copy)]
 pub enum AccidentalsAnswer {
     Given(Accidentals),
     Refused(Refusal),
 }
 
 // A number of sharps or of flats, 0 included.
-#[derive(Drop)]
+#[derive(Clone, Copy)]
 pub enum Signs {
     Sharps(u32),
     Flats(u32),
 }
 
 // Any spelling, printed or not: a symbol's index along the chain, signs, and stars.
-#[derive(Drop)]
+#[derive(Clone, Copy)]
 pub struct Spelling {
     pub index: u16,
     pub signs: Signs,
     pub stars: u16,
 }
 
-#[derive(Drop)]
+#[derive(Clone, Copy)]
 pub enum PlaceAnswer {
     Given(i64),
     Refused(Refusal),

@@ -7,7 +7,7 @@ ghost use Rattle.pergen.specs.Parts.{SidesOf, SmallSides};
 use crate::{AccidentalsFormat, PerGen, Signs, Spelling};
 
 // A place as a difference of two numbers.
-#[derive(Drop)]
+#[derive(Clone, Copy)]
 pub struct Sides {
     pub above: u64,
     pub below: u64,

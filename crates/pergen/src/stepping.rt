@@ -8,7 +8,7 @@ use crate::euclid::Solved;
 use crate::{Cycle, Generation};
 
 // A key, of this octave or the next: its number, its degree, and its cycle, which is 0 where there is only one.
-#[derive(Drop)]
+#[derive(Clone, Copy)]
 pub struct Key {
     pub number: u32,
     pub degree: u16,

@@ -20,7 +20,7 @@ use answer::CountAnswer;
 use mos_fractional::{ChildAnswer, FractionalAnswer, FractionalMos, FractionalWalkAnswer};
 
 // What the library answered, and the patterns.
-#[derive(Drop)]
+#[derive(Clone, Copy)]
 pub(crate) struct Page {
     pub(crate) answer: CountAnswer,
     pub(crate) patterns: [FractionalMos; 8],

@@ -14,7 +14,7 @@ use layout::IsomorphicLayout;
 use layout_sheet::Record;
 
 // What the library answered, and the records.
-#[derive(Drop)]
+#[derive(Clone, Copy)]
 pub(crate) struct Page {
     pub(crate) answer: CountAnswer,
     pub(crate) records: [Record; 4],

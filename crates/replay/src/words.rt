@@ -7,35 +7,35 @@ ghost use Rattle.io.specs.Counts.{IsPrefixLen};
 pub(crate) const NOWHERE: usize = 65536;
 
 // A number of 16 bits, and the place behind it.
-#[derive(Drop)]
+#[derive(Clone, Copy)]
 pub(crate) struct Natural {
     pub(crate) value: u16,
     pub(crate) end: usize,
 }
 
 // A number of 32 bits, and the place behind it.
-#[derive(Drop)]
+#[derive(Clone, Copy)]
 pub(crate) struct Wide {
     pub(crate) value: u32,
     pub(crate) end: usize,
 }
 
 // A number of 16 signed bits, and the place behind it.
-#[derive(Drop)]
+#[derive(Clone, Copy)]
 pub(crate) struct Short {
     pub(crate) value: i16,
     pub(crate) end: usize,
 }
 
 // A number of 32 signed bits, and the place behind it.
-#[derive(Drop)]
+#[derive(Clone, Copy)]
 pub(crate) struct Long {
     pub(crate) value: i32,
     pub(crate) end: usize,
 }
 
 // A number with a sign, and the place behind it: one that is `below` 0 is -1 - value.
-#[derive(Drop)]
+#[derive(Clone, Copy)]
 struct Signed {
     value: u32,
     below: bool,
@@ -43,14 +43,14 @@ struct Signed {
 }
 
 // A double, and the place behind it.
-#[derive(Drop)]
+#[derive(Clone, Copy)]
 pub(crate) struct Double {
     pub(crate) value: f64,
     pub(crate) end: usize,
 }
 
 // How many numbers of a list were read, and the place behind them.
-#[derive(Drop)]
+#[derive(Clone, Copy)]
 pub(crate) struct Listed {
     pub(crate) count: usize,
     pub(crate) end: usize,
@@ -58,7 +58,7 @@ pub(crate) struct Listed {
 
 // The numbers of a question in the order of the line: up to four of 16 bits, up to two keys, one more of 16 bits, a double, and one of 32
 // bits; 0 where it has no more. Beside them the room that it lends, and the place behind them.
-#[derive(Drop)]
+#[derive(Clone, Copy)]
 pub(crate) struct Values {
     pub(crate) first: u16,
     pub(crate) second: u16,

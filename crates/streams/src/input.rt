@@ -8,7 +8,7 @@ use std::num::wrapping_add_usize;
 
 // Where reading stands: how many bytes were taken (modulo 2^64), of these how many a buffer keeps, the last of them (0 before the first),
 // and whether the last read had none.
-#[derive(Drop)]
+#[derive(Clone, Copy)]
 pub struct Input {
     taken: usize,
     kept: usize,

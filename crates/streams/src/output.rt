@@ -7,7 +7,7 @@ use libc::STDOUT_FILENO;
 use std::num::wrapping_add_usize;
 
 // Where writing stands: how many bytes were handed over (modulo 2^64), and whether all of them were taken.
-#[derive(Drop)]
+#[derive(Clone, Copy)]
 pub struct Output {
     handed: usize,
     taken: bool,

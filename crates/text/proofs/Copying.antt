@@ -24,15 +24,11 @@ copy_more {xs} {ys} {at} {o} text i h w =
 pub copied : {xs ys : List ℕ} {at o : ℕ} (text : List ℕ) (i : ℕ) → length text ≤ i → Wrote xs at (take i text) ys o → Wrote xs at text ys o
 copied text i h w = wrote_as (take_all i text h) w
 
--- a text copied, as `bytes::copy` says, over the part of a slice that is as long as it
-pub part_copied : (xs text ys : List ℕ) (at : ℕ) → Room xs at text
-    → ys ≡ take (length text) text ++ drop (length text) (mid_of at (at + length text - at) xs)
+-- a text copied over the part of a slice that is as long as it
+pub part_copied : (xs text ys : List ℕ) (at : ℕ) → Room xs at text → ys ≡ text
     → Wrote xs at text (put_mid at (at + length text - at) xs ys) (at + length text)
-part_copied xs text ys at room e =
+part_copied xs text ys at room same =
     let n = length text in
-    let part = mid_of at (at + n - at) xs in
-    let none : drop n part ≡ [] = drop_of_length-le part {i = n} (omega (arith, mid_len at (at + n) xs room)) in
-    let same : ys ≡ text = e ∙ ap₂ (λ (u v : List ℕ). u ++ v) (take_all n text (le_refl n)) none ∙ append-nil text in
     record {
       content =
           ap (put_mid at (at + n - at) xs) same

@@ -10,7 +10,7 @@ ghost use Rattle.text.specs.Decimal.{digits, DigitsLength, digit_at, number_at};
 use crate::writer::put_byte;
 
 // A number and the place after its digits, or none.
-#[derive(Drop)]
+#[derive(Clone, Copy)]
 pub enum Reading {
     Number(u16, usize),
     Nothing,

@@ -11,7 +11,7 @@ use answer::Refusal;
 use mos_fractional::{ChildAnswer, FractionalMos};
 
 // What is answered for a child, and whether it is stored.
-#[derive(Drop)]
+#[derive(Clone, Copy)]
 pub(crate) struct ChildPlan {
     pub code: i64,
     pub stores: bool,

@@ -1,0 +1,13 @@
+-- The pairs below `key` fit, and the next part is due at `due`; each turn checks one pair more.
+use Prim.Native.Nat.{◌-◌, ◌≤◌}
+use native.Mathlib.Nat.{le_antisymm}
+use native.Mathlib.Omega.{arith}
+use mathlib.Core.Path.{◌∙◌}
+use Rattle.book.proofs.Pairs.{Checked, check_none, check_more, check_elsewhere, check_empty, uncovered, covered_by}
+use Rattle.book.proofs.covers.Given as goal
+
+abbrev pub invariant-loop-key : goal.invariant-loop-key
+invariant-loop-key l = Checked l.book l.due l.key × (l.key ≤ l.count)
+
+abbrev pub decreases-loop-key : goal.decreases-loop-key
+decreases-loop-key l = l.count - l.key

@@ -1,0 +1,50 @@
+-- Questions 1 and 2, then the rule of the chain that the code names.
+use Prim.Native.Nat.{ℕ}
+use mathlib.Core.Path.{sym, ap, ◌∙◌}
+use native.Mathlib.Omega.{arith}
+use Rattle.genchain.specs.Chains.{chain_of}
+use Rattle.genchain.proofs.Calls.{is_chain, is_none, generator_no_chain, generator_no_octave, generator_by_chain, chains_of_fifths}
+use borrow.Author.Tests.{not-true, not-false}
+use borrow.Author.Rules.{rules}
+use Rattle.genchain.proofs.generator.Goals as goal
+
+pub returns-then-not-is_chain : goal.returns-then-not-is_chain
+returns-then-not-is_chain c = generator_no_chain _ _ _ (is_none _ c.is_chain.ensures c.if-not-is_chain.true)
+
+pub returns-then-octave-eq0 : goal.returns-then-octave-eq0
+returns-then-octave-eq0 c = generator_no_octave _ _ _ (is_chain _ c.is_chain.ensures c.if-not-is_chain.false) c.if-octave-eq0.true
+
+pub returns-in-3 : goal.returns-in-3
+unfolding chain_of
+returns-in-3 c =
+    let a = c.args in
+    c.third_of_fourth.ensures
+    ∙ ap (λ (code : ℕ). (chain_of code).generator a.octave a.tritave) (sym c.in-3.is)
+    ∙ generator_by_chain _ _ _ (is_chain _ c.is_chain.ensures c.if-not-is_chain.false) c.if-octave-eq0.false
+
+pub returns-in-4 : goal.returns-in-4
+unfolding chain_of
+returns-in-4 c =
+    let a = c.args in
+    c.quarter_of_fifth.ensures
+    ∙ ap (λ (code : ℕ). (chain_of code).generator a.octave a.tritave) (sym c.in-4.is)
+    ∙ generator_by_chain _ _ _ (is_chain _ c.is_chain.ensures c.if-not-is_chain.false) c.if-octave-eq0.false
+
+pub returns-in-5 : goal.returns-in-5
+unfolding chain_of
+returns-in-5 c =
+    let a = c.args in
+    c.octave_less_sixth.ensures
+    ∙ ap (λ (code : ℕ). (chain_of code).generator a.octave a.tritave) (sym c.in-5.is)
+    ∙ generator_by_chain _ _ _ (is_chain _ c.is_chain.ensures c.if-not-is_chain.false) c.if-octave-eq0.false
+
+pub returns-in_default : goal.returns-in_default
+returns-in_default c =
+    let a = c.args in
+    let no3 = c.in_default.in_default-own.rest.0.0.1 in
+    let no4 = c.in_default.in_default-own.rest.0.1 in
+    let no5 = c.in_default.in_default-own.rest.1 in
+    let below = is_chain _ c.is_chain.ensures c.if-not-is_chain.false in
+    c.fifth.ensures
+    ∙ chains_of_fifths a.code _ _ (omega (arith, below))
+    ∙ generator_by_chain _ _ _ below c.if-octave-eq0.false

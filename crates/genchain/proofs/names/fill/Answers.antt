@@ -1,0 +1,41 @@
+-- Question 10, then the text of the row at the front.
+use mathlib.Core.Path.{refl, sym, ap}
+use native.Mathlib.Omega.{arith}
+use lib.ListN.{length}
+use lib.Seq.{length-take-le}
+use Rattle.answer.specs.Outcome.{given}
+use Rattle.answer.proofs.Lent.{held, not_held, filled_refused}
+use Rattle.text.proofs.Writing.{wrote_as, filled_given}
+use Rattle.genchain.specs.Texts.{text_at}
+use Rattle.genchain.proofs.TextTable.{row_count, row_small, row_size, row_text}
+use borrow.Author.Rules.{rules}
+use Rattle.genchain.proofs.names.fill.Goals as goal
+
+pub returns-then-out-count : goal.returns-then-out-count
+returns-then-out-count c =
+    let n = row_count _ c.requires _ c.row-found.ensures in
+    filled_refused 10 _ (not_held _ (text_at c.args.place) (omega arith)) refl
+
+pub slice_bounds-text-end : goal.slice_bounds-text-end
+slice_bounds-text-end c =
+    let r = c.row-found.ensures in
+    let h = c.requires in
+    omega (arith, row_size _ h _ r, row_small _ h _ r)
+
+pub slice_bounds-put_text-end : goal.slice_bounds-put_text-end
+slice_bounds-put_text-end c =
+    let r = c.row-found.ensures in
+    let h = c.requires in
+    sym (length-take-le _ c.row-found.result.text (omega (arith, row_size _ h _ r, row_small _ h _ r)))
+
+pub put_text-requires : goal.put_text-requires
+put_text-requires c =
+    let r = c.row-found.ensures in
+    let h = c.requires in
+    omega (arith, row_count _ h _ r, ap length (row_text _ h _ r))
+
+pub returns : goal.returns
+returns c =
+    let t = text_at c.args.place in
+    let n = row_count _ c.requires _ c.row-found.ensures in
+    filled_given (held _ t (omega arith)) (ap given n) (omega arith) (wrote_as (row_text _ c.requires _ c.row-found.ensures) c.put_text.ensures)

@@ -1,0 +1,10 @@
+-- Question 1, then the row's number.
+use Rattle.genchain.proofs.Calls.{is_chain, is_none, count_no_chain, count_given}
+use borrow.Author.Rules.{rules}
+use Rattle.genchain.proofs.num_letters.Goals as goal
+
+pub returns-then-is_chain : goal.returns-then-is_chain
+returns-then-is_chain c = count_given _ (is_chain _ c.is_chain.ensures c.if-is_chain.true) _ c.row-row.ensures
+
+pub returns : goal.returns
+returns c = count_no_chain _ (is_none _ c.is_chain.ensures c.if-is_chain.false)

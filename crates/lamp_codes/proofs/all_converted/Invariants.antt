@@ -1,0 +1,15 @@
+-- After `place` turns the elements before it have passed.
+use Prim.Native.Nat.{◌-◌, ◌≤◌}
+use mathlib.Core.Path.{sym, ◌∙◌}
+use native.Mathlib.Omega.{arith}
+use lib.ListN.{length}
+use Rattle.lamp_codes.specs.Codes.{is_converted}
+use Rattle.lamp_codes.proofs.Strips.{Passed, passed_none, passed_more, all_pass, one_fails}
+use borrow.Author.Tests.{not-true, not-false}
+use Rattle.lamp_codes.proofs.all_converted.Given as goal
+
+abbrev pub invariant-loop-place : goal.invariant-loop-place
+invariant-loop-place l = Passed is_converted l.strip l.place × (l.place ≤ length l.strip)
+
+abbrev pub decreases-loop-place : goal.decreases-loop-place
+decreases-loop-place l = length l.strip - l.place

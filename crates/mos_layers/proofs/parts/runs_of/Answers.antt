@@ -1,0 +1,13 @@
+-- The numbers of the eight runs, each from its own call.
+use Rattle.mos_layers.proofs.Plans.{planned, full_room, odd_room}
+use borrow.Author.Rules.{rules}
+use Rattle.mos_layers.proofs.parts.runs_of.Goals as goal
+
+pub held-enharmonic-requires : goal.held-enharmonic-requires
+held-enharmonic-requires c = odd_room c.args.a c.args.b c.args.x c.args.y c.less-e.ensures c.less-f.ensures c.requires
+
+pub held-full-requires : goal.held-full-requires
+held-full-requires c = full_room c.args.a c.args.b c.args.x c.args.y c.less-e.result c.less-f.result c.less-e.ensures c.less-f.ensures c.smaller-times.ensures c.requires
+
+pub returns : goal.returns
+returns c = planned c.args.a c.args.b c.args.x c.args.y c.less-e.result c.less-f.result c.less-e.ensures c.less-f.ensures c.held-natural.ensures c.held-enharmonic.ensures c.smaller-times.ensures c.held-full.ensures c.less-first.ensures c.less-second.ensures

@@ -1,0 +1,10 @@
+-- One byte below 128, else two.
+use native.Mathlib.Omega.{arith}
+use Rattle.notes.proofs.Utf8.{letter_one, letter_two}
+use Rattle.notes.proofs.plans.letter_length.Goals as goal
+
+pub returns-then-letter-lt128 : goal.returns-then-letter-lt128
+returns-then-letter-lt128 c = (rw (letter_one _ c.if-letter-lt128.true), omega arith)
+
+pub returns-else-letter-lt128 : goal.returns-else-letter-lt128
+returns-else-letter-lt128 c = (rw (letter_two _ c.if-letter-lt128.false), omega arith)

@@ -1,0 +1,16 @@
+-- After `written` turns, so many copies stand from `at` on, and `place` is the place after them.
+use mathlib.Core.Path.{◌≡◌, refl}
+use Prim.Native.Nat.{◌+◌, ◌≤◌, ◌-◌}
+use native.Mathlib.Nat.{le_antisymm}
+use native.Mathlib.Omega.{arith}
+use lib.ListN.{length, replicate, length-replicate, length-set}
+use Rattle.text.specs.Writing.{Wrote}
+use Rattle.text.proofs.Writing.{wrote_none, run_more}
+use Rattle.text.proofs.writer.put_run.Given as goal
+
+abbrev pub invariant-loop-written : goal.invariant-loop-written
+invariant-loop-written l =
+    Wrote l.initial.out l.at (replicate l.written l.byte) l.out l.place × (l.place ≡ l.at + l.written) × (l.written ≤ l.count) × (length l.out ≡ length l.initial.out)
+
+abbrev pub decreases-loop-written : goal.decreases-loop-written
+decreases-loop-written l = l.count - l.written
