@@ -1,0 +1,18 @@
+-- Question 7, then the walk, and the pattern that it left in the array.
+use mathlib.Core.Path.{sym, ap, ◌∙◌}
+use mathlib.Core.Option.{some}
+use Rattle.mos.proofs.Sizes.{pattern_given, pattern_refused}
+use Rattle.mos_walks.proofs.Meeting.{meets_found, meets_nothing}
+use Rattle.mos_walks.proofs.nth_parent.Goals as goal
+
+pub ascend-requires : goal.ascend-requires
+ascend-requires c = sym c.is_pattern.ensures ∙ c.if-is_pattern.true
+
+pub returns-then-ascend : goal.returns-then-ascend
+returns-then-ascend c = pattern_given _ c.is_pattern.ensures c.if-is_pattern.true (ap some c.pattern_of.ensures ∙ meets_found _ _ c.ascend.ensures c.if-ascend.true)
+
+pub returns-then-is_pattern : goal.returns-then-is_pattern
+returns-then-is_pattern c = pattern_given _ c.is_pattern.ensures c.if-is_pattern.true (meets_nothing _ _ c.ascend.ensures c.if-ascend.false)
+
+pub returns : goal.returns
+returns c = pattern_refused _ _ c.is_pattern.ensures c.if-is_pattern.false
