@@ -3,17 +3,13 @@ use Rattle.layout.specs.Layouts.{accidentals_in}
 use Rattle.layout.proofs.Finding.{laid}
 use Rattle.layout.proofs.Steps.{steps_left}
 use borrow.Author.Rules.{rules}
-use Rattle.layout.proofs.prepared.spelled_in.Statement.{statement}
-use Rattle.layout.proofs.prepared.spelled_in.Tie as tie
+use Rattle.layout.proofs.prepared.spelled_in.Goals as goal
 
-spell-one-requires : tie.Need-spell-one-requires
-spell-one-requires c κs =
+pub spell_one-requires : goal.spell_one-requires
+spell_one-requires c =
     let p = laid _ c.requires.0 in
     (p.positive, steps_left _ p (search rules) (search rules), p.start_below, c.requires.1)
 
-returns : tie.Need-returns
+pub returns : goal.returns
 unfolding accidentals_in
 returns c = c.spell_one.ensures
-
-pub spelled-in-spec : {M : Type 1} → statement M
-spelled-in-spec = tie.close (tie.spec spell-one-requires returns)

@@ -1,0 +1,26 @@
+-- The key's degree and cycle, then their two spellings.
+use Prim.Native.Nat.{ℕ, ◌<◌}
+use mathlib.Core.Path.{ap, ◌∙◌}
+use native.Mathlib.Nat.{mod-lt}
+use native.Mathlib.Omega.{arith}
+use Rattle.pergen.specs.declared.Generation.{Generation}
+use Rattle.pergen.specs.Spelling.{accidentals_of}
+use Rattle.pergen.specs.Parts.{generation_from}
+use borrow.Author.Rules.{rules}
+use Rattle.layout.proofs.prepared.spelled.Goals as goal
+
+pub generation-generation-requires : goal.generation-generation-requires
+generation-generation-requires c = c.key_at-key.ensures.0
+
+pub accidentals-requires : goal.accidentals-requires
+unfolding generation_from
+accidentals-requires c =
+    let some : 0 < c.args.solved.reduced_period = omega (arith, c.requires.1.below) in
+    (c.requires.0, rw c.generation-generation.ensures (mod-lt _ some))
+
+pub returns : goal.returns
+returns c =
+    let args = c.args in
+    let found = c.generation-generation.ensures ∙ ap (generation_from args.solved) c.key_at-key.ensures.1 in
+    c.accidentals.ensures
+    ∙ ap (λ (g : Generation). accidentals_of args.solved.reduced_period args.num_letters args.start g.degree g.cycle) found
