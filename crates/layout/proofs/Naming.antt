@@ -114,7 +114,7 @@ names_sound_their_key r l e i =
 -- ---- names tell keys apart
 
 -- one place and as many stars: one key
-same_sound : (l : Layout) (x y : Spelling) → SameSpelling x y → key_of l x ≡ key_of l y
+pub same_sound : (l : Layout) (x y : Spelling) → SameSpelling x y → key_of l x ≡ key_of l y
 unfolding key_of
 same_sound l x y s =
     ap₂ (λ (p : ℤ) (k : ℕ). sounds l.octave l.generator p k) (s.place l.letters l.start) s.stars

@@ -20,7 +20,7 @@ use Rattle.pergen.specs.declared.Cycle.{Cycle}
 use Rattle.pergen.specs.declared.Cycle.TheVariants.{Absent, Number}
 use Rattle.pergen.specs.declared.Accidentals.{Accidentals}
 use Rattle.pergen.specs.declared.Spelling.{Spelling}
-use Rattle.pergen.specs.Pergen.{reduced, cycles, shownCycle, cycle_of, key_cycle}
+use Rattle.pergen.specs.Pergen.{reduced, cycles, shown, cycle_of, key_cycle}
 use Rattle.pergen.specs.Spelling.{stars_of}
 use Rattle.pergen.proofs.DegreePlaces.{few_signs}
 use Rattle.notes.specs.Names.{signs_in, spelling_text}
@@ -170,14 +170,14 @@ module _ (l : Layout) (a : Parts l) where
 
 -- ---- two spellings that sound one key
 
-shown_present : (n k : ℕ) → is_present (shownCycle n k) ≡ ltb 1 n
+shown_present : (n k : ℕ) → is_present (shown n k) ≡ ltb 1 n
 shown_present n k = by (ltb 1 n)
   where
     by : (b : Bool) → is_present (pick b (Number k) Absent) ≡ b
     by true = refl
     by false = refl
 
-shown_stars : (n k : ℕ) → k < n → k ≡ stars_of (shownCycle n k)
+shown_stars : (n k : ℕ) → k < n → k ≡ stars_of (shown n k)
 shown_stars n k h = by (ltb 1 n) refl
   where
     by : (b : Bool) → ltb 1 n ≡ b → k ≡ stars_of (pick b (Number k) Absent)
@@ -188,7 +188,7 @@ pub two_spellings_lead_to_their_key : TwoSpellingsLeadToTheirKey
 two_spellings_lead_to_their_key r l e x y tx ty stars key =
     let a = accepted r l e in
     let n = x.stars in
-    let c = shownCycle (cycles_in l) n in
+    let c = shown (cycles_in l) n in
     sym (finding_given r (text_in l c (x ∷ y ∷ [])) l (sym e) (given (key_of l x))
     (two_lead l a n (key_of l x) x y
     (record { letter = tx.spelling.letter; few = tx.signs; stars_are = refl; sounds = refl })

@@ -5,7 +5,7 @@ use Rattle.answer.specs.Outcome.{given}
 use Rattle.math.specs.Division.{remainder}
 use Rattle.pergen.specs.declared.Cycle.TheVariants.{Number}
 use Rattle.pergen.specs.declared.Spelling.{Spelling}
-use Rattle.pergen.specs.Pergen.{shownCycle}
+use Rattle.pergen.specs.Pergen.{shown}
 use Rattle.notes.specs.Names.{signs_in}
 use Rattle.notes.specs.Theorems.{SameSpelling}
 use Rattle.layout.specs.Layouts.{Layout, Accepted, cycles_in}
@@ -22,7 +22,7 @@ text_of l x = text_in l (Number x.stars) (x ∷ [])
 
 -- The text of two spellings with equally many stars, as a name holds them: "with / between, in parentheses if a cycle is present".
 abbrev pub text_of_two : Layout → Spelling → Spelling → List ℕ
-text_of_two l x y = text_in l (shownCycle (cycles_in l) x.stars) (x ∷ y ∷ [])
+text_of_two l x y = text_in l (shown (cycles_in l) x.stars) (x ∷ y ∷ [])
 
 -- A layout's spelling, printed on a cap or not, with as many signs as its record holds: 32 bits.
 pub record Typable (l : Layout) (x : Spelling) : Type 0 where

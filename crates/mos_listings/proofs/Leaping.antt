@@ -3,12 +3,11 @@ use Prim.Native.Nat.{ℕ, zero, suc, ◌+◌, ◌*◌, ◌-◌, ◌/◌, ◌≤�
 use mathlib.Core.Path.{◌≡◌, refl, sym, ap, ◌∙◌, subst}
 use mathlib.Core.Bool.{true}
 use mathlib.Core.Option.{Option, none, some, map}
-use mathlib.Core.List.{List, [], ◌∷◌}
-use native.Mathlib.Nat.{suc-mul, mul_comm, div-mul-le_self, lt-div-mul-add}
+use native.Mathlib.Nat.{suc-mul, div-mul-le_self, lt-div-mul-add}
 use native.Mathlib.Omega.{arith}
 use lib.ListN.{length}
 use Rattle.mos.specs.declared.Mos.{Mos}
-use Rattle.mos.specs.Patterns.{mos, primaries, secondaries, primary, secondary, count_of, steps_of, is_pattern, child_of, dual_of, parent_of}
+use Rattle.mos.specs.Patterns.{mos, primaries, secondaries, primary, secondary, count_of, is_pattern, child_of, dual_of, parent_of}
 use Rattle.mos.specs.Walks.{onward, walk, children, parents, listed}
 use Rattle.mos_listings.specs.Parts.{Leaps}
 use Rattle.mos.proofs.Sizes.{counts_fit, pattern_fits}

@@ -66,28 +66,28 @@ no_star_in_signs false (Sharps k) = count_run 42 k 45
 no_star_in_signs false (Flats k) = count_run 42 k 43
 
 -- the text begins with no sign
-record Stops (sf : Bool) (rest : List ℕ) : Type 0 where
-  sharp : leading (sharp_sign sf) rest ≡ 0
-  flat : leading (flat_sign sf) rest ≡ 0
+pub record Stops (sf : Bool) (rest : List ℕ) : Type 0 where
+  pub sharp : leading (sharp_sign sf) rest ≡ 0
+  pub flat : leading (flat_sign sf) rest ≡ 0
 
 stops_at_slash : (sf : Bool) (rest : List ℕ) → Stops sf (47 ∷ rest)
 unfolding leading
 stops_at_slash true rest = record { sharp = refl; flat = refl }
 stops_at_slash false rest = record { sharp = refl; flat = refl }
 
-stops_at_stars : (sf : Bool) (n : ℕ) → Stops sf (replicate n 42)
+pub stops_at_stars : (sf : Bool) (n : ℕ) → Stops sf (replicate n 42)
 unfolding leading
 stops_at_stars sf zero = record { sharp = refl; flat = refl }
 stops_at_stars true (suc n) = record { sharp = refl; flat = refl }
 stops_at_stars false (suc n) = record { sharp = refl; flat = refl }
 
-sharps_read : (sf : Bool) (s : Signs) (rest : List ℕ) → Stops sf rest → leading (sharp_sign sf) (signs_text sf s ++ rest) ≡ sharps_in s
+pub sharps_read : (sf : Bool) (s : Signs) (rest : List ℕ) → Stops sf rest → leading (sharp_sign sf) (signs_text sf s ++ rest) ≡ sharps_in s
 sharps_read true (Sharps k) rest h = leading_run 35 k 35 rest h.sharp
 sharps_read true (Flats k) rest h = leading_run 35 k 98 rest h.sharp
 sharps_read false (Sharps k) rest h = leading_run 45 k 45 rest h.sharp
 sharps_read false (Flats k) rest h = leading_run 45 k 43 rest h.sharp
 
-flats_read : (sf : Bool) (s : Signs) (rest : List ℕ) → Stops sf rest → leading (flat_sign sf) (signs_text sf s ++ rest) ≡ flats_in s
+pub flats_read : (sf : Bool) (s : Signs) (rest : List ℕ) → Stops sf rest → leading (flat_sign sf) (signs_text sf s ++ rest) ≡ flats_in s
 flats_read true (Sharps k) rest h = leading_run 98 k 35 rest h.flat
 flats_read true (Flats k) rest h = leading_run 98 k 98 rest h.flat
 flats_read false (Sharps k) rest h = leading_run 43 k 45 rest h.flat

@@ -1,6 +1,5 @@
 -- Each way in which the count is refused or given, by the tests that led there.
 use Rattle.book.proofs.Lookup.{too_short, no_keys, too_many, pairs_are_held, keys_given, not_covered}
-use borrow.Author.Rules.{rules}
 use Rattle.book.proofs.count.Goals as goal
 
 pub returns-then-book-lt4 : goal.returns-then-book-lt4

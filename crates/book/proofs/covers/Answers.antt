@@ -1,8 +1,7 @@
-use Prim.Native.Nat.{◌-◌, ◌≤◌}
 use native.Mathlib.Nat.{le_antisymm}
 use native.Mathlib.Omega.{arith}
 use mathlib.Core.Path.{◌∙◌}
-use Rattle.book.proofs.Pairs.{Checked, check_none, check_more, check_elsewhere, check_empty, uncovered, covered_by}
+use Rattle.book.proofs.Pairs.{check_none, check_more, check_elsewhere, check_empty, uncovered, covered_by}
 use borrow.Author.Rules.{rules}
 use Rattle.book.proofs.covers.Goals as goal
 

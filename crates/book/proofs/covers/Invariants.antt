@@ -1,9 +1,6 @@
 -- The pairs below `key` fit, and the next part is due at `due`; each turn checks one pair more.
 use Prim.Native.Nat.{◌-◌, ◌≤◌}
-use native.Mathlib.Nat.{le_antisymm}
-use native.Mathlib.Omega.{arith}
-use mathlib.Core.Path.{◌∙◌}
-use Rattle.book.proofs.Pairs.{Checked, check_none, check_more, check_elsewhere, check_empty, uncovered, covered_by}
+use Rattle.book.proofs.Pairs.{Checked}
 use Rattle.book.proofs.covers.Given as goal
 
 abbrev pub invariant-loop-key : goal.invariant-loop-key

@@ -5,7 +5,6 @@ use Rattle.math.proofs.Signed.{read_back_lem}
 use Rattle.book.specs.Books.{find_outcome}
 use Rattle.book.specs.Answers.{find_answered}
 use Rattle.book.proofs.Lookup.{extent_found, extent_refused}
-use borrow.Author.Rules.{rules}
 use Rattle.book.proofs.extent_of.Goals as goal
 
 pub returns-in-Found : goal.returns-in-Found

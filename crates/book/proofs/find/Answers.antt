@@ -5,7 +5,6 @@ use mir.Syntax.{w32}
 use Rattle.math.proofs.Signed.{by_mirror, positive_cast, by_cast}
 use Rattle.book.specs.Answers.{keys_answered}
 use Rattle.book.proofs.Lookup.{book_refused, negative_key, unknown_key, pair_held, found}
-use borrow.Author.Rules.{rules}
 use Rattle.book.proofs.find.Goals as goal
 
 pub returns-then-key-lt0 : goal.returns-then-key-lt0

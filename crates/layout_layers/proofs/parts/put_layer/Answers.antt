@@ -1,0 +1,64 @@
+use Prim.Native.Nat.{◌+◌, ◌*◌, ◌-◌, ◌%◌, ◌≤◌}
+use mathlib.Core.Path.{ap, ◌∙◌}
+use native.Mathlib.Nat.{le_antisymm}
+use native.Mathlib.Omega.{arith}
+use Rattle.layout_layers.specs.Parts.{Walk, shown_as, limit}
+use Rattle.layout_layers.proofs.ChainLaws.{walk_none, walk_then, walk_one, walk_count, walk_as, turn_room, layer_fits}
+use Rattle.layout_layers.proofs.SpreadLaws.{single_number}
+use borrow.Author.Rules.{rules}
+use Rattle.layout_layers.proofs.parts.put_layer.Goals as goal
+
+pub shown-entry-requires : goal.shown-entry-requires
+shown-entry-requires c =
+    layer_fits c.args.layer c.args.chain.num_cycles (limit c.args.total) c.requires.0.unbroken.some_cycles c.requires.1
+
+pub returns-then-chain-eq1 : goal.returns-then-chain-eq1
+returns-then-chain-eq1 c =
+    let chain = c.args.chain in
+    let one = c.if-chain-eq1.true in
+    walk_as chain c.requires.0.unbroken c.args.from c.put_single.result (λ i. c.shown-entry.result) _ c.args.size
+    (λ i t. c.shown-entry.ensures ∙ ap (shown_as c.args.total) (single_number chain.num_cycles c.args.layer i one))
+    c.put_single.ensures
+
+pub loop-k-init : goal.loop-k-init
+loop-k-init c =
+    (walk_none c.args.chain c.requires.0.unbroken c.args.from _ _ c.requires.0.at, omega arith)
+
+pub put_turn-requires : goal.put_turn-requires
+put_turn-requires c =
+    let loop = c.loop-k in
+    let u = c.requires.0.unbroken in (
+      u.some_cycles,
+      turn_room c.args.chain u loop.spot.turn loop.invariant.0.arrived.turn_below (omega (arith, c.requires.0.held, loop.invariant.0.spread.kept)),
+      c.requires.1,
+    )
+
+pub next_spot-spot-requires : goal.next_spot-spot-requires
+next_spot-spot-requires c =
+    let loop = c.loop-k in
+    (c.requires.0.unbroken, loop.invariant.0.arrived, omega (arith, c.loop-k-test.true, loop.invariant.0.place_is, c.requires.0.on_chain))
+
+pub overflow_add-k : goal.overflow_add-k
+overflow_add-k c = omega arith
+
+pub loop-k-smaller : goal.loop-k-smaller
+loop-k-smaller c = omega arith
+
+pub loop-k-preserved : goal.loop-k-preserved
+loop-k-preserved c =
+    let loop = c.loop-k in
+    let chain = c.args.chain in
+    let u = c.requires.0.unbroken in
+    let more = c.loop-k-test.true in (
+      walk_then chain u c.args.from loop.spot c.next_spot-spot.result _ loop.k 1 loop.invariant.0
+          (walk_one chain u loop.spot c.next_spot-spot.result _ loop.invariant.0.arrived (omega (arith, more, loop.invariant.0.place_is, c.requires.0.on_chain)) c.put_turn.ensures c.next_spot-spot.ensures),
+      omega (arith, more),
+    )
+
+pub shape_of-out : goal.shape_of-out
+shape_of-out c = c.loop-k.invariant.0.spread.kept
+
+pub returns : goal.returns
+returns c =
+    let loop = c.loop-k in
+    walk_count c.args.chain c.requires.0.unbroken c.args.from loop.spot _ _ _ (le_antisymm loop.invariant.1 c.loop-k-test.false) loop.invariant.0

@@ -1,0 +1,15 @@
+-- A key of the block is the nearest itself; one outside has the nearer end.
+use mathlib.Core.Logic.{inl, inr}
+use native.Mathlib.Omega.{arith}
+use Rattle.layout_reach.proofs.Blocks.{key_itself, end_is}
+use borrow.Author.Rules.{rules}
+use Rattle.layout_reach.proofs.parts.nearest_in.Goals as goal
+
+pub returns-then-key-base : goal.returns-then-key-base
+returns-then-key-base c = end_is _ _ _ _ c.requires.0 c.requires.1 _ (omega (arith, c.requires.0.some)) (inl c.if-key-base.true) _ c.nearer_end.ensures
+
+pub returns-then-last-key : goal.returns-then-last-key
+returns-then-last-key c = end_is _ _ _ _ c.requires.0 c.requires.1 _ (omega (arith, c.requires.0.some)) (inr (omega (arith, c.requires.0.some, c.if-last-key.true))) _ c.nearer_end-then-last-key.ensures
+
+pub returns : goal.returns
+returns c = key_itself _ _ _ _ c.requires.0 c.requires.1 c.if-key-base.false (omega (arith, c.requires.0.some, c.if-last-key.false))

@@ -1,0 +1,18 @@
+-- What is stored is a run that grows by one with each turn.
+use Prim.Native.Nat.{◌+◌, ◌-◌, ◌≤◌}
+use mathlib.Core.Path.{◌≡◌, refl}
+use lib.ListN.{length, length-set}
+use native.Mathlib.Nat.{le_antisymm}
+use native.Mathlib.Omega.{arith}
+use Rattle.text.specs.Writing.{Wrote}
+use Rattle.math.specs.Passing.{run}
+use Rattle.math.proofs.Passing.{length_run}
+use Rattle.layout_reach.proofs.Spans.{run_start, run_step}
+use Rattle.layout_reach.proofs.parts.put_run.Given as goal
+
+abbrev pub invariant-loop-key : goal.invariant-loop-key
+invariant-loop-key l =
+    Wrote l.initial.out l.at (run l.from (l.key - l.from)) l.out l.place × (l.place ≡ l.at + (l.key - l.from)) × (l.from ≤ l.key) × (l.key ≤ l.to) × (length l.out ≡ length l.initial.out)
+
+abbrev pub decreases-loop-key : goal.decreases-loop-key
+decreases-loop-key l = l.to - l.key

@@ -1,0 +1,19 @@
+-- One byte is compared, or two.
+use Rattle.layout_reading.proofs.FrontLetters.{starts_one_short, starts_one, starts_two_short, starts_two_not, starts_two}
+use borrow.Author.Rules.{rules}
+use Rattle.layout_reading.proofs.spellings.starts.Goals as goal
+
+pub returns-then-text-lt1 : goal.returns-then-text-lt1
+returns-then-text-lt1 c = starts_one_short _ _ c.if-letter-lt128.true c.if-text-lt1.true
+
+pub returns-then-letter-lt128 : goal.returns-then-letter-lt128
+returns-then-letter-lt128 c = starts_one _ _ c.if-letter-lt128.true c.if-text-lt1.false _ c.wide.ensures
+
+pub returns-then-text-lt2 : goal.returns-then-text-lt2
+returns-then-text-lt2 c = starts_two_short _ _ c.if-letter-lt128.false c.if-text-lt2.true
+
+pub returns-then-wide-letter : goal.returns-then-wide-letter
+returns-then-wide-letter c = starts_two_not _ _ c.if-letter-lt128.false c.if-text-lt2.false _ c.wide-2.ensures c.if-wide-letter.true
+
+pub returns : goal.returns
+returns c = starts_two _ _ c.if-letter-lt128.false c.if-text-lt2.false _ c.wide-2.ensures c.if-wide-letter.false _ c.wide-3.ensures

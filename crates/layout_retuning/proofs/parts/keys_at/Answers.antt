@@ -1,0 +1,7 @@
+-- Both tunings sound the place.
+use borrow.Author.Rules.{rules}
+use Rattle.layout_retuning.proofs.Strides.{keys_are}
+use Rattle.layout_retuning.proofs.parts.keys_at.Goals as goal
+
+pub returns : goal.returns
+returns c = keys_are _ _ _ _ _ c.sounded.ensures c.sounded-2.ensures

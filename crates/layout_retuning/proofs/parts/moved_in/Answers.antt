@@ -1,0 +1,18 @@
+-- Question 16, question 21 of both tunings, then the distance.
+use Rattle.layout_retuning.proofs.Calls.{no_letter, many_stars_first, many_stars_second, move_given}
+use borrow.Author.Rules.{rules}
+use Rattle.layout_retuning.proofs.parts.moved_in.Goals as goal
+
+pub returns-then-tunings-spelling : goal.returns-then-tunings-spelling
+returns-then-tunings-spelling c = no_letter _ _ c.if-tunings-spelling.true
+
+pub returns-then-gcd_u16-stars : goal.returns-then-gcd_u16-stars
+returns-then-gcd_u16-stars c = many_stars_first _ _ c.requires c.if-tunings-spelling.false _ c.gcd_u16.ensures c.if-gcd_u16-stars.true
+
+pub returns-then-gcd_u16-stars-2 : goal.returns-then-gcd_u16-stars-2
+returns-then-gcd_u16-stars-2 c =
+    many_stars_second _ _ c.requires c.if-tunings-spelling.false _ c.gcd_u16-2.ensures c.if-gcd_u16-stars-2.true
+
+pub returns : goal.returns
+returns c =
+    move_given _ _ c.requires c.if-tunings-spelling.false _ _ c.gcd_u16.ensures c.gcd_u16-2.ensures c.if-gcd_u16-stars.false c.if-gcd_u16-stars-2.false _ c.steps.ensures
