@@ -21,7 +21,7 @@ put_turn-requires c =
     let plan = c.args.plan in (
       c.requires.0.unbroken.some_cycles,
       turns_room plan.chain.num_cycles loop.turn c.args.turns c.loop-turn-test.true c.requires.4 loop.invariant.0.kept,
-      turn_within plan c.requires.0 loop.turn _ _ (layer_alternates plan loop.turn _ c.requires.2 c.alternate_layer.ensures) c.requires.1,
+      turn_within plan c.requires.0 loop.turn _ _ (layer_alternates plan loop.turn _ c.requires.2 c.alternate-layer.ensures) c.requires.1,
     )
 
 pub overflow_add-turn : goal.overflow_add-turn
@@ -35,7 +35,7 @@ loop-turn-preserved c =
     let loop = c.loop-turn in
     let plan = c.args.plan in (
       turns_more plan.chain.num_cycles _ loop.turn loop.invariant.0
-          (spread_as (λ i t. ap (shown_as c.args.total) (number_alternates plan loop.turn _ i (layer_alternates plan loop.turn _ c.requires.2 c.alternate_layer.ensures) t)) c.put_turn.ensures),
+          (spread_as (λ i t. ap (shown_as c.args.total) (number_alternates plan loop.turn _ i (layer_alternates plan loop.turn _ c.requires.2 c.alternate-layer.ensures) t)) c.put_turn.ensures),
       omega (arith, c.loop-turn-test.true),
     )
 

@@ -1,0 +1,7 @@
+-- The cycle that key 0 shows.
+use borrow.Author.Rules.{rules}
+use Rattle.layout_book.proofs.BareNames.{first_shown}
+use Rattle.layout_book.proofs.lengths.first_cycle.Goals as goal
+
+pub returns : goal.returns
+returns c = first_shown _ _ c.first.ensures.1 _ c.generation-generation.ensures

@@ -1,0 +1,14 @@
+-- The entries of the keys before the one at hand are placed. `test` is where the key was found to be one of the octave.
+use Prim.Native.Nat.{ℕ, ◌-◌}
+use mathlib.Core.Path.{ap}
+use native.Mathlib.Omega.{arith}
+use lib.ListN.{get_or}
+use Rattle.layout.proofs.Readiness.{ready_walkable}
+use Rattle.layout_order.proofs.Carrying.{Carrying, position_below, carry_start, carry_length, carry_on, carry_end}
+use Rattle.layout_order.proofs.parts.put_order.Given as goal
+
+abbrev pub invariant-loop-key : goal.invariant-loop-key
+invariant-loop-key l = Carrying l.to_chain l.prepared l.entries l.initial.out l.out l.key
+
+abbrev pub decreases-loop-key : goal.decreases-loop-key
+decreases-loop-key l = l.prepared.found.octave - l.key.number
