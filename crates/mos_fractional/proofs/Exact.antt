@@ -22,7 +22,7 @@ use Rattle.mos.specs.Walks as whole-walk
 use Rattle.mos.proofs.Descent as whole-child
 use Rattle.mos.proofs.Sequences as whole-sequence
 use Rattle.mos_fractional.specs.declared.FractionalMos.{FractionalMos}
-use Rattle.mos_fractional.specs.Fractional.{fractional, primaries, secondaries, primary, secondary, count_of, nought, one, first_step_of, genesis, child_of}
+use Rattle.mos_fractional.specs.Fractional.{primary, secondary, count_of, nought, one, first_step_of, genesis, child_of}
 use Rattle.mos_fractional.specs.Walk.{onward, children, children_from}
 use Rattle.mos_fractional.specs.WholeParts.{Parts, Same}
 use Rattle.mos_fractional.specs.Parts.{Growing}

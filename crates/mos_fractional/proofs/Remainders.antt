@@ -1,16 +1,16 @@
 -- The remainder of a double by 1 loses nothing: it is the exact remainder, with the dividend's sign.
 use mathlib.Core.Path.{◌≡◌, refl, ap, sym, subst, ◌∙◌}
-use Prim.Native.Nat.{ℕ, zero, suc, ◌+◌, ◌*◌, ◌-◌, ◌^◌, ◌%◌, ◌≤◌, ◌<◌}
-use native.Mathlib.Nat.{le_refl, le_of_eq, le_trans, lt_of_le_of_lt, lt_of_lt_of_le, lt_of_not-le, not-le_of_lt, mul_assoc, mul_comm, mul-one, one-mul, zero-mul, mul-le-mul, mul-lt-mul_of_pos_right, le_of_lt, mod-le}
+use Prim.Native.Nat.{ℕ, zero, suc, ◌*◌, ◌-◌, ◌^◌, ◌%◌, ◌≤◌, ◌<◌}
+use native.Mathlib.Nat.{le_refl, le_of_eq, le_trans, lt_of_le_of_lt, lt_of_lt_of_le, not-le_of_lt, mul_assoc, mul-one, one-mul, mul-le-mul, mul-lt-mul_of_pos_right, mod-le}
 use native.Mathlib.Omega.{arith}
-use mathlib.Core.Bool.{Bool, true, false, cond, ◌&&◌}
+use mathlib.Core.Bool.{Bool, true, false, ◌&&◌}
 use lib.IntN.{ℤ, pos, negsuc}
 use lib.Dec.{T, eqb, ltb, leb, lit<, lit≤, leb→le, ltb→lt, eqb→eq}
 use lib.Pow.{pow_pos, pow-add, pow_mono, pow-lt}
 use borrow.Author.Tests.{leb-true, leb-false}
-use lib.Ieee.{Float, nan, inf, fin, binary64, prec, low, emax, up, down, round, rem, fits}
+use lib.Ieee.{Float, fin, binary64, up, down, round, rem, fits}
 use lib.Ieee.Exact.{HasValue, round_exact}
-use lib.Ieee.Fits.{down_pos, and_l, and_r}
+use lib.Ieee.Fits.{and_l, and_r}
 use lib.Ieee.Digits.{back}
 use Rattle.mos_fractional.specs.Fractional.{one}
 

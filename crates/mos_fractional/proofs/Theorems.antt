@@ -1,14 +1,13 @@
 -- The theorems, each from its laws.
-use mathlib.Core.Path.{◌≡◌, refl, ap, sym, subst, ◌∙◌}
+use mathlib.Core.Path.{◌≡◌, refl, subst}
 use mathlib.Core.Option.{Option, none, some}
-use mathlib.Core.List.{List, [], ◌∷◌}
-use Prim.Native.Nat.{ℕ, zero, suc, ◌+◌, ◌-◌, ◌≤◌, ◌<◌}
+use Prim.Native.Nat.{ℕ, zero, suc, ◌≤◌}
 use native.Mathlib.Omega.{arith}
-use lib.Dec.{lit<, lit≤}
+use lib.Dec.{lit≤}
 use lib.Ieee.{Float}
 use lib.ListN.{get_elem?}
 use Rattle.mos_fractional.specs.declared.FractionalMos.{FractionalMos}
-use Rattle.mos_fractional.specs.Fractional.{primaries, secondaries, count_of, genesis, child_of}
+use Rattle.mos_fractional.specs.Fractional.{primaries, secondaries, genesis, child_of}
 use Rattle.mos_fractional.specs.Walk.{onward, walk, children, children_from}
 use Rattle.mos_fractional.specs.Parts.{Growing}
 use Rattle.mos_fractional.specs.Theorems.{WalkIsWhole, FractionalCountsGrow, WholePartsAreExact, RemainderIsExact}

@@ -2,7 +2,7 @@
 use mathlib.Core.Path.{◌≡◌, refl, ap, sym, subst, ◌∙◌}
 use mathlib.Core.Option.{Option, none, some}
 use mathlib.Core.List.{List, [], ◌∷◌}
-use Prim.Native.Nat.{ℕ, zero, suc, ◌+◌, ◌-◌, ◌≤◌, ◌<◌}
+use Prim.Native.Nat.{ℕ, zero, suc, ◌-◌, ◌≤◌, ◌<◌}
 use native.Mathlib.Nat.{le_refl}
 use native.Mathlib.Omega.{arith}
 use lib.Dec.{lit<}
@@ -10,7 +10,7 @@ use lib.Ieee.{Float}
 use lib.ListN.{length, get_elem?}
 use Rattle.answer.specs.Outcome.{given}
 use Rattle.mos_fractional.specs.declared.FractionalMos.{FractionalMos}
-use Rattle.mos_fractional.specs.Fractional.{primaries, secondaries, count_of, genesis, child_of}
+use Rattle.mos_fractional.specs.Fractional.{count_of, genesis, child_of}
 use Rattle.mos_fractional.specs.Walk.{onward, walk, children, children_from}
 use Rattle.mos_fractional.specs.Answers.{genesis_outcome}
 use Rattle.mos_fractional.specs.Parts.{Growing}

@@ -9,7 +9,7 @@ use Rattle.mos.specs.declared.Mos.{Mos}
 use Rattle.mos.specs.Patterns as whole
 use Rattle.mos.specs.Walks as whole-walk
 use Rattle.mos_fractional.specs.declared.FractionalMos.{FractionalMos}
-use Rattle.mos_fractional.specs.Fractional.{primaries, secondaries, count_of, one, genesis, child_of}
+use Rattle.mos_fractional.specs.Fractional.{primaries, secondaries, count_of, one, child_of}
 use Rattle.mos_fractional.specs.Walk.{onward, children, children_from}
 use Rattle.mos_fractional.specs.WholeParts.{Parts, Same}
 

@@ -6,59 +6,55 @@ use Rattle.layout_book.proofs.LettersRead.{ready_row, row_length}
 use Rattle.layout_book.proofs.BareLengths.{round_inside, middle_stretch, few_rounds, few_signs, few_signs_all, few_letters, bare_length}
 use Rattle.layout_book.proofs.lengths.bare_length.Goals as goal
 
--- what is known of the layout's numbers, after the rounds were counted
-known : (c : tie.After-rounds-of) → Numbers c.before.args.prepared
-known c = ready_numbers c.before.args.prepared c.before.requires.1 (omega arith)
-
 pub rounds_of-rounds-requires : goal.rounds_of-rounds-requires
 rounds_of-rounds-requires c =
     let h = ready_numbers c.args.prepared c.requires.1 (omega arith) in
     (omega (arith, h.five), h.enough)
 
 pub overflow_add-rounds : goal.overflow_add-rounds
-overflow_add-rounds c = omega (arith, few_rounds _ (known c) _ c.rounds_of-rounds.ensures)
+overflow_add-rounds c = omega (arith, few_rounds _ (ready_numbers c.args.prepared c.requires.1 (omega arith)) _ c.rounds_of-rounds.ensures)
 
 pub overflow_mul-letters : goal.overflow_mul-letters
-overflow_mul-letters c = omega (arith, round_inside _ (known c) _ c.rounds_of-rounds.ensures, (known c).few_degrees)
+overflow_mul-letters c = omega (arith, round_inside _ (ready_numbers c.args.prepared c.requires.1 (omega arith)) _ c.rounds_of-rounds.ensures, (ready_numbers c.args.prepared c.requires.1 (omega arith)).few_degrees)
 
 pub overflow_sub-degrees : goal.overflow_sub-degrees
-overflow_sub-degrees c = round_inside _ (known c) _ c.rounds_of-rounds.ensures
+overflow_sub-degrees c = round_inside _ (ready_numbers c.args.prepared c.requires.1 (omega arith)) _ c.rounds_of-rounds.ensures
 
 pub stretch_length-middle-requires : goal.stretch_length-middle-requires
-stretch_length-middle-requires c = (c.requires.0, c.requires.1, middle_stretch _ (known c) _ c.rounds_of-rounds.ensures)
+stretch_length-middle-requires c = (c.requires.0, c.requires.1, middle_stretch _ (ready_numbers c.args.prepared c.requires.1 (omega arith)) _ c.rounds_of-rounds.ensures)
 
 pub letters_length-alone-requires : goal.letters_length-alone-requires
 letters_length-alone-requires c = ready_row _ c.requires.1 _ c.requires.0
 
 pub overflow_mul-signs : goal.overflow_mul-signs
 overflow_mul-signs c =
-    omega (arith, few_signs _ (known c) _ c.rounds_of-rounds.ensures)
+    omega (arith, few_signs _ (ready_numbers c.args.prepared c.requires.1 (omega arith)) _ c.rounds_of-rounds.ensures)
 
 pub overflow_mul-signs-2 : goal.overflow_mul-signs-2
 overflow_mul-signs-2 c =
-    omega (arith, few_signs_all _ (known c) _ c.rounds_of-rounds.ensures)
+    omega (arith, few_signs_all _ (ready_numbers c.args.prepared c.requires.1 (omega arith)) _ c.rounds_of-rounds.ensures)
 
 pub overflow_mul-result-2 : goal.overflow_mul-result-2
 overflow_mul-result-2 c =
-    omega (arith, few_letters _ (known c) _ c.rounds_of-rounds.ensures _ c.letters_length-alone.ensures.1)
+    omega (arith, few_letters _ (ready_numbers c.args.prepared c.requires.1 (omega arith)) _ c.rounds_of-rounds.ensures _ c.letters_length-alone.ensures.1)
 
 pub overflow_add-result-2 : goal.overflow_add-result-2
 overflow_add-result-2 c =
     omega (
       arith,
-      few_letters _ (known c) _ c.rounds_of-rounds.ensures _ c.letters_length-alone.ensures.1,
-      few_signs_all _ (known c) _ c.rounds_of-rounds.ensures,
+      few_letters _ (ready_numbers c.args.prepared c.requires.1 (omega arith)) _ c.rounds_of-rounds.ensures _ c.letters_length-alone.ensures.1,
+      few_signs_all _ (ready_numbers c.args.prepared c.requires.1 (omega arith)) _ c.rounds_of-rounds.ensures,
     )
 
 pub overflow_add-result-3 : goal.overflow_add-result-3
 overflow_add-result-3 c =
     omega (
       arith,
-      few_letters _ (known c) _ c.rounds_of-rounds.ensures _ c.letters_length-alone.ensures.1,
-      few_signs_all _ (known c) _ c.rounds_of-rounds.ensures,
+      few_letters _ (ready_numbers c.args.prepared c.requires.1 (omega arith)) _ c.rounds_of-rounds.ensures _ c.letters_length-alone.ensures.1,
+      few_signs_all _ (ready_numbers c.args.prepared c.requires.1 (omega arith)) _ c.rounds_of-rounds.ensures,
       c.stretch_length-middle.ensures.1,
     )
 
 pub returns : goal.returns
 returns c =
-    bare_length _ (known c) _ c.rounds_of-rounds.ensures (row_length _ c.requires.1 _ c.requires.0 c.letters_length-alone.ensures.0) c.stretch_length-middle.ensures.0
+    bare_length _ (ready_numbers c.args.prepared c.requires.1 (omega arith)) _ c.rounds_of-rounds.ensures (row_length _ c.requires.1 _ c.requires.0 c.letters_length-alone.ensures.0) c.stretch_length-middle.ensures.0

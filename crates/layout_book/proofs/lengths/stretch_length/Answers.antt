@@ -7,10 +7,6 @@ use Rattle.layout_book.proofs.ReadyNumbers.{Numbers, ready_numbers}
 use Rattle.layout_book.proofs.PlacesAlong.{Adding, first_past, adding_first, sharp_below, flat_below, sharps_fit, flat_left, total_fits, adding_next, all_added}
 use Rattle.layout_book.proofs.lengths.stretch_length.Goals as goal
 
--- what is known of the layout's numbers
-known : (c : tie.After-struct-known invariant-loop decreases-loop) → Numbers c.before.before.args.prepared
-known c = let s = c.before.before in ready_numbers s.args.prepared s.requires.1 (omega (arith, s))
-
 pub first_cycle-cycle-requires : goal.first_cycle-cycle-requires
 first_cycle-cycle-requires c = ready_walkable _ c.requires.1
 
@@ -21,7 +17,7 @@ pub overflow_sub-flat : goal.overflow_sub-flat
 overflow_sub-flat c = omega (arith, c.requires.2.inside, c.requires.2.end_inside)
 
 pub overflow_sub-flat-2 : goal.overflow_sub-flat-2
-overflow_sub-flat-2 c = omega (arith, (known c).five)
+overflow_sub-flat-2 c = omega (arith, (ready_numbers c.args.prepared c.requires.1 (omega arith)).five)
 
 pub overflow_add-flat : goal.overflow_add-flat
 overflow_add-flat c =
@@ -29,25 +25,25 @@ overflow_add-flat c =
       arith,
       c.requires.2.inside,
       c.requires.2.end_inside,
-      (known c).few_degrees,
-      first_past c.args.prepared (known c) c.args.sharps c.args.end c.requires.2,
+      (ready_numbers c.args.prepared c.requires.1 (omega arith)).few_degrees,
+      first_past c.args.prepared (ready_numbers c.args.prepared c.requires.1 (omega arith)) c.args.sharps c.args.end c.requires.2,
     )
 
 pub overflow_sub-flat_index : goal.overflow_sub-flat_index
-overflow_sub-flat_index c = omega (arith, (known c).five)
+overflow_sub-flat_index c = omega (arith, (ready_numbers c.args.prepared c.requires.1 (omega arith)).five)
 
 pub nonzero_rem-flat_index : goal.nonzero_rem-flat_index
-nonzero_rem-flat_index c = omega (arith, (known c).five)
+nonzero_rem-flat_index c = omega (arith, (ready_numbers c.args.prepared c.requires.1 (omega arith)).five)
 
 pub overflow_sub-flat_index-2 : goal.overflow_sub-flat_index-2
-overflow_sub-flat_index-2 c = mod_room _ _ (omega (arith, (known c).five))
+overflow_sub-flat_index-2 c = mod_room _ _ (omega (arith, (ready_numbers c.args.prepared c.requires.1 (omega arith)).five))
 
 pub nonzero_div-flat_count : goal.nonzero_div-flat_count
-nonzero_div-flat_count c = omega (arith, (known c).five)
+nonzero_div-flat_count c = omega (arith, (ready_numbers c.args.prepared c.requires.1 (omega arith)).five)
 
 pub loop-place-init : goal.loop-place-init
 loop-place-init c =
-    adding_first _ (known c) _ _ c.requires.2 c.first_cycle-cycle.ensures (omega (arith, c.requires.2.inside, c.requires.2.end_inside, (known c).five))
+    adding_first _ (ready_numbers c.args.prepared c.requires.1 (omega arith)) _ _ c.requires.2 c.first_cycle-cycle.ensures (omega (arith, c.requires.2.inside, c.requires.2.end_inside, (ready_numbers c.args.prepared c.requires.1 (omega arith)).five))
 
 pub plan_spelled-requires : goal.plan_spelled-requires
 plan_spelled-requires c = (c.requires.0, c.requires.1)

@@ -1,0 +1,19 @@
+-- Question 10, then the strip of all entries.
+use mathlib.Core.Path.{subst, ◌∙◌}
+use Prim.Native.Nat.{ℕ}
+use Rattle.layout_layers.specs.Parts.{total_of, Fronted}
+use Rattle.layout_layers.proofs.Calls.{text_too_long, text_held}
+use Rattle.layout_lamps.specs.Parts.{plan_strip}
+use Rattle.layout_lamps.proofs.StripLaws.{length_strip}
+use borrow.Author.Rules.{rules}
+use Rattle.layout_lamps.proofs.parts.write_strip.Goals as goal
+
+pub returns-then-out-count : goal.returns-then-out-count
+returns-then-out-count c =
+    text_too_long (plan_strip c.args.plan (total_of c.args.plan)) _ _ (c.entries-count.ensures ∙ length_strip c.args.plan (total_of c.args.plan)) c.if-out-count.true
+
+pub returns : goal.returns
+returns c =
+    let plan = c.args.plan in
+    text_held (plan_strip plan (total_of plan)) _ _ (c.entries-count.ensures ∙ length_strip plan (total_of plan)) c.if-out-count.false
+    (subst (λ (t : ℕ). Fronted (plan_strip plan t) c.args.out.now c.put_strip.new.0) c.total_of.ensures c.put_strip.ensures)
