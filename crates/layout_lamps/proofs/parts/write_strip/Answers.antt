@@ -16,4 +16,4 @@ pub returns : goal.returns
 returns c =
     let plan = c.args.plan in
     text_held (plan_strip plan (total_of plan)) _ _ (c.entries-count.ensures ∙ length_strip plan (total_of plan)) c.if-out-count.false
-    (subst (λ (t : ℕ). Fronted (plan_strip plan t) c.args.out.now c.put_strip.new.0) c.total_of.ensures c.put_strip.ensures)
+    (subst (λ (t : ℕ). Fronted (plan_strip plan t) c.args.out.now c.put_strip.new.out) c.total_of.ensures c.put_strip.ensures)
