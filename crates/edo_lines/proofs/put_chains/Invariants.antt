@@ -1,0 +1,18 @@
+-- What is written is the lines of the chains so far.
+use Prim.Native.Nat.{◌*◌, ◌≤◌, ◌-◌}
+use mathlib.Core.Path.{◌≡◌, refl, ap}
+use native.Mathlib.Omega.{arith}
+use native.Mathlib.Nat.{le_antisymm}
+use lib.ListN.{length}
+use Rattle.text.specs.Writing.{Wrote, joined}
+use Rattle.text.proofs.Writing.{wrote_as}
+use Rattle.text.proofs.Joined.{joined_start, joined_step}
+use Rattle.edo_lines.specs.Parts.{served_line}
+use Rattle.edo_lines.proofs.put_chains.Given as goal
+
+abbrev pub invariant-loop-genchain : goal.invariant-loop-genchain
+invariant-loop-genchain l =
+    Wrote l.initial.out 0 (joined (served_line l.n l.choices) l.genchain) l.out l.place × (l.place ≤ 44 * l.genchain) × (l.genchain ≤ 6) × (length l.out ≡ length l.initial.out)
+
+abbrev pub decreases-loop-genchain : goal.decreases-loop-genchain
+decreases-loop-genchain l = 6 - l.genchain
