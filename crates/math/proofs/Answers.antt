@@ -4,7 +4,7 @@ use mathlib.Core.Path.{◌≡◌, sym, ap, ap₂, ◌∙◌, subst}
 use lib.IntN.{ℤ}
 use mir.Syntax.{Width}
 use mir.Val.{SFits, to_z, of_z}
-use Rattle.answer.specs.Outcome.{Outcome, given, refused}
+use Rattle.answer.specs.Outcome.{given, refused}
 use Rattle.answer.proofs.Questions.{ask_none, ask_some}
 use Rattle.math.specs.Division.{Divided, quotient, remainder}
 use Rattle.math.specs.Answers.{divide_outcome, div_outcome, rem_outcome}

@@ -1,7 +1,7 @@
 -- Congruence of naturals, as an equation of remainders. `of_cong` and `to_cong` cross to equations that `omega` reads.
-use Prim.Native.Nat.{ℕ, zero, suc, ◌+◌, ◌*◌, ◌-◌, ◌/◌, ◌%◌, ◌≤◌, ◌<◌}
-use mathlib.Core.Path.{◌≡◌, refl, sym, ap, ap₂, ◌∙◌}
-use native.Mathlib.Nat.{mod-lt, div-add-mod', add-mul-mod_self_right, mul-add, add-mul, mul_assoc, mul_comm}
+use Prim.Native.Nat.{ℕ, zero, ◌+◌, ◌*◌, ◌-◌, ◌/◌, ◌%◌, ◌≤◌, ◌<◌}
+use mathlib.Core.Path.{◌≡◌, sym, ap, ap₂, ◌∙◌}
+use native.Mathlib.Nat.{mod-lt, div-add-mod', add-mul-mod_self_right, mul-add, mul_assoc}
 use native.Mathlib.Omega.{arith}
 use lib.Arith.{digits_div, digits_mod, mod-mul}
 

@@ -1,12 +1,12 @@
 -- The remainder law: both signs by `Rep`, uniqueness by two bounds; and "differ by a multiple" as equal remainders.
-use Prim.Native.Nat.{ℕ, zero, suc, ◌+◌, ◌*◌, ◌-◌, ◌/◌, ◌%◌, ◌≤◌, ◌<◌}
-use mathlib.Core.Path.{◌≡◌, refl, sym, ap, ap₂, subst, ◌∙◌}
+use Prim.Native.Nat.{ℕ, zero, suc, ◌+◌, ◌*◌, ◌-◌, ◌/◌, ◌%◌, ◌<◌}
+use mathlib.Core.Path.{◌≡◌, sym, ap, subst, ◌∙◌}
 use mathlib.Core.Logic.{◌↔◌}
 use lib.IntN.{ℤ, pos, negsuc, ◌+ℤ◌, ◌-ℤ◌, ◌*ℤ◌}
 use native.Mathlib.Nat.{mul-add, mul_comm, mul-suc, mul-zero, suc-mul, zero-mul, mod-lt, mod-eq_of_lt, mod-mod, div-add-mod'}
 use native.Mathlib.Omega.{arith}
 use lib.Arith.{digits_div, digits_mod}
-use Rattle.math.specs.Division.{quotient, remainder, Divided, RemainderLaw, Apart}
+use Rattle.math.specs.Division.{quotient, remainder, RemainderLaw, Apart}
 use Rattle.math.proofs.Congruence.{of_cong, add_cong, add_cancel}
 use Rattle.math.proofs.Integers.{up, down, Rep, rep_self, rep_pos, rep_neg, rep_add, rep_mul, rep_agree}
 

@@ -1,5 +1,5 @@
 -- Euclid's number is the greatest common divisor: one step equation hides the bound on the steps, then induction along the steps.
-use Prim.Native.Nat.{ℕ, zero, suc, ◌+◌, ◌/◌, ◌%◌, ◌≤◌, ◌<◌, ◌∣◌, max}
+use Prim.Native.Nat.{ℕ, zero, suc, ◌+◌, ◌%◌, ◌≤◌, ◌<◌, ◌∣◌, max}
 use mathlib.Core.Path.{◌≡◌, refl, sym, ap, ◌∙◌, subst}
 use native.Mathlib.Nat.{dvd-mod_iff, dvd_refl, dvd-zero, le_refl, mod-lt, zero-lt-suc, not-suc-le-zero, pos_of_dvd_of_pos, one-dvd, pos_of_ne-zero, max-eq_right}
 use native.Mathlib.Omega.{arith}

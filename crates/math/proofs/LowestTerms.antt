@@ -2,10 +2,9 @@
 use Prim.Native.Nat.{ℕ, ◌+◌, ◌*◌, ◌/◌, ◌<◌, ◌∣◌}
 use mathlib.Core.Path.{◌≡◌, refl, sym, ap, ap₂, ◌∙◌, subst}
 use native.Mathlib.Nat.{div_self, div-mul_cancel, dvd_of_mul-dvd-mul_left, eq-one_of_dvd-one, mul_assoc, mul_comm, mul-dvd-mul_left, mul-one, zero-div, zero-mod}
-use native.Mathlib.Omega.{arith}
 use Rattle.math.specs.declared.Fraction.{Fraction}
 use Rattle.math.specs.Gcd.{gcd, gcd_or_one, lowest_terms, LowestTermsAreLowest}
-use Rattle.math.proofs.Gcd.{gcd_is, gcd_or_one_lem, gcd_or_one_of, gcd_positive, gcd_positive_right, gcd_step, gcd_zero}
+use Rattle.math.proofs.Gcd.{gcd_or_one_lem, gcd_or_one_of, gcd_positive, gcd_positive_right, gcd_step, gcd_zero}
 
 module _ (x y : ℕ) where
   g : ℕ

@@ -1,6 +1,6 @@
 -- Signed machine numbers, for every width. The logic reads a signed number back from its bits, `to_z w (of_z w z)`:
 -- what a test of the sign, `-1 - z`, the casts and `divide` then give.
-use Prim.Native.Nat.{ℕ, zero, suc, ◌+◌, ◌*◌, ◌-◌, ◌/◌, ◌%◌, ◌≤◌, ◌<◌, ◌^◌}
+use Prim.Native.Nat.{ℕ, zero, suc, ◌-◌, ◌/◌, ◌%◌, ◌≤◌, ◌<◌, ◌^◌}
 use mathlib.Core.Path.{◌≡◌, refl, sym, ap, ◌∙◌, subst}
 use mathlib.Core.Bool.{Bool, true, false, not}
 use lib.Dec.{T}
@@ -12,7 +12,7 @@ use mir.ValLaws.{to_z-of_z, to_z_pos, half_full}
 use native.Mathlib.Nat.{lt_of_le_of_lt, div-le_self, le_refl, le-suc}
 use native.Mathlib.Omega.{arith}
 use Rattle.math.specs.Division.{Divided}
-use Rattle.math.proofs.Integers.{Rep, rep_self, rep_pos, rep_minus, rep_agree}
+use Rattle.math.proofs.Integers.{rep_self, rep_pos, rep_minus, rep_agree}
 use Rattle.math.proofs.Division.{remainder_law}
 
 never : {A : Type 0} → ◌≡◌ {A = Bool} false true → A

@@ -1,5 +1,5 @@
 -- A number without its factors of two (`odd_factors_u16` of the original).
-use Rattle.std.specs.Prelude.{ℕ, zero, suc, ◌*◌, ◌/◌, ◌%◌, ◌^◌, ◌<◌, Bool, true, false, ◌≡◌, eqb}
+use Rattle.std.specs.Prelude.{ℕ, zero, suc, ◌*◌, ◌/◌, ◌%◌, ◌^◌, ◌<◌, true, false, ◌≡◌, eqb}
 
 -- Halved as long as it is even. The first argument bounds the halvings.
 unfoldable pub halved : ℕ → ℕ → ℕ

@@ -1,6 +1,5 @@
 -- Each arm's numbers divide `numer` by `denom`: the laws of signed numbers, at 32 bits.
 use mir.Syntax.{w32}
-use borrow.Author.Rules.{rules}
 use Rattle.math.proofs.Congruence.{mod_room}
 use Rattle.math.proofs.Signed.{mirror_fits, mirror_cast, mirror_quotient_fits, back_fits, divided_negative, positive_cast, positive_quotient_fits, divided_positive}
 use Rattle.math.proofs.divide.Goals as goal

@@ -1,9 +1,6 @@
 -- Euclid's loop keeps the greatest common divisor of its two numbers, and the second one falls.
-use Prim.Native.Nat.{ℕ}
-use mathlib.Core.Path.{◌≡◌, refl, sym, ap, ◌∙◌}
-use native.Mathlib.Nat.{mod-lt}
+use mathlib.Core.Path.{◌≡◌}
 use Rattle.math.specs.Gcd.{gcd}
-use Rattle.math.proofs.Gcd.{gcd_step, gcd_found, gcd_none}
 use Rattle.math.proofs.gcd_u16.Given as goal
 
 abbrev pub invariant-loop-b : goal.invariant-loop-b

@@ -4,7 +4,6 @@ use lib.IntN.{ℤ}
 use mir.Syntax.{w32}
 use Rattle.math.specs.Answers.{div_outcome}
 use Rattle.math.proofs.Signed.{read_back_lem}
-use borrow.Author.Rules.{rules}
 use Rattle.math.proofs.i32_div_u16.Goals as goal
 
 pub returns : goal.returns

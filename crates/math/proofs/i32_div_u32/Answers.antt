@@ -3,7 +3,6 @@ use mathlib.Core.Path.{ap, ◌∙◌}
 use mir.Syntax.{w32}
 use mir.ValLaws.{to_z-of_z}
 use Rattle.answer.specs.Outcome.{given}
-use borrow.Author.Rules.{rules}
 use Rattle.math.proofs.Answers.{div_refused, div_given}
 use Rattle.math.proofs.i32_div_u32.Goals as goal
 

@@ -1,10 +1,8 @@
 -- Question 2, then what `divide` found, which the remainder law makes the only answer.
-use Prim.Native.Nat.{ℕ}
 use mathlib.Core.Path.{ap, ◌∙◌}
 use lib.IntN.{ℤ}
 use mir.Syntax.{w32}
 use mir.ValLaws.{to_z-of_z}
-use borrow.Author.Rules.{rules}
 use Rattle.answer.specs.Outcome.{given}
 use Rattle.math.proofs.Answers.{divide_refused, divide_given}
 use Rattle.math.proofs.i32_dr_u16.Goals as goal

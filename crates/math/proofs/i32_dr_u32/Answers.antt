@@ -1,6 +1,5 @@
 -- Question 2, then what `divide` found, which the remainder law makes the only answer.
 use mir.Syntax.{w32}
-use borrow.Author.Rules.{rules}
 use Rattle.math.proofs.Answers.{divide_refused, divide_given}
 use Rattle.math.proofs.i32_dr_u32.Goals as goal
 

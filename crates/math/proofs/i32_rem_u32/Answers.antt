@@ -1,6 +1,5 @@
 -- Question 2, then the remainder.
 use mir.Syntax.{w32}
-use borrow.Author.Rules.{rules}
 use Rattle.math.proofs.Answers.{rem_refused, rem_given, remainder_read}
 use Rattle.math.proofs.i32_rem_u32.Goals as goal
 

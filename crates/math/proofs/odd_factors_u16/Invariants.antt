@@ -1,10 +1,7 @@
 -- The loop's number is above 0 and keeps its odd factors while it is halved.
 use Prim.Native.Nat.{◌<◌}
-use mathlib.Core.Path.{◌≡◌, refl, sym, ap, ◌∙◌}
-use native.Mathlib.Nat.{pos_of_ne-zero}
-use native.Mathlib.Omega.{arith}
+use mathlib.Core.Path.{◌≡◌}
 use Rattle.math.specs.OddFactors.{odd_factors}
-use Rattle.math.proofs.OddFactors.{odd_step, odd_done, odd_zero}
 use Rattle.math.proofs.odd_factors_u16.Given as goal
 
 abbrev pub invariant-loop-odd : goal.invariant-loop-odd

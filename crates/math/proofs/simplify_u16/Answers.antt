@@ -1,7 +1,6 @@
 -- Both numbers are divided by what `gcd_u16` found, which is above 0.
 use Prim.Native.Nat.{ℕ, ◌/◌}
 use mathlib.Core.Path.{ap}
-use borrow.Author.Rules.{rules}
 use Rattle.math.specs.declared.Fraction.{Fraction}
 use Rattle.math.specs.Gcd.{lowest_terms}
 use Rattle.math.proofs.simplify_u16.Goals as goal

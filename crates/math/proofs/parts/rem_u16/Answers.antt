@@ -1,7 +1,6 @@
 -- The remainder is below the divisor, so it fits 16 bits.
 use mir.Syntax.{w32}
 use native.Mathlib.Omega.{arith}
-use borrow.Author.Rules.{rules}
 use Rattle.math.proofs.Answers.{remainder_read}
 use Rattle.math.proofs.Division.{remainder_below}
 use Rattle.math.proofs.parts.rem_u16.Goals as goal

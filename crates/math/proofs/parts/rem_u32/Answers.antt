@@ -1,6 +1,5 @@
 -- A number below 0 is divided; any other is its cast, which is below the divisor or divided.
 use mir.Syntax.{w32}
-use borrow.Author.Rules.{rules}
 use Rattle.math.proofs.Answers.{remainder_found}
 use Rattle.math.proofs.Division.{remainder_cast, remainder_kept}
 use Rattle.math.proofs.Signed.{positive_cast, by_cast}

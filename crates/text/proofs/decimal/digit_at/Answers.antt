@@ -1,7 +1,6 @@
 -- The byte's three ways not to be a digit, and the digit.
 use mathlib.Core.Path.{sym}
 use Rattle.text.proofs.Numbers.{none_past, low_byte, high_byte, digit_here}
-use borrow.Author.Rules.{rules}
 use Rattle.text.proofs.decimal.digit_at.Goals as goal
 
 pub returns-then-text-at : goal.returns-then-text-at

@@ -1,6 +1,5 @@
 -- The digits of a tenth of the number; the last digit follows.
 use native.Mathlib.Omega.{arith}
-use borrow.Author.Rules.{rules}
 use Rattle.text.proofs.Digits.{length_more, room_last, wrote_digits}
 use Rattle.text.proofs.decimal.put_five.Goals as goal
 

@@ -2,7 +2,6 @@
 use mathlib.Core.List.{[], ◌∷◌}
 use Rattle.text.specs.Decimal.{digits}
 use Rattle.text.proofs.Writing.{then, room_first, room_next}
-use borrow.Author.Rules.{rules}
 use Rattle.text.proofs.decimal.put_number_then.Goals as goal
 
 pub put_number-next-requires : goal.put_number-next-requires

@@ -1,7 +1,6 @@
 -- The first digit, then the last, which of a single digit is the same one at the same place.
 use mathlib.Core.Path.{refl}
 use native.Mathlib.Omega.{arith}
-use borrow.Author.Rules.{rules}
 use Rattle.text.proofs.Digits.{first_small, far_inside, room_short, wrote_short}
 use Rattle.text.proofs.decimal.put_short.Goals as goal
 

@@ -1,7 +1,6 @@
-use Prim.Native.Nat.{◌+◌, ◌-◌, ◌≤◌}
 use native.Mathlib.Omega.{arith}
 use mathlib.Core.Path.{refl}
-use Rattle.text.proofs.Numbers.{Read, read_none, read_more, digit_inside, too_large, too_long, no_digit_at_all, number_read}
+use Rattle.text.proofs.Numbers.{read_none, read_more, digit_inside, too_large, too_long, no_digit_at_all, number_read}
 use borrow.Author.Rules.{rules}
 use Rattle.text.proofs.decimal.read_number.Goals as goal
 

@@ -1,8 +1,6 @@
 -- The digits from `next` on say the rest of the number; a turn reads one, and the loop ends at 5 digits at the latest.
 use Prim.Native.Nat.{◌+◌, ◌-◌, ◌≤◌}
-use native.Mathlib.Omega.{arith}
-use mathlib.Core.Path.{refl}
-use Rattle.text.proofs.Numbers.{Read, read_none, read_more, digit_inside, too_large, too_long, no_digit_at_all, number_read}
+use Rattle.text.proofs.Numbers.{Read}
 use Rattle.text.proofs.decimal.read_number.Given as goal
 
 abbrev pub invariant-loop-digit : goal.invariant-loop-digit

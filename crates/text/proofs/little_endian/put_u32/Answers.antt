@@ -3,7 +3,6 @@ use native.Mathlib.Omega.{arith}
 use Rattle.text.proofs.Writing.{then}
 use Rattle.text.specs.LittleEndian.{le32}
 use Rattle.text.proofs.FourBytes.{length_le32}
-use borrow.Author.Rules.{rules}
 use Rattle.text.proofs.little_endian.put_u32.Goals as goal
 
 pub put_byte-second-requires : goal.put_byte-second-requires

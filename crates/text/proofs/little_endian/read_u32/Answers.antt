@@ -1,5 +1,4 @@
 use Rattle.text.proofs.FourBytes.{value_is}
-use borrow.Author.Rules.{rules}
 use Rattle.text.proofs.little_endian.read_u32.Goals as goal
 
 pub returns : goal.returns

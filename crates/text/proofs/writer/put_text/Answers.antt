@@ -1,6 +1,5 @@
 -- The text is copied over the part from `at` on that is as long as it.
 use Rattle.text.proofs.Copying.{part_copied}
-use borrow.Author.Rules.{rules}
 use Rattle.text.proofs.writer.put_text.Goals as goal
 
 pub returns : goal.returns
