@@ -7,19 +7,20 @@
 ghost use Rattle.edo_counts.specs.Counts.{report};
 ghost use Rattle.streams.specs.Streams.{Handed};
 
+use std::io::Stdout;
 use streams::output::Output;
 use streams::{output, words};
 
 // Prints the report.
-fn print() -> Output
+fn print(stdout: Stdout) -> Output
     ensures { Handed report result }
 {
     let mut out = [0u8; 144];
     let bytes = edo_counts::parts::put_report(&mut out);
-    output::write_front(output::begin(), &out, bytes)
+    output::write_front(output::begin(stdout), &out, bytes)
 }
 
-fn main() {
-    let done = print();
-    words::say_if_not_written(b"edo_report", done);
+fn main(rt: HostRuntime) {
+    let done = print(rt.stdout());
+    words::say_if_not_written(rt.stderr(), b"edo_report", done);
 }

@@ -18,13 +18,13 @@ use Rattle.genchain.proofs.TableRows.{table_row, row_letters}
 use Rattle.math.specs.Gcd.{gcd_or_one}
 use Rattle.math.proofs.Gcd.{gcd_is}
 use Rattle.notes.specs.Names.{signs_in, signs_text, letter_text, letter_at, spelling_text}
-use Rattle.pergen.specs.Pergen.{cycles, reduced}
+use Rattle.pergen.specs.Pergen.{cycles}
 use Rattle.pergen.proofs.Calls.{cycles_found}
 use Rattle.pergen.proofs.Inverse.{reduced_positive}
 use Rattle.pergen.specs.declared.Signs.{Signs}
 use Rattle.pergen.specs.declared.Signs.TheVariants.{Sharps, Flats}
 use Rattle.pergen.specs.declared.Spelling.{Spelling}
-use Rattle.layout.specs.Layouts.{Layout, layout_outcome, cycles_in, reduced_in, sharp_first}
+use Rattle.layout.specs.Layouts.{Layout, layout_outcome, cycles_in, sharp_first}
 use Rattle.layout.specs.Parts.{layout_of, Laid}
 use Rattle.layout.specs.declared.IsomorphicLayout.{IsomorphicLayout}
 use Rattle.layout.specs.declared.parts.Found.{Found}

@@ -34,16 +34,7 @@ use Rattle.layout_reading.proofs.NothingElse.{told_in_lem}
 use Rattle.layout_explaining.specs.Explanations.{apart_in, verdict_by, verdict_of, explanation_of}
 use Rattle.layout_explaining.specs.Sentences.{explanation_text}
 use Rattle.layout_explaining.specs.Answers.{explained_in, get_explanation, told_in, get_explanation_text}
-use Rattle.layout_explaining.specs.Theorems.{
-  VerdictHolds,
-  VerdictsHold,
-  Explains,
-  ExplanationsHold,
-  AllSpellingsAreExplained,
-  TextsTellTheExplanation,
-  SentenceHolds,
-  SentencesHold,
-}
+use Rattle.layout_explaining.specs.Theorems.{VerdictsHold, Explains, ExplanationsHold, AllSpellingsAreExplained, TextsTellTheExplanation, SentencesHold}
 use Rattle.layout_explaining.specs.declared.Verdict.{Verdict}
 use Rattle.layout_explaining.specs.declared.Verdict.TheVariants.{OneKey, OneChain, TwoChains}
 use Rattle.layout_explaining.specs.declared.Explanation.{Explanation}

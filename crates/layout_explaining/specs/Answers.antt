@@ -16,7 +16,6 @@ use Rattle.layout_explaining.specs.Explanations.{explanation_of}
 use Rattle.layout_explaining.specs.Sentences.{explanation_text}
 use Rattle.layout_explaining.specs.declared.Explanation.{Explanation}
 use Rattle.layout_explaining.specs.declared.ExplanationAnswer.{ExplanationAnswer}
-use Rattle.layout_explaining.specs.declared.ExplanationAnswer.TheVariants as ExplanationAnswer
 
 -- 21. Are the stars below the cycles? Of the first spelling, then of the second.
 unfoldable pub compared_in : Layout → Spelling → Spelling → Outcome Explanation

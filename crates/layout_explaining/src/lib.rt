@@ -7,6 +7,7 @@
 #![tactic(auto)]
 
 mod counting;
+mod letters;
 mod sentences;
 mod typed;
 
@@ -29,7 +30,6 @@ use genchain::rows;
 use genchain::rows::ChainRow;
 use layout::IsomorphicLayout;
 use layout::parts::{Found, FoundAnswer};
-use notes::plans;
 
 // Where a spelling stands: its place on the chain, counted from key 0's letter, its stars, and the key of the octave that it sounds.
 #[derive(Clone, Copy)]
@@ -81,7 +81,7 @@ fn told_len(row: ChainRow, found: Found, first: &[u8], second: &[u8]) -> CountAn
     requires { Asked row found }
     ensures { (count_outcome result ≡ counted (told_in (layout_of found) first.now second.now)) × ShortAnswer first.now second.now result }
 {
-    let letter = plans::letter_at(row, found.start);
+    let letter = letters::letter_at(row, found.start);
     match typed::explained(row, found, first, second) {
         ExplanationAnswer::Refused(q) => CountAnswer::Refused(q),
         ExplanationAnswer::Given(e) => CountAnswer::Given(sentences::text_len(
@@ -100,7 +100,7 @@ fn tell(row: ChainRow, found: Found, first: &[u8], second: &[u8], out: &mut [u8]
     requires { Asked row found }
     ensures { Filled (in_room (length out.old) (told_in (layout_of found) first.now second.now)) (count_outcome result) out.old out.new }
 {
-    let letter = plans::letter_at(row, found.start);
+    let letter = letters::letter_at(row, found.start);
     match typed::explained(row, found, first, second) {
         ExplanationAnswer::Refused(q) => CountAnswer::Refused(q),
         ExplanationAnswer::Given(e) => sentences::write(

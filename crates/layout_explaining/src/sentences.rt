@@ -28,9 +28,9 @@ ghost use Rattle.layout_explaining.specs.Sentences.{
 ghost use Rattle.layout_explaining.specs.Answers.{ShortWords};
 ghost use Rattle.layout_explaining.specs.Parts.{rest_text, Telling};
 
+use crate::letters::put_letter;
 use crate::{Explanation, Standing, Verdict};
 use answer::{CountAnswer, Refusal};
-use notes::texts::put_letter;
 use text::decimal::put_number;
 use text::writer::{put_byte, put_text};
 

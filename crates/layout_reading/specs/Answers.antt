@@ -13,7 +13,6 @@ use Rattle.layout.specs.Answers.{of_layout}
 use Rattle.layout.specs.declared.IsomorphicLayout.{IsomorphicLayout}
 use Rattle.layout_reading.specs.Reading.{in_front, bytes_before, read_spelling}
 use Rattle.layout_reading.specs.declared.SpellingAnswer.{SpellingAnswer}
-use Rattle.layout_reading.specs.declared.SpellingAnswer.TheVariants as SpellingAnswer
 
 -- ---- one spelling
 

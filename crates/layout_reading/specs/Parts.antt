@@ -14,7 +14,6 @@ use Rattle.layout_reading.specs.declared.spellings.Front.{Front}
 use Rattle.layout_reading.specs.declared.spellings.Marks.{Marks}
 use Rattle.layout_reading.specs.declared.spellings.Typed.{Typed}
 use Rattle.layout_reading.specs.declared.spellings.TypedAnswer.{TypedAnswer}
-use Rattle.layout_reading.specs.declared.spellings.TypedAnswer.TheVariants as TypedAnswer
 
 -- What the parts ask: the questions on the layout have been asked, the row is its chain's, and so many are its cycles.
 pub record Asked (row : ChainRow) (found : Found) (n : ℕ) : Type 0 where

@@ -3,7 +3,7 @@ use Rattle.std.specs.Prelude.{ℕ, List, [], ◌∷◌, ◌++◌, map, ◌≡◌
 use Rattle.line.specs.Lines.{line_text}
 use Rattle.mos.specs.Patterns.{mos}
 use Rattle.line.specs.Refusals.{refusal_line}
-use Rattle.passed_patterns.specs.Printing.{found_word, nothing_line, pattern_line, pattern_lines, output}
+use Rattle.passed_patterns.specs.Printing.{found_word, pattern_line, pattern_lines, output}
 
 -- 1 12 19, which the search finds; 3 12 19, which it does not; refusals 1 and 2.
 abbrev pub lines : List (List ℕ)

@@ -1,7 +1,7 @@
 -- What is printed for a line: each pattern that the search for a layout's pattern stands at, then what it answers (document 02, W-205).
 use Rattle.std.specs.Prelude.{ℕ, true, false, List, [], ◌∷◌, ◌++◌, length, ltb}
 use Rattle.std.proofs.Math.Option.{Option, none, some}
-use Rattle.answer.specs.Outcome.{Outcome, given, refused, and_then}
+use Rattle.answer.specs.Outcome.{Outcome, given, and_then}
 use Rattle.text.specs.Decimal.{digits}
 use Rattle.line.specs.declared.Line.{Line}
 use Rattle.line.specs.Lines.{space, line_feed, line_outcome}

@@ -32,6 +32,7 @@ use line::{Line, LineAnswer};
 use mos::{Mos, MosAnswer};
 use mos_walks::search;
 use mos_walks::search::SearchAnswer;
+use std::io::{Stderr, Stdout};
 use streams::input::Input;
 use streams::output::Output;
 use streams::{input, lines, output, words};
@@ -83,58 +84,58 @@ fn print_answer(past: Output, found: SearchAnswer) -> Output
     }
 }
 
-fn print_search(genesis: Mos, n: u32) -> Output
+fn print_search(stdout: Stdout, genesis: Mos, n: u32) -> Output
     requires { is_pattern genesis ≡ true }
     ensures { Handed (shown n genesis) result }
 {
-    let done = print_patterns(output::begin(), genesis, n);
+    let done = print_patterns(output::begin(stdout), genesis, n);
     print_answer(done, search::first_with(genesis, n))
 }
 
 // Writes the line of a refusal, and says that it is one.
-fn print_refusal(number: u16) -> Output
+fn print_refusal(stdout: Stdout, stderr: Stderr, number: u16) -> Output
     ensures { Handed (refusal_line number) result }
 {
     let mut out = [0u8; 16];
     let bytes = line::refusals::put_refusal(&mut out, number);
-    let done = output::write_front(output::begin(), &out, bytes);
-    words::say_refused();
+    let done = output::write_front(output::begin(stdout), &out, bytes);
+    words::say_refused(stderr);
     done
 }
 
-fn print_from(asked: Line, generator: u16) -> Output
+fn print_from(stdout: Stdout, stderr: Stderr, asked: Line, generator: u16) -> Output
     ensures { Handed (output_of (shown_from asked generator)) result }
 {
     let chain = rows::numbers(asked.genchain);
     match Mos::new_genesis(asked.octave, generator) {
-        MosAnswer::Refused(q) => print_refusal(q.number() as u16),
-        MosAnswer::Given(genesis) => print_search(genesis, chain.num_letters as u32),
+        MosAnswer::Refused(q) => print_refusal(stdout, stderr, q.number() as u16),
+        MosAnswer::Given(genesis) => print_search(stdout, genesis, chain.num_letters as u32),
     }
 }
 
-fn print_asked(asked: Line) -> Output
+fn print_asked(stdout: Stdout, stderr: Stderr, asked: Line) -> Output
     ensures { Handed (output_of (shown_for asked)) result }
 {
     match genchain::generator(asked.genchain, asked.octave, asked.tritave) {
-        NumberAnswer::Refused(q) => print_refusal(q.number() as u16),
-        NumberAnswer::Given(generator) => print_from(asked, generator),
+        NumberAnswer::Refused(q) => print_refusal(stdout, stderr, q.number() as u16),
+        NumberAnswer::Given(generator) => print_from(stdout, stderr, asked, generator),
     }
 }
 
 // Prints the output for the line that was read.
-fn print(line: &[u8], input: Input) -> Output
+fn print(stdout: Stdout, stderr: Stderr, line: &[u8], input: Input) -> Output
     requires { LineRead line.now input }
     ensures { Printed output line.now input result }
 {
     match line::parse(&line[..input::kept(input)]) {
-        LineAnswer::Refused(q) => print_refusal(q.number() as u16),
-        LineAnswer::Given(asked) => print_asked(asked),
+        LineAnswer::Refused(q) => print_refusal(stdout, stderr, q.number() as u16),
+        LineAnswer::Given(asked) => print_asked(stdout, stderr, asked),
     }
 }
 
-fn main() {
+fn main(rt: HostRuntime) {
     let mut line = [0u8; 18];
-    let input = lines::read_line(&mut line);
-    let done = print(&line, input);
-    words::say_if_not_written(b"passed_patterns", done);
+    let input = lines::read_line(rt.stdin(), &mut line);
+    let done = print(rt.stdout(), rt.stderr(), &line, input);
+    words::say_if_not_written(rt.stderr(), b"passed_patterns", done);
 }

@@ -1,6 +1,6 @@
 -- "reads one line, ignores bytes after it" (document 01): which bytes are taken from standard input, and what the program's buffer then
 -- holds.
-use Rattle.std.specs.Prelude.{◌≡◌, ℕ, ◌<◌, min, Bool, true, false, List, [], ◌∷◌, ◌++◌, length, take, ◌==◌, nat_lt, slice_set}
+use Rattle.std.specs.Prelude.{◌≡◌, ℕ, ◌<◌, min, true, false, List, [], ◌∷◌, ◌++◌, length, take, ◌==◌, nat_lt, slice_set}
 use Rattle.line.specs.Lines.{line_feed}
 use Rattle.streams.specs.declared.input.Input.{Input}
 use Rattle.streams.specs.Streams.{longest, Taken}

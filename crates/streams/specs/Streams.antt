@@ -3,7 +3,7 @@
 -- module opens them, and whoever says that bytes were moved has it from the contracts of `begin`, `next_byte` and `write`. The laws at the
 -- end are for the proofs of these functions and are part of the abstraction: what they ask of an `Input` or an `Output`, its count,
 -- no contract tells, so no caller can show it.
-use Rattle.std.specs.Prelude.{◌≡◌, ℕ, ◌+◌, ◌%◌, min, Bool, true, false, List, [], ◌∷◌, ◌++◌, length}
+use Rattle.std.specs.Prelude.{◌≡◌, ℕ, ◌+◌, ◌%◌, min, true, false, List, [], ◌∷◌, ◌++◌, length}
 use Rattle.std.proofs.Common.{arith, length-append}
 use Rattle.streams.specs.declared.input.Input.{Input}
 use Rattle.streams.specs.declared.output.Output.{Output}

@@ -3,13 +3,14 @@
 ghost use Rattle.std.specs.Prelude.{◌≡◌, ◌+◌, min};
 ghost use Rattle.streams.specs.Streams.{longest, Begun, Next};
 
-use libc::STDIN_FILENO;
+use std::io::{Read, Stdin};
 use std::num::wrapping_add_usize;
 
-// Where reading stands: how many bytes were taken (modulo 2^64), of these how many a buffer keeps, the last of them (0 before the first),
-// and whether the last read had none.
+// Where reading stands: the handle that it reads by, how many bytes were taken (modulo 2^64), of these how many a buffer keeps, the last of
+// them (0 before the first), and whether the last read had none.
 #[derive(Clone, Copy)]
 pub struct Input {
+    stdin: Stdin,
     taken: usize,
     kept: usize,
     last: u8,
@@ -17,10 +18,11 @@ pub struct Input {
 }
 
 // Before the first read.
-pub fn begin() -> Input
+pub fn begin(stdin: Stdin) -> Input
     ensures { Begun result }
 {
     Input {
+        stdin,
         taken: 0,
         kept: 0,
         last: 0,
@@ -41,8 +43,10 @@ pub fn next_byte(past: Input, count: &mut usize) -> Input
     ensures { Next past count.old result count.new }
 {
     let mut byte = [0u8; 1];
-    if io::read_full(STDIN_FILENO, &mut byte) == 0 {
+    let mut stdin = past.stdin;
+    if stdin.read_exact(&mut byte).is_err() {
         return Input {
+            stdin,
             taken: past.taken,
             kept: past.kept,
             last: past.last,
@@ -51,6 +55,7 @@ pub fn next_byte(past: Input, count: &mut usize) -> Input
     }
     *count = wrapping_add_usize(*count, 1);
     Input {
+        stdin,
         taken: wrapping_add_usize(past.taken, 1),
         kept: one_more(past.kept),
         last: byte[0],

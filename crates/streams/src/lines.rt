@@ -6,6 +6,7 @@ ghost use Rattle.streams.specs.Reading.{kept_in, LineRead};
 
 use crate::input;
 use crate::input::Input;
+use std::io::Stdin;
 
 // Keeps one of a line's first 18 bytes at its place; a later one is dropped.
 fn keep(line: &mut [u8], at: usize, byte: u8)
@@ -19,11 +20,11 @@ fn keep(line: &mut [u8], at: usize, byte: u8)
 
 // Reads one line to its line feed, or to the end of the input, and keeps its first 18 bytes. A proved loop has to end, and nothing says
 // that the input does: it ends after 2^64 - 1 bytes, which no run reads.
-pub fn read_line(line: &mut [u8]) -> Input
+pub fn read_line(stdin: Stdin, line: &mut [u8]) -> Input
     requires { longest ≤ length line.old }
     ensures { LineRead line.new result }
 {
-    let start = input::begin();
+    let start = input::begin(stdin);
     let mut past = start;
     let mut count: usize = 0;
     let mut turns: usize = 0;

@@ -3,21 +3,23 @@
 ghost use Rattle.std.specs.Prelude.{◌≡◌, ◌≤◌, length, take};
 ghost use Rattle.streams.specs.Streams.{Opened, Written};
 
-use libc::STDOUT_FILENO;
+use std::io::{Stdout, Write};
 use std::num::wrapping_add_usize;
 
-// Where writing stands: how many bytes were handed over (modulo 2^64), and whether all of them were taken.
+// Where writing stands: the handle that it writes by, how many bytes were handed over (modulo 2^64), and whether all of them were taken.
 #[derive(Clone, Copy)]
 pub struct Output {
+    stdout: Stdout,
     handed: usize,
     taken: bool,
 }
 
 // Before the first part.
-pub fn begin() -> Output
+pub fn begin(stdout: Stdout) -> Output
     ensures { Opened result }
 {
     Output {
+        stdout,
         handed: 0,
         taken: true,
     }
@@ -27,12 +29,18 @@ pub fn begin() -> Output
 pub fn write(past: Output, text: &[u8]) -> Output
     ensures { Written past text.now result }
 {
-    let taken = io::write_all(STDOUT_FILENO, text);
+    let mut stdout = past.stdout;
+    let taken = stdout.write_all(text).is_ok();
     let handed = wrapping_add_usize(past.handed, text.len());
     if past.taken {
-        return Output { handed, taken };
+        return Output {
+            stdout,
+            handed,
+            taken,
+        };
     }
     Output {
+        stdout,
         handed,
         taken: false,
     }

@@ -4,21 +4,27 @@ ghost use Rattle.std.specs.Prelude.{◌≡◌};
 
 use crate::output;
 use crate::output::Output;
-use libc::STDERR_FILENO;
+use std::io::{Stderr, Write};
 
 // That the line was refused, after the refusal was printed; the wrapper keeps the word to itself.
-pub fn say_refused()
+pub fn say_refused(stderr: Stderr)
     ensures { result ≡ tt }
 {
-    io::write_all(STDERR_FILENO, b"refused\n");
+    say(stderr, b"refused\n");
 }
 
 // That the output could not be written, where it could not, after the program's name.
-pub fn say_if_not_written(name: &[u8], done: Output)
+pub fn say_if_not_written(stderr: Stderr, name: &[u8], done: Output)
     ensures { result ≡ tt }
 {
     if !output::taken(done) {
-        io::write_all(STDERR_FILENO, name);
-        io::write_all(STDERR_FILENO, b": could not be written\n");
+        say(stderr, name);
+        say(stderr, b": could not be written\n");
     }
+}
+
+// Writes to standard error; where that fails, nobody is left to be told.
+fn say(stderr: Stderr, text: &[u8]) {
+    let mut to = stderr;
+    let _ = to.write_all(text);
 }

@@ -2,7 +2,6 @@
 use mathlib.Core.Path.{sym, ap, ◌∙◌}
 use Rattle.layout.specs.Parts.{found_outcome}
 use Rattle.layout_reading.proofs.Calls.{asked_of, finding_refused, finding_given}
-use borrow.Author.Rules.{rules}
 use Rattle.layout_reading.proofs.find_key.Goals as goal
 
 pub find-requires : goal.find-requires

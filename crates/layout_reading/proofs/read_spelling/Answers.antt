@@ -2,7 +2,6 @@
 use mathlib.Core.Path.{sym, ap, ◌∙◌}
 use Rattle.layout.specs.Parts.{found_outcome}
 use Rattle.layout_reading.proofs.Calls.{asked_of, reading_refused, reading_given}
-use borrow.Author.Rules.{rules}
 use Rattle.layout_reading.proofs.read_spelling.Goals as goal
 
 pub read-requires : goal.read-requires

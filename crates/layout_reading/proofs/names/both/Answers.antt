@@ -2,7 +2,6 @@
 use mathlib.Core.Path.{sym, ap, ◌∙◌}
 use Rattle.layout_reading.specs.Parts.{typed_outcome}
 use Rattle.layout_reading.proofs.Calls.{both_many, first_refused, second_refused, both_given}
-use borrow.Author.Rules.{rules}
 use Rattle.layout_reading.proofs.names.both.Goals as goal
 
 pub returns-then-cycles-stars : goal.returns-then-cycles-stars

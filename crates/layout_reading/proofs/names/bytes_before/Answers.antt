@@ -1,7 +1,5 @@
-use Prim.Native.Nat.{◌-◌}
 use native.Mathlib.Omega.{arith}
-use lib.ListN.{length}
-use Rattle.layout_reading.proofs.Texts.{Seeking, seeking_start, seeking_more, seek_finds, seek_ends}
+use Rattle.layout_reading.proofs.Texts.{seeking_start, seeking_more, seek_finds, seek_ends}
 use Rattle.layout_reading.proofs.names.bytes_before.Goals as goal
 
 pub loop-place-init : goal.loop-place-init

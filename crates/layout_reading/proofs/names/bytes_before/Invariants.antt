@@ -1,8 +1,7 @@
 -- The place is that of the rest, with what was passed.
 use Prim.Native.Nat.{◌-◌}
-use native.Mathlib.Omega.{arith}
 use lib.ListN.{length}
-use Rattle.layout_reading.proofs.Texts.{Seeking, seeking_start, seeking_more, seek_finds, seek_ends}
+use Rattle.layout_reading.proofs.Texts.{Seeking}
 use Rattle.layout_reading.proofs.names.bytes_before.Given as goal
 
 abbrev pub invariant-loop-place : goal.invariant-loop-place

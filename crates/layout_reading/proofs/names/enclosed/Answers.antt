@@ -2,7 +2,6 @@
 use native.Mathlib.Omega.{arith}
 use Rattle.layout_reading.proofs.Texts.{behind_front}
 use Rattle.layout_reading.proofs.Calls.{unclosed, unopened, not_all_stars, opened}
-use borrow.Author.Rules.{rules}
 use Rattle.layout_reading.proofs.names.enclosed.Goals as goal
 
 pub returns-then-text-close : goal.returns-then-text-close

@@ -2,7 +2,6 @@
 use mathlib.Core.Path.{sym, ap, ◌∙◌}
 use Rattle.layout_reading.specs.Answers.{spelling_outcome}
 use Rattle.layout_reading.proofs.Calls.{find_enclosed, find_slashed, find_refused, find_single}
-use borrow.Author.Rules.{rules}
 use Rattle.layout_reading.proofs.names.find.Goals as goal
 
 pub returns-then-cycles-gt1 : goal.returns-then-cycles-gt1

@@ -1,7 +1,6 @@
 -- At the difference of the sides.
 use Rattle.layout.proofs.Finding.{laid}
 use Rattle.layout_reading.proofs.Keys.{key_is}
-use borrow.Author.Rules.{rules}
 use Rattle.layout_reading.proofs.names.key_of.Goals as goal
 
 pub sounded-requires : goal.sounded-requires

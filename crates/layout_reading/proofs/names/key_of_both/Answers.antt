@@ -2,7 +2,6 @@
 use mathlib.Core.Path.{ap, ◌∙◌}
 use Rattle.layout.specs.Names.{key_of}
 use Rattle.layout_reading.proofs.Keys.{same_key, two_keys}
-use borrow.Author.Rules.{rules}
 use Rattle.layout_reading.proofs.names.key_of_both.Goals as goal
 
 pub returns-then-one-other : goal.returns-then-one-other

@@ -2,7 +2,6 @@
 use mathlib.Core.Path.{sym}
 use lib.Seq.{length-take-le}
 use Rattle.layout_reading.proofs.Calls.{no_slash, slash}
-use borrow.Author.Rules.{rules}
 use Rattle.layout_reading.proofs.names.slashed.Goals as goal
 
 pub returns-then-text-slash : goal.returns-then-text-slash

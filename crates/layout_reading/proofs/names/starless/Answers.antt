@@ -2,7 +2,6 @@
 use mathlib.Core.Path.{sym, ap, ◌∙◌}
 use Rattle.layout_reading.specs.Parts.{typed_outcome}
 use Rattle.layout_reading.proofs.Calls.{starless_given, starless_refused, starless_starred}
-use borrow.Author.Rules.{rules}
 use Rattle.layout_reading.proofs.names.starless.Goals as goal
 
 pub returns-then-t-eq0 : goal.returns-then-t-eq0

@@ -1,10 +1,7 @@
-use Prim.Native.Nat.{◌≤◌, ◌-◌}
 use native.Mathlib.Nat.{not-suc-le-zero}
 use native.Mathlib.Omega.{arith}
-use borrow.Author.Rules.{rules}
-use Rattle.genchain.specs.Chains.{letters_in}
 use Rattle.genchain.proofs.TableRows.{row_count_small}
-use Rattle.layout_reading.proofs.WholeTexts.{Passed, front_found, passed_more, front_none}
+use Rattle.layout_reading.proofs.WholeTexts.{front_found, passed_more, front_none}
 use Rattle.layout_reading.proofs.spellings.letter_in_front.Goals as goal
 
 pub overflow_cast-count : goal.overflow_cast-count

@@ -1,6 +1,5 @@
 -- One of the two runs is empty.
 use Rattle.layout_reading.proofs.WholeTexts.{marks_inside, marks_found}
-use borrow.Author.Rules.{rules}
 use Rattle.layout_reading.proofs.spellings.marks_from.Goals as goal
 
 pub run-stars-requires : goal.run-stars-requires

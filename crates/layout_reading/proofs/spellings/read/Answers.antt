@@ -2,7 +2,6 @@
 use mathlib.Core.Path.{sym, ap, ◌∙◌}
 use Rattle.layout_reading.specs.Parts.{typed_outcome}
 use Rattle.layout_reading.proofs.Calls.{read_many, read_refused, read_given}
-use borrow.Author.Rules.{rules}
 use Rattle.layout_reading.proofs.spellings.read.Goals as goal
 
 pub returns-then-cycles-stars : goal.returns-then-cycles-stars

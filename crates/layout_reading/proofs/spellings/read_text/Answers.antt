@@ -2,7 +2,6 @@
 use native.Mathlib.Omega.{arith}
 use Rattle.genchain.proofs.TableRows.{length_letters_in}
 use Rattle.layout_reading.proofs.WholeTexts.{no_letter, left_over, too_many, read_sharps, read_flats}
-use borrow.Author.Rules.{rules}
 use Rattle.layout_reading.proofs.spellings.read_text.Goals as goal
 
 pub returns-then-row-index : goal.returns-then-row-index

@@ -1,7 +1,5 @@
-use Prim.Native.Nat.{◌-◌}
 use native.Mathlib.Omega.{arith}
-use lib.ListN.{length}
-use Rattle.layout_reading.proofs.Texts.{Running, running_start, running_more, run_stops, run_ends}
+use Rattle.layout_reading.proofs.Texts.{running_start, running_more, run_stops, run_ends}
 use Rattle.layout_reading.proofs.spellings.run.Goals as goal
 
 pub loop-place-init : goal.loop-place-init

@@ -1,8 +1,7 @@
 -- What stands from the place on is counted with what was passed.
 use Prim.Native.Nat.{◌-◌}
-use native.Mathlib.Omega.{arith}
 use lib.ListN.{length}
-use Rattle.layout_reading.proofs.Texts.{Running, running_start, running_more, run_stops, run_ends}
+use Rattle.layout_reading.proofs.Texts.{Running}
 use Rattle.layout_reading.proofs.spellings.run.Given as goal
 
 abbrev pub invariant-loop-place : goal.invariant-loop-place

@@ -1,6 +1,5 @@
 -- One byte is compared, or two.
 use Rattle.layout_reading.proofs.FrontLetters.{starts_one_short, starts_one, starts_two_short, starts_two_not, starts_two}
-use borrow.Author.Rules.{rules}
 use Rattle.layout_reading.proofs.spellings.starts.Goals as goal
 
 pub returns-then-text-lt1 : goal.returns-then-text-lt1

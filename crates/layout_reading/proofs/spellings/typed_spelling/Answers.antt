@@ -1,6 +1,5 @@
 -- With the chain's letters and the layout's signs.
 use Rattle.layout_reading.proofs.Calls.{row_asked, typed_in_lem}
-use borrow.Author.Rules.{rules}
 use Rattle.layout_reading.proofs.spellings.typed_spelling.Goals as goal
 
 pub read_text-requires : goal.read_text-requires
