@@ -4,8 +4,6 @@ use mathlib.Core.Path.{sym, ap, ◌∙◌}
 use native.Mathlib.Omega.{arith}
 use Rattle.genchain.specs.Chains.{chain_of}
 use Rattle.genchain.proofs.Calls.{is_chain, is_none, generator_no_chain, generator_no_octave, generator_by_chain, chains_of_fifths}
-use borrow.Author.Tests.{not-true, not-false}
-use borrow.Author.Rules.{rules}
 use Rattle.genchain.proofs.generator.Goals as goal
 
 pub returns-then-not-is_chain : goal.returns-then-not-is_chain

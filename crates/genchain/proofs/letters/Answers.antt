@@ -7,7 +7,6 @@ use Rattle.text.proofs.Writing.{wrote_as, filled_given}
 use Rattle.answer.proofs.Lent.{filled_refused}
 use Rattle.genchain.proofs.TableRows.{table_row, row_count, row_letters, length_letters_in}
 use Rattle.genchain.proofs.Calls.{is_chain, is_none, letters_no_chain, letters_not_held, letters_held}
-use borrow.Author.Rules.{rules}
 use Rattle.genchain.proofs.letters.Goals as goal
 
 pub returns-then-out-count : goal.returns-then-out-count

@@ -3,7 +3,6 @@ use mathlib.Core.Path.{refl, sym}
 use Rattle.answer.proofs.Lent.{filled_refused}
 use Rattle.genchain.proofs.Calls.{is_chain, is_none, name_no_chain, name_by_chain}
 use Rattle.genchain.proofs.TextTable.{texts_at}
-use borrow.Author.Tests.{not-true, not-false}
 use borrow.Author.Rules.{rules}
 use Rattle.genchain.proofs.name.Goals as goal
 

@@ -3,7 +3,6 @@ use mathlib.Core.Path.{ap, ◌∙◌}
 use lib.ListN.{length}
 use Rattle.genchain.proofs.Calls.{is_chain, is_none, name_length_no_chain, name_length_given}
 use Rattle.genchain.proofs.TextTable.{texts_at}
-use borrow.Author.Tests.{not-true, not-false}
 use borrow.Author.Rules.{rules}
 use Rattle.genchain.proofs.name_len.Goals as goal
 

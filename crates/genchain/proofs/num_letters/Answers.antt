@@ -1,6 +1,5 @@
 -- Question 1, then the row's number.
 use Rattle.genchain.proofs.Calls.{is_chain, is_none, count_no_chain, count_given}
-use borrow.Author.Rules.{rules}
 use Rattle.genchain.proofs.num_letters.Goals as goal
 
 pub returns-then-is_chain : goal.returns-then-is_chain

@@ -1,6 +1,5 @@
 -- Question 1, then the row's start.
 use Rattle.genchain.proofs.Calls.{is_chain, is_none, start_no_chain, start_given}
-use borrow.Author.Rules.{rules}
 use Rattle.genchain.proofs.start.Goals as goal
 
 pub returns-then-is_chain : goal.returns-then-is_chain

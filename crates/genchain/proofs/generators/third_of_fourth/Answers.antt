@@ -2,7 +2,6 @@
 use Prim.Native.Nat.{◌*◌}
 use native.Mathlib.Omega.{arith}
 use borrow.Author.Tests.{le-leb, lt-leb, eq-eqb, ne_eqb}
-use borrow.Author.Rules.{rules}
 use Rattle.genchain.proofs.generators.third_of_fourth.Goals as goal
 
 pub returns-then-octave-gt32767 : goal.returns-then-octave-gt32767

@@ -8,7 +8,6 @@ use Rattle.answer.proofs.Lent.{held, not_held, filled_refused}
 use Rattle.text.proofs.Writing.{wrote_as, filled_given}
 use Rattle.genchain.specs.Texts.{text_at}
 use Rattle.genchain.proofs.TextTable.{row_count, row_small, row_size, row_text}
-use borrow.Author.Rules.{rules}
 use Rattle.genchain.proofs.names.fill.Goals as goal
 
 pub returns-then-out-count : goal.returns-then-out-count

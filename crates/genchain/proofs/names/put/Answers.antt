@@ -5,7 +5,6 @@ use lib.ListN.{length}
 use lib.Seq.{length-take-le}
 use Rattle.text.proofs.Writing.{wrote_as}
 use Rattle.genchain.proofs.TextTable.{row_small, row_size, row_text}
-use borrow.Author.Rules.{rules}
 use Rattle.genchain.proofs.names.put.Goals as goal
 
 pub slice_bounds-text-end : goal.slice_bounds-text-end

@@ -1,6 +1,5 @@
 -- The length in the row.
 use Rattle.genchain.proofs.TextTable.{row_count}
-use borrow.Author.Rules.{rules}
 use Rattle.genchain.proofs.names.text_len.Goals as goal
 
 pub returns : goal.returns

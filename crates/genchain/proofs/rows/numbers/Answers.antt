@@ -6,7 +6,6 @@ use Rattle.genchain.specs.declared.rows.ChainRow.{ChainRow}
 use Rattle.genchain.specs.Chains.{chains, no_chain, row_of}
 use Rattle.genchain.proofs.TableRows.{row_at, numbers_at}
 use Rattle.genchain.proofs.Calls.{row_of_none}
-use borrow.Author.Rules.{rules}
 use Rattle.genchain.proofs.rows.numbers.Goals as goal
 
 pub returns-in-0 : goal.returns-in-0

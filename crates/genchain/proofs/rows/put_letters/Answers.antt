@@ -1,9 +1,7 @@
-use mathlib.Core.Path.{◌≡◌, refl}
-use Prim.Native.Nat.{◌+◌, ◌≤◌, ◌-◌}
+use mathlib.Core.Path.{refl}
 use native.Mathlib.Omega.{arith}
 use native.Mathlib.Nat.{le_antisymm}
-use lib.ListN.{length, take, length-set}
-use Rattle.text.specs.Writing.{Wrote}
+use lib.ListN.{length-set}
 use Rattle.text.proofs.Copying.{copy_start, copy_more}
 use Rattle.genchain.specs.Chains.{letters_in}
 use Rattle.genchain.proofs.TableRows.{row_length, row_count_small, length_letters_in}

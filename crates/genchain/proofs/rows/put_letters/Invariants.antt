@@ -1,13 +1,8 @@
 -- After `place` turns, so many of the row's letters stand at the front.
-use mathlib.Core.Path.{◌≡◌, refl}
-use Prim.Native.Nat.{◌+◌, ◌≤◌, ◌-◌}
-use native.Mathlib.Omega.{arith}
-use native.Mathlib.Nat.{le_antisymm}
-use lib.ListN.{length, take, length-set}
+use mathlib.Core.Path.{◌≡◌}
+use Prim.Native.Nat.{◌≤◌, ◌-◌}
+use lib.ListN.{length, take}
 use Rattle.text.specs.Writing.{Wrote}
-use Rattle.text.proofs.Copying.{copy_start, copy_more}
-use Rattle.genchain.specs.Chains.{letters_in}
-use Rattle.genchain.proofs.TableRows.{row_length, row_count_small, length_letters_in}
 use Rattle.genchain.proofs.rows.put_letters.Given as goal
 
 abbrev pub invariant-loop-place : goal.invariant-loop-place

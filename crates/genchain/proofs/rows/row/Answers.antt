@@ -3,7 +3,6 @@ use mathlib.Core.Path.{refl}
 use Rattle.genchain.specs.Chains.{chains, row_of}
 use Rattle.genchain.proofs.TableRows.{row_at}
 use Rattle.genchain.proofs.Calls.{is_chain, is_none, row_of_none}
-use borrow.Author.Rules.{rules}
 use Rattle.genchain.proofs.rows.row.Goals as goal
 
 pub bounds-code-code : goal.bounds-code-code
