@@ -14,7 +14,7 @@ use Rattle.edo_tritaves.specs.Tritaves.{tritave, second_choice, choices_of}
 use Rattle.edo_tritaves.proofs.Choosing.{no_steps, too_many, tritaves_given}
 use Rattle.edo_layouts.specs.declared.EdoLayout.{EdoLayout}
 use Rattle.edo_layouts.specs.Layouts.{edo_layout, tried, chain_served, chain_outcome}
-use Rattle.edo_layouts.specs.Theorems.{Served, NoFirst, Chosen, LayoutsAreChosen}
+use Rattle.edo_layouts.specs.Theorems.{Served, Chosen, LayoutsAreChosen}
 use Rattle.edo_layouts.proofs.Serving.{tried_given, tried_refused, else_given, else_refused, served_first, no_second, served_second, chain_refused, chain_served_lem}
 
 no_both : {A : Type 0} {a : A} {q : ℕ} → refused q ≡ given a → ⊥

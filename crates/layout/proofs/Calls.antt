@@ -10,7 +10,7 @@ use Rattle.genchain.specs.declared.rows.ChainRow.{ChainRow}
 use Rattle.genchain.specs.Chains.{chain_of, row_of}
 use Rattle.math.specs.Division.{remainder}
 use Rattle.notes.specs.Names.{name_text}
-use Rattle.notes.specs.Parts.{plan_text, Measured}
+use Rattle.notes.specs.Parts.{plan_text}
 use Rattle.notes.specs.declared.plans.NamePlan.{NamePlan}
 use Rattle.pergen.specs.declared.Accidentals.{Accidentals}
 use Rattle.pergen.specs.declared.stepping.Key.{Key}

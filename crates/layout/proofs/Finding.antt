@@ -8,8 +8,7 @@ use borrow.Author.Tests.{ltb-true, leb-true}
 use Rattle.answer.specs.Outcome.{Outcome, given, refused, ask, and_then}
 use Rattle.answer.proofs.Questions.{ask_above, ask_below}
 use Rattle.answer.proofs.Asked.{given_same, asked_yes, asked_rest}
-use Rattle.genchain.specs.declared.rows.ChainRow.{ChainRow}
-use Rattle.genchain.specs.Chains.{chain_of, row_of}
+use Rattle.genchain.specs.Chains.{chain_of}
 use Rattle.genchain.specs.Answers.{generator_outcome}
 use Rattle.genchain.proofs.GoodChains.{chains_are_good}
 use Rattle.mos.specs.declared.Mos.{Mos}

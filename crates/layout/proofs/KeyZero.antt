@@ -1,5 +1,5 @@
 -- Key 0 is the letter at the start: its degree is 0, so both coordinates stay among the letters, and both spellings are that letter.
-use Prim.Native.Nat.{ℕ, ◌+◌, ◌*◌, ◌-◌, ◌/◌, ◌%◌, ◌≤◌, ◌<◌}
+use Prim.Native.Nat.{ℕ, ◌*◌, ◌-◌, ◌/◌, ◌%◌, ◌≤◌, ◌<◌}
 use mathlib.Core.Path.{◌≡◌, refl, sym, ap, ap₂, ◌∙◌}
 use mathlib.Core.Bool.{Bool}
 use mathlib.Core.List.{List, ◌++◌, append-nil}
@@ -20,7 +20,7 @@ use Rattle.pergen.proofs.CarriedWalk.{degree_start}
 use Rattle.pergen.proofs.DegreePlaces.{stars_are}
 use Rattle.pergen.proofs.Indices.{sharp_first_lem, flat_inside, accidentals_high}
 use Rattle.pergen.proofs.Keys.{keys_from_zero_on}
-use Rattle.layout.specs.Layouts.{Layout, reduced_in, accidentals_in, sharp_first}
+use Rattle.layout.specs.Layouts.{reduced_in, accidentals_in, sharp_first}
 use Rattle.layout.specs.Names.{name_in, cycle_in}
 use Rattle.layout.specs.Theorems.{KeyZeroIsTheStart}
 use Rattle.layout.proofs.Finding.{accepted}

@@ -20,8 +20,8 @@ use Rattle.notes.proofs.OneSpelling.{equal_names_have_one_first_spelling}
 use Rattle.pergen.specs.declared.Cycle.{Cycle}
 use Rattle.pergen.specs.declared.Accidentals.{Accidentals}
 use Rattle.pergen.specs.declared.Spelling.{Spelling}
-use Rattle.pergen.specs.Pergen.{cycles, shown, key_degree, key_cycle, cycle_of}
-use Rattle.pergen.specs.Spelling.{accidentals_of, key_accidentals, place, sounds, sounded_key, stars_of, sharp_spelling, flat_spelling}
+use Rattle.pergen.specs.Pergen.{shown, key_degree, key_cycle, cycle_of}
+use Rattle.pergen.specs.Spelling.{accidentals_of, key_accidentals, place, sounds, stars_of, sharp_spelling, flat_spelling}
 use Rattle.pergen.proofs.Keys.{spellings_of_one_key, degree_and_cycle_tell_keys_apart, key_cycle_below}
 use Rattle.pergen.proofs.DegreePlaces.{accidentals_sound_their_key, cycle_kept, stars_are}
 use Rattle.layout.specs.Layouts.{Layout, cycles_in, reduced_in, accidentals_in, sharp_first}

@@ -1,5 +1,5 @@
 -- The extended Euclid of an accepted layout comes by the steps of its pattern: they are what the chain's generators leave (`Chain`).
-use Prim.Native.Nat.{ℕ, ◌*◌, ◌+◌, ◌%◌, ◌≤◌}
+use Prim.Native.Nat.{ℕ, ◌+◌, ◌%◌, ◌≤◌}
 use mathlib.Core.Path.{ap, ◌∙◌}
 use native.Mathlib.Nat.{mul_comm, zero-mod}
 use native.Mathlib.Omega.{arith}

@@ -16,7 +16,7 @@ use Rattle.layout_layers.specs.KeyLayers.{entry_count}
 use Rattle.layout_layers.specs.Parts.{PlanOf, total_of, plan_layers}
 use Rattle.layout_layers.proofs.PlanLaws.{count_is, layers_are}
 use Rattle.layout_layers.proofs.Theorems.{entries_are_counted}
-use Rattle.layout_lamps.specs.Lamps.{lamp_of, lamp_in, strip_in}
+use Rattle.layout_lamps.specs.Lamps.{lamp_in, strip_in}
 use Rattle.layout_lamps.specs.Answers.{get_strip, get_lamp}
 use Rattle.layout_lamps.specs.Parts.{plan_strip}
 use Rattle.layout_lamps.proofs.StripLaws.{strip_is}

@@ -20,7 +20,6 @@ use Rattle.pergen.specs.Pergen.{cycle}
 use Rattle.mos_layers.specs.Layers.{layer_sizes}
 use Rattle.layout.specs.declared.IsomorphicLayout.{IsomorphicLayout}
 use Rattle.layout.specs.Layouts.{Layout, Accepted, cycles_in}
-use Rattle.layout_layers.specs.declared.Layer.{Layer}
 use Rattle.layout_layers.specs.declared.Layer.TheVariants.{Natural, Sharp, Enharmonic, Flat}
 use Rattle.layout_layers.specs.declared.parts.Plan.{Plan}
 use Rattle.layout_layers.specs.KeyLayers.{equalized, layer_count, kind_of, number_in, count_in}

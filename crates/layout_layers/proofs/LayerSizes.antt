@@ -1,9 +1,9 @@
 -- The five numbers tell the sizes of the definition: the longer step's count is left over in the layers that are not full, the sharp layers
 -- in reverse are those runs in reverse, and all sizes together are the pattern's size.
 use Prim.Native.Nat.{ℕ, suc, ◌+◌, ◌*◌, ◌-◌, ◌/◌, ◌%◌, ◌≤◌, ◌<◌}
-use mathlib.Core.Path.{◌≡◌, refl, sym, ap, ap₂, subst, ◌∙◌}
+use mathlib.Core.Path.{◌≡◌, refl, sym, ap, ap₂, ◌∙◌}
 use mathlib.Core.List.{List, ◌∷◌, ◌++◌, append-nil, reverse}
-use native.Mathlib.Nat.{mul-one, mul_comm, mul-le-mul_left, min-eq_left, min-eq_right, sub-eq-zero_of_le, le_of_lt}
+use native.Mathlib.Nat.{mul-one, mul_comm, mul-le-mul_left, min-eq_left, min-eq_right, sub-eq-zero_of_le}
 use native.Mathlib.Omega.{arith}
 use lib.ListN.{replicate}
 use Rattle.mos_layers.specs.Layers.{holding, sharps, all_sizes}

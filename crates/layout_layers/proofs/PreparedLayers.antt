@@ -1,18 +1,16 @@
 -- The layers of a prepared layout, by what the code computes: their sizes, the layer of a key, and how many numbers there are.
-use Prim.Native.Nat.{ℕ, ◌+◌, ◌*◌, ◌-◌, ◌/◌, ◌%◌, ◌≤◌, ◌<◌}
-use mathlib.Core.Path.{◌≡◌, refl, sym, ap, ap₂, subst, ◌∙◌}
-use mathlib.Core.Bool.{Bool, true, false}
+use Prim.Native.Nat.{ℕ, ◌+◌, ◌*◌, ◌/◌, ◌%◌, ◌≤◌, ◌<◌}
+use mathlib.Core.Path.{◌≡◌, sym, ap, ap₂, subst, ◌∙◌}
+use mathlib.Core.Bool.{true, false}
 use mathlib.Core.List.{List}
 use native.Mathlib.Nat.{one-mul, le_of_dvd, le-div_iff_mul-le, mod-lt}
 use native.Mathlib.Omega.{arith}
 use lib.ListN.{length, get_or}
-use lib.Dec.{eqb}
 use borrow.Author.Tests.{eq-eqb, ne_eqb}
-use Rattle.answer.specs.Choice.{pick}
 use Rattle.math.proofs.Gcd.{gcd_or_one_positive, gcd_or_one_left, gcd_or_one_right}
 use Rattle.mos.specs.declared.Mos.{Mos}
 use Rattle.mos.specs.Patterns.{primaries, secondaries, primary, secondary, cycles_of}
-use Rattle.pergen.specs.Pergen.{cycles, reduced, degree, cycle}
+use Rattle.pergen.specs.Pergen.{degree, cycle}
 use Rattle.pergen.specs.Parts.{At, solved_of}
 use Rattle.pergen.specs.declared.euclid.Solved.{Solved}
 use Rattle.pergen.specs.declared.stepping.Key.{Key}
@@ -25,7 +23,7 @@ use Rattle.layout.specs.declared.prepared.Prepared.{Prepared}
 use Rattle.layout.proofs.PatternShape.{PatternShape, pattern_shape}
 use Rattle.layout.proofs.Readiness.{parts_ready, ready_walkable, key_degree_lem, key_cycle_lem}
 use Rattle.layout_layers.specs.declared.keys.Sizes.{Sizes}
-use Rattle.layout_layers.specs.KeyLayers.{equalized, alternating, alternate_layer, listed_layer, layer_of, layer_number, layer_count, layer_in, number_in, count_in}
+use Rattle.layout_layers.specs.KeyLayers.{equalized, alternate_layer, listed_layer, layer_of, layer_number, layer_count, layer_in, number_in, count_in}
 use Rattle.layout_layers.specs.Parts.{sizes_in, Countable, SizesOf, layer_at, alternate_in}
 use Rattle.layout_layers.proofs.Theorems.{counts_fit, numbers_are_below}
 

@@ -1,6 +1,6 @@
 -- From a prepared layout to the plan of its layers, and from the plan's numbers to the layout's.
 use Prim.Native.Nat.{ℕ, ◌*◌, ◌/◌, ◌%◌, ◌≤◌, ◌<◌}
-use mathlib.Core.Path.{◌≡◌, sym, ap, ap₂, ◌∙◌}
+use mathlib.Core.Path.{◌≡◌, sym, ap, ◌∙◌}
 use mathlib.Core.Bool.{Bool, true, false}
 use native.Mathlib.Omega.{arith}
 use lib.Dec.{eqb}
@@ -12,21 +12,20 @@ use Rattle.math.specs.Division.{remainder}
 use Rattle.math.proofs.Division.{remainder_below}
 use Rattle.mos.specs.declared.Mos.{Mos}
 use Rattle.mos.specs.Patterns.{primary, secondary}
-use Rattle.pergen.specs.Pergen.{cycles, degree, cycle}
+use Rattle.pergen.specs.Pergen.{degree, cycle}
 use Rattle.pergen.specs.Parts.{Walkable, At}
 use Rattle.pergen.specs.declared.stepping.Key.{Key}
-use Rattle.layout.specs.Layouts.{Layout, cycles_in, layout_outcome}
+use Rattle.layout.specs.Layouts.{cycles_in, layout_outcome}
 use Rattle.layout.specs.Parts.{Laid, layout_in, Ready}
 use Rattle.layout.specs.declared.IsomorphicLayout.{IsomorphicLayout}
 use Rattle.layout.specs.declared.prepared.Prepared.{Prepared}
 use Rattle.layout.proofs.Calls.{of_given}
 use Rattle.layout.proofs.Readiness.{parts_ready, found_twice, key_degree_lem, key_cycle_lem}
-use Rattle.layout_layers.specs.KeyLayers.{entry_count, layer_number, number_in, count_in}
+use Rattle.layout_layers.specs.KeyLayers.{entry_count, number_in}
 use Rattle.layout_layers.specs.Answers.{get_layer}
-use Rattle.layout_layers.specs.Parts.{inverse_of, Sound, PlanOf, plan_number, total_of}
+use Rattle.layout_layers.specs.Parts.{inverse_of, PlanOf}
 use Rattle.layout_layers.specs.declared.parts.Plan.{Plan}
-use Rattle.layout_layers.proofs.PlanLaws.{number_is, count_is}
-use Rattle.layout_layers.proofs.Calls.{cycles_given, inverse_given}
+use Rattle.layout_layers.proofs.Calls.{cycles_given}
 
 -- ---- how many entries
 

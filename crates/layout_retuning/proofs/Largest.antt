@@ -14,7 +14,6 @@ use Rattle.answer.specs.Outcome.{Outcome, given, refused, and_then}
 use Rattle.answer.proofs.Asked.{given_same}
 use Rattle.text.specs.Writing.{joined}
 use Rattle.text.proofs.Joined.{joined_none, joined_more}
-use Rattle.pergen.specs.declared.Spelling.{Spelling}
 use Rattle.layout.specs.Layouts.{Layout, Accepted}
 use Rattle.layout_retuning.specs.Retunings.{first_of, second_of, move_table, largest}
 use Rattle.layout_retuning.specs.Answers.{moved_in, get_moved, get_move_table, get_largest_move}

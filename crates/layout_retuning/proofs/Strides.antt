@@ -1,9 +1,9 @@
 -- From an entry of the table to the next the place goes on by as many places as there are letters, or from a letter's last to the next
 -- letter's first by one, sixteen times as many back. A place further on sounds the key that is further on by what those places sound.
-use Prim.Native.Nat.{ℕ, suc, ◌+◌, ◌*◌, ◌/◌, ◌%◌, ◌≤◌, ◌<◌}
-use mathlib.Core.Path.{◌≡◌, refl, sym, ap, ap₂, ◌∙◌}
+use Prim.Native.Nat.{ℕ, ◌+◌, ◌*◌, ◌/◌, ◌%◌, ◌<◌}
+use mathlib.Core.Path.{◌≡◌, sym, ap, ap₂, ◌∙◌}
 use lib.IntN.{ℤ, pos, ◌+ℤ◌, ◌-ℤ◌, ◌*ℤ◌}
-use native.Mathlib.Nat.{mul-add, mod-lt}
+use native.Mathlib.Nat.{mul-add}
 use native.Mathlib.Omega.{arith}
 use Rattle.math.specs.Division.{remainder}
 use Rattle.math.proofs.Congruence.{add_cong}

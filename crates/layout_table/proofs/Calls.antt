@@ -1,25 +1,19 @@
 -- From what was asked to what the calls answer: one law for each way in which a call ends.
-use Prim.Native.Nat.{ℕ, ◌≤◌}
-use mathlib.Core.Path.{◌≡◌, refl, sym, ap, subst, ◌∙◌}
-use mathlib.Core.Bool.{◌&&◌}
+use Prim.Native.Nat.{ℕ}
+use mathlib.Core.Path.{◌≡◌, refl, sym, ap, ◌∙◌}
 use mathlib.Core.List.{List}
 use native.Mathlib.Nat.{zero-add}
-use native.Mathlib.Omega.{arith}
 use lib.ListN.{length}
-use borrow.Author.Tests.{leb-true}
 use Rattle.answer.specs.Outcome.{Outcome, given, refused, and_then}
 use Rattle.answer.specs.Lent.{held_in, in_room, counted}
-use Rattle.answer.proofs.Asked.{given_same, asked_yes, asked_rest, and_right}
 use Rattle.text.specs.Writing.{joined}
 use Rattle.text.proofs.Joined.{joined_same}
 use Rattle.layout.specs.declared.IsomorphicLayout.{IsomorphicLayout}
 use Rattle.layout.specs.Layouts.{Layout, layout_outcome}
 use Rattle.layout.specs.Names.{listed_name}
-use Rattle.layout.specs.Parts.{Laid}
 use Rattle.layout.proofs.Calls.{of_refused, of_given}
-use Rattle.layout.proofs.Finding.{octave_is}
 use Rattle.layout_lamps.specs.Lamps.{lamp_in}
-use Rattle.line.specs.Lines.{is_field, octave_at, tritave_at, is_line, space, line_feed, line_outcome}
+use Rattle.line.specs.Lines.{line_outcome}
 use Rattle.line.specs.declared.Line.{Line}
 use Rattle.layout_table.specs.Tables.{key_line, line_in, table_in, get_table, line_table, output}
 use Rattle.line.specs.LineLayouts.{layout_on, line_layout}

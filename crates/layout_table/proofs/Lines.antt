@@ -1,18 +1,16 @@
 -- A key's line: its length part by part, and the sum of the lines' lengths: all names, and all the rest.
-use Prim.Native.Nat.{ℕ, zero, suc, ◌+◌, ◌≤◌}
+use Prim.Native.Nat.{ℕ, zero, suc, ◌+◌}
 use mathlib.Core.Path.{◌≡◌, refl, ap, ap₂}
 use mathlib.Core.List.{List, [], ◌∷◌, ◌++◌}
 use native.Mathlib.Omega.{arith}
 use lib.ListN.{length, length-append}
 use Rattle.text.specs.Writing.{joined}
 use Rattle.text.specs.Decimal.{digits}
-use Rattle.text.proofs.Digits.{digits_length}
 use Rattle.line.specs.Lines.{space, line_feed}
 use Rattle.layout.specs.Layouts.{Layout}
 use Rattle.layout.specs.Names.{listed_name}
 use Rattle.layout_lamps.specs.Lamps.{lamp_in}
 use Rattle.layout_table.specs.Tables.{key_line, line_in}
-use Rattle.line.specs.Refusals.{refused_word, refusal_line}
 use Rattle.layout_table.specs.Parts.{numbers_in}
 
 -- ---- the length of a line

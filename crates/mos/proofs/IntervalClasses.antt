@@ -1,21 +1,18 @@
 -- k steps from place j, q of them secondary: j + k × b is q × N and the place reached. So q is the quotient of k × b by N, or one more
 -- where j and the remainder reach N; that remainder is above 0, since the round meets place 0 only once.
 use Prim.Native.Nat.{ℕ, zero, suc, ◌+◌, ◌*◌, ◌-◌, ◌/◌, ◌%◌, ◌≤◌, ◌<◌}
-use mathlib.Core.Path.{◌≡◌, refl, ap, ap₂, sym, subst, ◌∙◌}
+use mathlib.Core.Path.{◌≡◌, refl, ap, ap₂, sym, ◌∙◌}
 use mathlib.Core.Logic.{◌⊎◌, inl, inr}
-use mathlib.Core.Option.{some}
 use native.Mathlib.Nat.{mod-lt, mod-eq_of_lt, mod_self, mod-mod, div-add-mod', add-zero, zero-add, suc-mul}
 use native.Mathlib.Decide.{dec_lt}
 use native.Mathlib.Omega.{arith}
 use lib.Arith.{digits_div, digits_mod}
-use lib.ListN.{get_elem?}
 use Rattle.math.proofs.Congruence.{add_cong}
 use Rattle.mos.specs.declared.Mos.{Mos}
-use Rattle.mos.specs.Patterns.{secondaries, primary, secondary, count_of, genesis}
-use Rattle.mos.specs.Walks.{children}
-use Rattle.mos.specs.Scale.{key_of, above, step_above, place_above, interval, round, climbed, MomentOfSymmetry}
-use Rattle.mos.specs.IntervalClasses.{places_up, TwoSizes, LeadsOn, IntervalClassesHaveTwoSizes}
-use Rattle.mos.proofs.Scale.{Chain, chain_walk, Reached, reached, interval_leads, key_zero, moment_of_symmetry}
+use Rattle.mos.specs.Patterns.{secondaries, primary, secondary, count_of}
+use Rattle.mos.specs.Scale.{key_of, above, step_above, place_above, interval, round, climbed}
+use Rattle.mos.specs.IntervalClasses.{places_up, TwoSizes, IntervalClassesHaveTwoSizes}
+use Rattle.mos.proofs.Scale.{Chain, chain_walk, reached, interval_leads, key_zero, moment_of_symmetry}
 
 -- ---- the round goes on as it began
 

@@ -10,7 +10,7 @@ use Rattle.mos.specs.declared.Mos.{Mos}
 use Rattle.mos.specs.Patterns.{primaries, secondaries, primary, secondary, size_of, is_pattern, cycles_of, reduced_size_of}
 use Rattle.mos.proofs.Sizes.{pattern_fits}
 use Rattle.mos_layers.specs.Layers.{all_sizes, layer_sizes, layers_of}
-use Rattle.mos_layers.specs.Theorems.{sum, LayerSizesSum, LayersFillTheReducedSize, EnoughLayers}
+use Rattle.mos_layers.specs.Theorems.{LayerSizesSum, LayersFillTheReducedSize, EnoughLayers}
 use Rattle.mos_layers.proofs.Sizes.{sum_drop, length_numbered}
 use Rattle.mos_layers.proofs.Plans.{all_sum, all_within}
 

@@ -6,14 +6,14 @@ use mathlib.Core.List.{List}
 use lib.ListN.{length}
 use Rattle.answer.specs.Outcome.{Outcome, given, refused}
 use Rattle.answer.specs.Lent.{held_in, Filled}
-use Rattle.genchain.specs.Chains.{chain_of, row_of, TableRow, letters_in}
+use Rattle.genchain.specs.Chains.{chain_of, row_of, letters_in}
 use Rattle.genchain.specs.declared.rows.ChainRow.{ChainRow}
 use Rattle.genchain.proofs.TableRows.{table_row, row_letters}
 use Rattle.genchain.proofs.Calls.{no_chain_lem, some_chain}
 use Rattle.pergen.specs.declared.Accidentals.{Accidentals}
 use Rattle.notes.specs.Names.{name_text}
 use Rattle.notes.specs.Answers.{chain_name, name_length_outcome, name_outcome}
-use Rattle.notes.specs.Parts.{plan_text, Planned, Measured}
+use Rattle.notes.specs.Parts.{plan_text, Planned}
 use Rattle.notes.specs.declared.plans.NamePlan.{NamePlan}
 
 module _ (code : ℕ) (sf : Bool) (a : Accidentals) where

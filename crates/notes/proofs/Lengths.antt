@@ -1,9 +1,9 @@
 -- How long the texts of a plan are, part by part, and which part is printed.
-use Prim.Native.Nat.{ℕ, ◌+◌, ◌≤◌}
+use Prim.Native.Nat.{ℕ, ◌+◌}
 use mathlib.Core.Path.{◌≡◌, refl, ap, ◌∙◌}
 use mathlib.Core.List.{◌++◌}
 use native.Mathlib.Omega.{arith}
-use mathlib.Core.Bool.{Bool, true, false}
+use mathlib.Core.Bool.{true, false}
 use lib.ListN.{length, length-append, length-replicate}
 use Rattle.notes.specs.Names.{letter_text}
 use Rattle.notes.specs.Parts.{mark_text, two_text, parenthesis_text, bracketed_text, body_text, starred_text, plan_text}

@@ -1,10 +1,10 @@
 -- Equal names have one first spelling: the reader finds it in the bytes, and a chain has each letter once.
-use Prim.Native.Nat.{ℕ, ◌<◌, ◌*◌}
+use Prim.Native.Nat.{ℕ, ◌<◌}
 use native.Mathlib.Nat.{mul-zero}
-use mathlib.Core.Path.{◌≡◌, refl, sym, ap, ◌∙◌}
+use mathlib.Core.Path.{◌≡◌, sym, ap, ◌∙◌}
 use mathlib.Core.Bool.{Bool}
-use mathlib.Core.Logic.{◌⊎◌, inl, inr}
-use lib.IntN.{ℤ, pos, neg_ℤ, ◌+ℤ◌, ◌-ℤ◌, ◌*ℤ◌}
+use mathlib.Core.Logic.{inl, inr}
+use lib.IntN.{pos, neg_ℤ, ◌*ℤ◌}
 use lib.ListN.{length}
 use Rattle.genchain.specs.Chains.{chain_of}
 use Rattle.pergen.specs.Spelling.{shift, place, sharp_spelling, flat_spelling}
@@ -12,7 +12,7 @@ use Rattle.pergen.specs.declared.Accidentals.{Accidentals}
 use Rattle.pergen.specs.declared.Signs.{Signs}
 use Rattle.pergen.specs.declared.Signs.TheVariants.{Sharps, Flats}
 use Rattle.pergen.specs.declared.Spelling.{Spelling}
-use Rattle.notes.specs.Names.{letter_at, first_printed}
+use Rattle.notes.specs.Names.{first_printed}
 use Rattle.notes.specs.Reading.{Reading, read_name, sharps_in, flats_in, reading_of}
 use Rattle.notes.specs.Theorems.{Lettered, SameSpelling, EqualNamesHaveOneFirstSpelling}
 use Rattle.notes.proofs.RowLetters.{chain_place_lem}

@@ -1,16 +1,16 @@
 -- A plan's text is the name: one law for each way in which the plan is made; and how long a name can be.
 use Prim.Native.Nat.{ℕ, ◌+◌, ◌≤◌, ◌<◌}
-use mathlib.Core.Path.{◌≡◌, refl, sym, ap, ◌∙◌, subst}
+use mathlib.Core.Path.{◌≡◌, refl, ap, ◌∙◌}
 use mathlib.Core.Bool.{Bool, true, false}
 use mathlib.Core.List.{List, [], ◌∷◌, ◌++◌, append-nil}
 use native.Mathlib.Omega.{arith}
-use lib.ListN.{length, replicate}
+use lib.ListN.{replicate}
 use Rattle.pergen.specs.Spelling.{stars_of, sharp_spelling, flat_spelling}
 use Rattle.pergen.specs.declared.Cycle.{Cycle}
 use Rattle.pergen.specs.declared.Cycle.TheVariants.{Absent, Number}
 use Rattle.pergen.specs.declared.Accidentals.{Accidentals}
 use Rattle.pergen.specs.declared.Spelling.{Spelling}
-use Rattle.notes.specs.Names.{letter_text, letter_at, sharp_sign, flat_sign, spelling_text, letter_alone, in_order, printed, in_parentheses, spellings_text, name_text}
+use Rattle.notes.specs.Names.{sharp_sign, flat_sign, spelling_text, letter_alone, in_order, printed, in_parentheses, name_text}
 use Rattle.notes.specs.Parts.{mark_text, two_text, parenthesis_text, bracketed_text, body_text, starred_text, plan_text, marked, is_present, one_plan, two_plan, LettersOf, ShortLetters, Planned}
 use Rattle.notes.specs.declared.plans.Mark.{Mark}
 use Rattle.notes.specs.declared.plans.NamePlan.{NamePlan}

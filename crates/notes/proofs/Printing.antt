@@ -3,7 +3,7 @@ use Prim.Native.Nat.{ℕ, ◌+◌, ◌≤◌, ◌<◌}
 use native.Mathlib.Nat.{add_comm, le_antisymm}
 use mathlib.Core.Path.{◌≡◌, refl, sym, ap, ◌∙◌}
 use mathlib.Core.Bool.{Bool, true, false}
-use mathlib.Core.Logic.{◌⊎◌, inl, inr, ⊎_elim}
+use mathlib.Core.Logic.{◌⊎◌, inl, inr}
 use mathlib.Core.List.Memᴰ
 use mathlib.Core.List.{List, [], ◌∷◌, Memᴰ}
 use native.Mathlib.Omega.{arith}
@@ -15,7 +15,7 @@ use Rattle.pergen.specs.Spelling.{stars_of, sharp_spelling, flat_spelling}
 use Rattle.pergen.specs.declared.Accidentals.{Accidentals}
 use Rattle.pergen.specs.declared.Spelling.{Spelling}
 use Rattle.notes.specs.Names.{signs_in, letter_alone, in_order, printed, first_printed}
-use Rattle.notes.specs.Theorems.{PrintedSpellings, SpellingsInANameAreTheKeys}
+use Rattle.notes.specs.Theorems.{SpellingsInANameAreTheKeys}
 
 -- ---- a letter alone
 

@@ -1,15 +1,14 @@
 -- Reading undoes writing: the reader finds the first printed spelling in a name's bytes, since no byte of a letter is a sign,
 -- a slash, a parenthesis or a star, and the byte behind the signs is no sign.
-use Prim.Native.Nat.{ℕ, zero, suc, ◌+◌, ◌-◌, ◌*◌, ◌/◌, ◌%◌, ◌<◌, ◌≤◌}
-use native.Mathlib.Nat.{zero-add, add-zero}
+use Prim.Native.Nat.{ℕ, zero, suc, ◌+◌, ◌/◌, ◌%◌, ◌<◌}
+use native.Mathlib.Nat.{zero-add}
 use native.Mathlib.Omega.{arith}
 use mathlib.Core.Path.{◌≡◌, refl, sym, ap, ◌∙◌}
 use mathlib.Core.Bool.{Bool, true, false}
-use mathlib.Core.Logic.{◌⊎◌, inl, inr}
+use mathlib.Core.Logic.{inl, inr}
 use mathlib.Core.List.{List, [], ◌∷◌, ◌++◌, append_assoc}
-use lib.Dec.{eqb, ltb}
-use lib.ListN.{length, replicate, get_or}
-use borrow.Author.Tests.{eq-eqb, ne_eqb, lt-ltb, le-ltb}
+use lib.ListN.{replicate, get_or}
+use borrow.Author.Tests.{ne_eqb, lt-ltb, le-ltb}
 use Rattle.genchain.specs.Chains.{chain_of}
 use Rattle.genchain.specs.Theorems.{IsLetter}
 use Rattle.pergen.specs.Spelling.{stars_of, sharp_spelling, flat_spelling}
@@ -19,10 +18,10 @@ use Rattle.pergen.specs.declared.Accidentals.{Accidentals}
 use Rattle.pergen.specs.declared.Signs.{Signs}
 use Rattle.pergen.specs.declared.Signs.TheVariants.{Sharps, Flats}
 use Rattle.pergen.specs.declared.Spelling.{Spelling}
-use Rattle.notes.specs.Names.{sharp_sign, flat_sign, signs_text, letter_text, letter_at, spelling_text, printed, first_printed, in_parentheses, spellings_text, name_text}
+use Rattle.notes.specs.Names.{sharp_sign, flat_sign, signs_text, letter_text, letter_at, spelling_text, first_printed, in_parentheses, spellings_text, name_text}
 use Rattle.notes.specs.Reading.{Reading, past_parenthesis, read_letter, past_letter, leading, count, read_name, sharps_in, flats_in, reading_of}
 use Rattle.notes.specs.Answers.{chain_name}
-use Rattle.notes.specs.Theorems.{Lettered, ReadingGivesTheFirstSpelling}
+use Rattle.notes.specs.Theorems.{ReadingGivesTheFirstSpelling}
 use Rattle.notes.proofs.Utf8.{letter_one, letter_two}
 use Rattle.notes.proofs.RowLetters.{chain_letter}
 use Rattle.notes.proofs.Printing.{Of, Printed, one, two, printed_view, stars_of_lem}

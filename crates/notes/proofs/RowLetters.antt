@@ -1,7 +1,7 @@
 -- A letter read from a row of the table is the chain's, and takes at most two bytes.
 use Prim.Native.Nat.{ℕ, zero, suc, ◌<◌, ◌≤◌}
-use mathlib.Core.Path.{◌≡◌, refl, sym, ap, ◌∙◌}
-use mathlib.Core.Logic.{◌⊎◌, inl, inr, ⊎_elim}
+use mathlib.Core.Path.{◌≡◌, refl, sym, ◌∙◌}
+use mathlib.Core.Logic.{inl, inr}
 use mathlib.Core.List.{List, [], ◌∷◌}
 use native.Mathlib.Nat.{le_of_suc-le-suc, not-suc-le-zero}
 use native.Mathlib.Omega.{arith}
@@ -10,7 +10,7 @@ use lib.Seq.{get_or-take}
 use Rattle.genchain.specs.Chains.{chain_of, TableRow, letters_in}
 use Rattle.genchain.specs.Theorems.{IsLetter}
 use Rattle.genchain.specs.declared.rows.ChainRow.{ChainRow}
-use Rattle.genchain.proofs.TableRows.{row_good, row_length, row_count, row_letters, row_count_small, length_letters_in}
+use Rattle.genchain.proofs.TableRows.{row_length, row_count, row_letters, row_count_small, length_letters_in}
 use Rattle.genchain.proofs.GoodChains.{chains_are_good}
 use Rattle.notes.specs.Names.{letter_at}
 

@@ -1,6 +1,6 @@
 -- Worked examples of the definitions: accidentals, the name of document 01, and what a reader finds in it.
 use Rattle.std.specs.Prelude.{◌≡◌, Bool, true, false, List, [], ◌∷◌, map, ℕ, pos}
-use Rattle.answer.specs.Outcome.{Outcome, given, refused}
+use Rattle.answer.specs.Outcome.{given, refused}
 use Rattle.pergen.specs.declared.Cycle.{Cycle}
 use Rattle.pergen.specs.declared.Cycle.TheVariants.{Absent, Number}
 use Rattle.pergen.specs.declared.Accidentals.{Accidentals}

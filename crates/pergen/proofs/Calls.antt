@@ -1,10 +1,8 @@
 -- From the parts to what the calls answer: one law for each way in which a call ends.
-use Prim.Native.Nat.{ℕ, zero, ◌*◌, ◌/◌, ◌%◌, ◌≤◌, ◌<◌}
+use Prim.Native.Nat.{ℕ, zero, ◌*◌, ◌/◌, ◌≤◌, ◌<◌}
 use mathlib.Core.Path.{◌≡◌, sym, ap, ap₂, ◌∙◌}
 use lib.IntN.{ℤ, pos}
-use borrow.Author.Tests.{lt-ltb, le-ltb}
-use native.Mathlib.Nat.{pos_of_ne-zero, div-one, div-le_self, mod-lt, mul-le-mul}
-use native.Mathlib.Omega.{arith}
+use native.Mathlib.Nat.{pos_of_ne-zero, mod-lt, mul-le-mul}
 use Rattle.answer.specs.Outcome.{Outcome, given, refused}
 use Rattle.answer.proofs.Questions.{ask_none, ask_some, ask_above, ask_below}
 use Rattle.math.specs.Gcd.{gcd_or_one}
@@ -15,8 +13,6 @@ use Rattle.pergen.specs.Spelling.{accidentals_of, key_accidentals, place, sounde
 use Rattle.pergen.specs.Answers.{ask_format, of_pergen, new_outcome, get_generation, get_accidentals, get_place, get_sounded_key}
 use Rattle.pergen.specs.Parts.{solved_of, generation_from}
 use Rattle.pergen.specs.declared.PerGen.{PerGen}
-use Rattle.pergen.specs.declared.Cycle.{Cycle}
-use Rattle.pergen.specs.declared.Cycle.TheVariants.{Absent, Number}
 use Rattle.pergen.specs.declared.Generation.{Generation}
 use Rattle.pergen.specs.declared.AccidentalsFormat.{AccidentalsFormat}
 use Rattle.pergen.specs.declared.Accidentals.{Accidentals}

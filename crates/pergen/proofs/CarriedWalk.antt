@@ -1,6 +1,6 @@
 -- The walk from key to key: one key on, the cycle goes up by one, or falls to 0 and the degree goes on by the inverse.
-use Prim.Native.Nat.{ℕ, zero, suc, ◌+◌, ◌*◌, ◌-◌, ◌/◌, ◌%◌, ◌≤◌, ◌<◌}
-use mathlib.Core.Path.{◌≡◌, refl, sym, ap, ap₂, subst, ◌∙◌}
+use Prim.Native.Nat.{ℕ, ◌+◌, ◌*◌, ◌-◌, ◌/◌, ◌%◌, ◌≤◌, ◌<◌}
+use mathlib.Core.Path.{◌≡◌, sym, ap, ap₂, subst, ◌∙◌}
 use lib.IntN.{ℤ}
 use borrow.Author.Tests.{lt-ltb, le-ltb}
 use lib.Arith.{digits_div, digits_mod, digits_lt}
@@ -16,7 +16,7 @@ use Rattle.pergen.specs.declared.Cycle.TheVariants.{Absent, Number}
 use Rattle.pergen.specs.declared.Generation.{Generation}
 use Rattle.pergen.specs.declared.euclid.Solved.{Solved}
 use Rattle.pergen.specs.declared.stepping.Key.{Key}
-use Rattle.pergen.proofs.Inverse.{Numbers, numbers, cycles_positive, reduced_positive}
+use Rattle.pergen.proofs.Inverse.{numbers, cycles_positive, reduced_positive}
 
 -- ---- one key on
 

@@ -1,28 +1,27 @@
 -- The sharp and the flat spelling of a key stand at places that differ from its degree by a multiple of R, so they sound it.
-use Prim.Native.Nat.{ℕ, zero, suc, ◌+◌, ◌*◌, ◌-◌, ◌/◌, ◌%◌, ◌≤◌, ◌<◌}
+use Prim.Native.Nat.{ℕ, zero, ◌+◌, ◌*◌, ◌-◌, ◌/◌, ◌%◌, ◌≤◌, ◌<◌}
 use mathlib.Core.Path.{◌≡◌, refl, sym, ap, subst, ◌∙◌}
 use mathlib.Core.Bool.{Bool, true, false}
 use lib.Dec.{leb, ltb}
-use lib.IntN.{ℤ, pos, neg_ℤ, ◌+ℤ◌, ◌-ℤ◌, ◌*ℤ◌}
-use borrow.Author.Tests.{le-leb, leb-true, leb-false, ltb-false}
+use lib.IntN.{ℤ, pos}
+use borrow.Author.Tests.{leb-false, ltb-false}
 use native.Mathlib.Nat.{mod-lt, mod-eq_of_lt, mod-mod, mod-add-div, add_comm, mul-zero, mul-add, mod-eq-sub-mod, mod-le, add-zero, mod-one}
 use native.Mathlib.Decide.{dec_lt}
 use native.Mathlib.Omega.{arith}
 use Rattle.answer.specs.Choice.{pick}
 use Rattle.math.specs.Division.{remainder, Apart}
-use Rattle.math.proofs.Congruence.{add_cong, add_cancel, to_cong}
+use Rattle.math.proofs.Congruence.{add_cong, add_cancel}
 use Rattle.math.proofs.Integers.{Rep, rep_pos, rep_neg, rep_add, rep_minus, rep_mul}
 use Rattle.math.proofs.Division.{remainder_rep, remainders_agree, remainder→apart}
 use Rattle.pergen.specs.declared.Cycle.{Cycle}
 use Rattle.pergen.specs.declared.Cycle.TheVariants.{Absent, Number}
 use Rattle.pergen.specs.declared.Accidentals.{Accidentals}
-use Rattle.pergen.specs.declared.Signs.{Signs}
 use Rattle.pergen.specs.declared.Signs.TheVariants.{Sharps, Flats}
 use Rattle.pergen.specs.declared.Spelling.{Spelling}
 use Rattle.pergen.specs.Pergen.{cycles, reduced, cycle, key_degree, key_cycle, cycle_of}
 use Rattle.pergen.specs.Spelling.{sharp_coordinate, flat_coordinate, by_coordinates, low_sharp_index, low_flat_index, by_indices, accidentals_of, key_accidentals, place, sounds, sounded_key, stars_of, sharp_spelling, flat_spelling}
-use Rattle.pergen.specs.Theorems.{PlacesOfTheDegree, SoundsOfTheKey, IndicesOfSymbols, AccidentalsSoundTheirKey, OneLetter, LetterWithoutSigns, FewSigns}
-use Rattle.pergen.proofs.Inverse.{cycles_positive, reduced_positive}
+use Rattle.pergen.specs.Theorems.{PlacesOfTheDegree, SoundsOfTheKey, IndicesOfSymbols, AccidentalsSoundTheirKey, LetterWithoutSigns, FewSigns}
+use Rattle.pergen.proofs.Inverse.{cycles_positive}
 use Rattle.pergen.proofs.Keys.{key_degree_below, degree_sounds_key}
 use Rattle.pergen.proofs.Indices.{flat_rep, LowIndex, low_sharp, low_flat, accidentals_high, sharp_small, flat_small}
 

@@ -1,11 +1,11 @@
 -- A place as a difference of two numbers, at 64 bits, and the key that it sounds: only the place's remainder by the period matters.
-use Prim.Native.Nat.{ℕ, zero, suc, ◌+◌, ◌*◌, ◌-◌, ◌/◌, ◌%◌, ◌≤◌, ◌<◌, ◌^◌}
-use mathlib.Core.Path.{◌≡◌, refl, sym, ap, ap₂, ◌∙◌, subst}
-use lib.IntN.{ℤ, pos, negsuc, nat_abs, ◌+ℤ◌, ◌-ℤ◌, ◌*ℤ◌}
-use mir.Syntax.{Width, w64}
+use Prim.Native.Nat.{ℕ, zero, suc, ◌+◌, ◌*◌, ◌-◌, ◌%◌, ◌≤◌, ◌<◌}
+use mathlib.Core.Path.{◌≡◌, sym, ap, ap₂, ◌∙◌, subst}
+use lib.IntN.{ℤ, pos, negsuc, ◌+ℤ◌, ◌-ℤ◌, ◌*ℤ◌}
+use mir.Syntax.{w64}
 use mir.Val.{SFits, to_z, of_z}
 use mir.ValLaws.{to_z-of_z, to_z_pos}
-use native.Mathlib.Nat.{mod-lt, mod-eq_of_lt, mod-mod, mul-add, mul_comm, mul-zero, mul-le-mul, add-zero}
+use native.Mathlib.Nat.{mul-add, mul-le-mul}
 use native.Mathlib.Omega.{arith}
 use Rattle.math.specs.Division.{remainder}
 use Rattle.math.proofs.Congruence.{add_cong, mul_cong}
@@ -13,7 +13,7 @@ use Rattle.math.proofs.Integers.{up, down, Rep, rep_self, rep_pos, rep_add, rep_
 use Rattle.math.proofs.Division.{remainder_below, remainder_rep, remainders_agree}
 use Rattle.math.proofs.Signed.{abs_fits}
 use Rattle.pergen.specs.Spelling.{place, sounds}
-use Rattle.pergen.specs.Parts.{SmallSides, SidesOf}
+use Rattle.pergen.specs.Parts.{SidesOf}
 use Rattle.pergen.specs.declared.Signs.{Signs}
 use Rattle.pergen.specs.declared.Signs.TheVariants.{Sharps, Flats}
 use Rattle.pergen.specs.declared.Spelling.{Spelling}

@@ -1,9 +1,9 @@
 -- Which key a place with stars sounds. G × place + stars is a number of two digits, stars to the base n and G / n × place
 -- to the base R; multiplying the high digit by the inverse gives the place back.
-use Prim.Native.Nat.{ℕ, zero, suc, ◌+◌, ◌*◌, ◌-◌, ◌/◌, ◌%◌, ◌≤◌, ◌<◌}
+use Prim.Native.Nat.{ℕ, zero, ◌+◌, ◌*◌, ◌/◌, ◌%◌, ◌<◌}
 use mathlib.Core.Path.{◌≡◌, refl, sym, ap, ap₂, subst, ◌∙◌}
 use mathlib.Core.Logic.{◌↔◌}
-use lib.IntN.{ℤ, pos, negsuc, ◌+ℤ◌, ◌*ℤ◌}
+use lib.IntN.{ℤ, pos, ◌+ℤ◌, ◌*ℤ◌}
 use lib.Arith.{mod-mul}
 use native.Mathlib.Nat.{mul-add, mul_assoc, mul_comm, mul-one, mul-pos, mod-lt, mod-eq_of_lt, mod-mod}
 use native.Mathlib.Omega.{arith}
@@ -11,10 +11,9 @@ use Rattle.math.specs.Division.{remainder, Apart}
 use Rattle.math.proofs.Congruence.{mul_cong, two_digits, two_digits_agree}
 use Rattle.math.proofs.Integers.{up, down, Rep, rep_self, rep_pos, rep_add, rep_mul}
 use Rattle.math.proofs.Division.{remainder_below, remainders_agree, apart_iff, apart→remainder}
-use Rattle.pergen.specs.Pergen.{cycles, reduced, inverse, degree, cycle, shown, key_degree, key_cycle, cycle_of}
+use Rattle.pergen.specs.Pergen.{cycles, reduced, degree, cycle, shown, key_degree, key_cycle, cycle_of}
 use Rattle.pergen.specs.Spelling.{accidentals_of, key_accidentals, sounds}
-use Rattle.pergen.specs.declared.Cycle.{Cycle}
-use Rattle.pergen.specs.Theorems.{SpellingsOfOneKey, OldAnswersStay, KeysFromZeroOn, DegreeSoundsKey, DegreeAndCycleTellKeysApart}
+use Rattle.pergen.specs.Theorems.{SpellingsOfOneKey, KeysFromZeroOn, DegreeSoundsKey, DegreeAndCycleTellKeysApart}
 use Rattle.pergen.proofs.Inverse.{Numbers, numbers, cycles_positive, reduced_positive}
 
 -- ---- in naturals

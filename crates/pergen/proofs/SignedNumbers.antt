@@ -4,7 +4,7 @@ use mathlib.Core.Path.{◌≡◌, refl, sym, ap, ◌∙◌}
 use lib.IntN.{ℤ, pos, negsuc}
 use native.Mathlib.Omega.{arith}
 use Rattle.math.proofs.Integers.{rep_self, rep_pos, rep_neg, rep_mul, rep_agree}
-use Rattle.pergen.specs.Spelling.{signs_of, shift}
+use Rattle.pergen.specs.Spelling.{signs_of}
 use Rattle.pergen.specs.Theorems.{SignsAddToThePlace}
 use Rattle.pergen.specs.declared.Signs.TheVariants.{Sharps, Flats}
 

@@ -1,9 +1,9 @@
 -- The two spellings of a key, the place of any spelling on the chain, and the key that it sounds
 -- (document 01, "Pergen and spelling"). N is the number of symbols, d the origin plus the degree.
-use Rattle.std.specs.Prelude.{ℕ, zero, suc, ◌+◌, ◌*◌, ◌-◌, ◌/◌, ◌%◌, eqb, ltb, leb, ℤ, pos, negsuc, neg_ℤ, ◌+ℤ◌, ◌-ℤ◌, ◌*ℤ◌}
+use Rattle.std.specs.Prelude.{ℕ, suc, ◌+◌, ◌-◌, ◌/◌, ◌%◌, eqb, ltb, leb, ℤ, pos, negsuc, neg_ℤ, ◌+ℤ◌, ◌-ℤ◌, ◌*ℤ◌}
 use Rattle.answer.specs.Choice.{pick}
 use Rattle.math.specs.Division.{remainder}
-use Rattle.pergen.specs.Pergen.{cycles, reduced, key_degree, cycle_of}
+use Rattle.pergen.specs.Pergen.{reduced, key_degree, cycle_of}
 use Rattle.pergen.specs.declared.Cycle.{Cycle}
 use Rattle.pergen.specs.declared.Cycle.TheVariants.{Absent, Number}
 use Rattle.pergen.specs.declared.Accidentals.{Accidentals}

@@ -8,7 +8,6 @@ use Rattle.answer.proofs.Lent.{held, not_held, filled_refused}
 use Rattle.text.proofs.Writing.{wrote_as, filled_given}
 use Rattle.edo_counts.specs.Counts.{report}
 use Rattle.edo_counts.proofs.Lines.{report_there}
-use borrow.Author.Rules.{rules}
 use Rattle.edo_counts.proofs.report.Goals as goal
 
 pub returns-then-out-count : goal.returns-then-out-count

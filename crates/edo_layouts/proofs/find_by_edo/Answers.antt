@@ -4,7 +4,6 @@ use Rattle.answer.proofs.Lent.{filled_refused}
 use Rattle.layout.proofs.Calls.{filled_as, refused_in_room}
 use Rattle.edo_tritaves.specs.Tritaves.{tritaves_outcome}
 use Rattle.edo_layouts.proofs.Listing.{find_refused, find_in_room}
-use borrow.Author.Rules.{rules}
 use Rattle.edo_layouts.proofs.find_by_edo.Goals as goal
 
 pub returns-in-Refused : goal.returns-in-Refused

@@ -2,7 +2,6 @@
 use mathlib.Core.Path.{sym, ap, ◌∙◌}
 use Rattle.edo_tritaves.specs.Tritaves.{tritaves_outcome}
 use Rattle.edo_layouts.proofs.Serving.{chain_refused, chain_served_lem}
-use borrow.Author.Rules.{rules}
 use Rattle.edo_layouts.proofs.find_chain_by_edo.Goals as goal
 
 pub returns-in-Refused : goal.returns-in-Refused

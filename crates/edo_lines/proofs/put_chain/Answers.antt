@@ -4,7 +4,6 @@ use native.Mathlib.Omega.{arith}
 use Rattle.text.proofs.Writing.{wrote_none, wrote_as}
 use Rattle.edo_layouts.specs.Layouts.{edo_outcome}
 use Rattle.edo_lines.proofs.LineLaws.{no_line_lem, line_is}
-use borrow.Author.Rules.{rules}
 use Rattle.edo_lines.proofs.put_chain.Goals as goal
 
 pub returns-in-Refused : goal.returns-in-Refused

@@ -1,9 +1,7 @@
-use Prim.Native.Nat.{◌*◌, ◌≤◌, ◌-◌}
-use mathlib.Core.Path.{◌≡◌, refl, ap}
+use mathlib.Core.Path.{refl, ap}
 use native.Mathlib.Omega.{arith}
 use native.Mathlib.Nat.{le_antisymm}
-use lib.ListN.{length}
-use Rattle.text.specs.Writing.{Wrote, joined}
+use Rattle.text.specs.Writing.{joined}
 use Rattle.text.proofs.Writing.{wrote_as}
 use Rattle.text.proofs.Joined.{joined_start, joined_step}
 use Rattle.edo_lines.specs.Parts.{served_line}

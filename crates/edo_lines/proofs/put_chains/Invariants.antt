@@ -1,12 +1,8 @@
 -- What is written is the lines of the chains so far.
 use Prim.Native.Nat.{◌*◌, ◌≤◌, ◌-◌}
-use mathlib.Core.Path.{◌≡◌, refl, ap}
-use native.Mathlib.Omega.{arith}
-use native.Mathlib.Nat.{le_antisymm}
+use mathlib.Core.Path.{◌≡◌}
 use lib.ListN.{length}
 use Rattle.text.specs.Writing.{Wrote, joined}
-use Rattle.text.proofs.Writing.{wrote_as}
-use Rattle.text.proofs.Joined.{joined_start, joined_step}
 use Rattle.edo_lines.specs.Parts.{served_line}
 use Rattle.edo_lines.proofs.put_chains.Given as goal
 

@@ -2,7 +2,6 @@
 use native.Mathlib.Omega.{arith}
 use Rattle.text.proofs.Writing.{then}
 use Rattle.edo_lines.specs.Lines.{line_with}
-use borrow.Author.Rules.{rules}
 use Rattle.edo_lines.proofs.put_line.Goals as goal
 
 pub put_names-requires : goal.put_names-requires

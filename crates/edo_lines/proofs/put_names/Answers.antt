@@ -2,7 +2,6 @@
 use native.Mathlib.Omega.{arith}
 use Rattle.text.proofs.Writing.{then}
 use Rattle.edo_lines.proofs.LineLaws.{short_name}
-use borrow.Author.Rules.{rules}
 use Rattle.edo_lines.proofs.put_names.Goals as goal
 
 pub put-named-requires : goal.put-named-requires

@@ -2,7 +2,6 @@
 use native.Mathlib.Omega.{arith}
 use Rattle.edo_tritaves.proofs.TableRule.{handed_out}
 use Rattle.edo_tritaves.proofs.Choosing.{tritave_is, chosen_up, chosen_down, chosen_first}
-use borrow.Author.Rules.{rules}
 use Rattle.edo_tritaves.proofs.choose.Goals as goal
 
 pub overflow_mul-thirds : goal.overflow_mul-thirds

@@ -1,7 +1,6 @@
 -- Question 15, then both choices.
 use native.Mathlib.Omega.{arith}
 use Rattle.edo_tritaves.proofs.Choosing.{no_steps, too_many, tritaves_given}
-use borrow.Author.Rules.{rules}
 use Rattle.edo_tritaves.proofs.tritaves.Goals as goal
 
 pub returns-then-n-eq0 : goal.returns-then-n-eq0

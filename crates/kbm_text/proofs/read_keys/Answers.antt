@@ -1,6 +1,5 @@
 -- The questions in turn, a law for each way in which they end.
 use native.Mathlib.Omega.{arith}
-use borrow.Author.Rules.{rules}
 use Prim.Native.Nat.{ℕ}
 use mathlib.Core.Path.{refl, sym, ap}
 use Rattle.answer.specs.Outcome.{given}

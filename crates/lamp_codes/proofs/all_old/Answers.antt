@@ -1,11 +1,7 @@
-use Prim.Native.Nat.{◌-◌, ◌≤◌}
 use mathlib.Core.Path.{sym, ◌∙◌}
 use native.Mathlib.Omega.{arith}
-use lib.ListN.{length}
 use Rattle.lamp_codes.specs.Codes.{is_old}
-use Rattle.lamp_codes.proofs.Strips.{Passed, passed_none, passed_more, all_pass, one_fails}
-use borrow.Author.Tests.{not-true, not-false}
-use borrow.Author.Rules.{rules}
+use Rattle.lamp_codes.proofs.Strips.{passed_none, passed_more, all_pass, one_fails}
 use Rattle.lamp_codes.proofs.all_old.Goals as goal
 
 pub loop-place-init : goal.loop-place-init

@@ -1,11 +1,8 @@
 -- After `place` turns the elements before it have passed.
 use Prim.Native.Nat.{◌-◌, ◌≤◌}
-use mathlib.Core.Path.{sym, ◌∙◌}
-use native.Mathlib.Omega.{arith}
 use lib.ListN.{length}
 use Rattle.lamp_codes.specs.Codes.{is_old}
-use Rattle.lamp_codes.proofs.Strips.{Passed, passed_none, passed_more, all_pass, one_fails}
-use borrow.Author.Tests.{not-true, not-false}
+use Rattle.lamp_codes.proofs.Strips.{Passed}
 use Rattle.lamp_codes.proofs.all_old.Given as goal
 
 abbrev pub invariant-loop-place : goal.invariant-loop-place

@@ -1,7 +1,6 @@
 -- Range by range.
 use native.Mathlib.Omega.{arith}
 use Rattle.lamp_codes.proofs.Ranges.{old_plain, old_even, old_odd, old_last}
-use borrow.Author.Rules.{rules}
 use Rattle.lamp_codes.proofs.old_code.Goals as goal
 
 pub returns-then-code-lt2 : goal.returns-then-code-lt2

@@ -1,13 +1,10 @@
 -- After `place` turns so many of the converted codes stand at the front.
 use Prim.Native.Nat.{◌-◌, ◌≤◌}
-use mathlib.Core.Path.{◌≡◌, refl}
+use mathlib.Core.Path.{◌≡◌}
 use mathlib.Core.List.{map}
-use native.Mathlib.Omega.{arith}
-use lib.ListN.{length, take, length-set, length-map}
+use lib.ListN.{length, take}
 use Rattle.text.specs.Writing.{Wrote}
-use Rattle.text.proofs.Copying.{copy_start, copied}
 use Rattle.lamp_codes.specs.Codes.{old_code}
-use Rattle.lamp_codes.proofs.Strips.{convert_more}
 use Rattle.lamp_codes.proofs.put_old.Given as goal
 
 abbrev pub invariant-loop-place : goal.invariant-loop-place

@@ -1,13 +1,10 @@
-use Prim.Native.Nat.{◌-◌, ◌≤◌}
-use mathlib.Core.Path.{◌≡◌, refl}
+use mathlib.Core.Path.{refl}
 use mathlib.Core.List.{map}
 use native.Mathlib.Omega.{arith}
-use lib.ListN.{length, take, length-set, length-map}
-use Rattle.text.specs.Writing.{Wrote}
+use lib.ListN.{length-set, length-map}
 use Rattle.text.proofs.Copying.{copy_start, copied}
 use Rattle.lamp_codes.specs.Codes.{wide_code}
 use Rattle.lamp_codes.proofs.Strips.{convert_more}
-use borrow.Author.Rules.{rules}
 use Rattle.lamp_codes.proofs.put_wide.Goals as goal
 
 pub loop-place-init : goal.loop-place-init

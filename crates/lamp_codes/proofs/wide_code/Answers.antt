@@ -1,7 +1,6 @@
 -- Range by range.
 use native.Mathlib.Omega.{arith}
 use Rattle.lamp_codes.proofs.Ranges.{wide_plain, wide_sharp, wide_flat, wide_last}
-use borrow.Author.Rules.{rules}
 use Rattle.lamp_codes.proofs.wide_code.Goals as goal
 
 pub returns-then-number-lt2 : goal.returns-then-number-lt2

@@ -1,10 +1,8 @@
 -- Questions 17 and 10; then all codes.
 use mathlib.Core.Path.{sym, ◌∙◌}
 use native.Mathlib.Omega.{arith}
-use borrow.Author.Tests.{not-true, not-false}
 use Rattle.lamp_codes.specs.Codes.{is_old, wide_code}
 use Rattle.lamp_codes.proofs.Calls.{no_partner, no_room, converted, widening, filled_by}
-use borrow.Author.Rules.{rules}
 use Rattle.lamp_codes.proofs.widen_strip.Goals as goal
 
 pub returns-then-not-all_old : goal.returns-then-not-all_old

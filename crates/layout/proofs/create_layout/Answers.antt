@@ -1,7 +1,6 @@
 -- The record with the chain's own start.
 use mathlib.Core.Path.{ap, ◌∙◌}
 use Rattle.layout.specs.Answers.{create_outcome}
-use borrow.Author.Rules.{rules}
 use Rattle.layout.proofs.create_layout.Goals as goal
 
 pub returns : goal.returns

@@ -1,7 +1,6 @@
 -- The start that was read is the chain's.
 use Prim.Native.Nat.{ℕ}
 use mathlib.Core.Path.{ap}
-use borrow.Author.Rules.{rules}
 use Rattle.layout.proofs.default_layout.Goals as goal
 
 pub returns : goal.returns

@@ -4,7 +4,6 @@ use Rattle.layout.specs.Parts.{found_outcome}
 use Rattle.layout.proofs.Calls.{laid_of, row_found, ready_given}
 use Rattle.answer.specs.Lent.{counted}
 use Rattle.layout_book.proofs.BookCalls.{book_refused, book_count}
-use borrow.Author.Rules.{rules}
 use Rattle.layout_book.proofs.book_len.Goals as goal
 
 pub prepare-requires : goal.prepare-requires

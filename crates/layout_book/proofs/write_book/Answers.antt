@@ -4,7 +4,6 @@ use Rattle.layout.specs.Parts.{found_outcome}
 use Rattle.layout.proofs.Calls.{laid_of, row_found, ready_given, filled_as, refused_in_room}
 use Rattle.answer.proofs.Lent.{filled_refused}
 use Rattle.layout_book.proofs.BookCalls.{book_refused, book_in_room}
-use borrow.Author.Rules.{rules}
 use Rattle.layout_book.proofs.write_book.Goals as goal
 
 pub prepare-requires : goal.prepare-requires

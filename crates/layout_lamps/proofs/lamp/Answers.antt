@@ -7,7 +7,6 @@ use Rattle.layout.specs.Parts.{found_outcome}
 use Rattle.layout.proofs.Calls.{laid_of, ready_given}
 use Rattle.layout_layers.proofs.PreparedPlans.{entries_positive, entry_below, entry_found}
 use Rattle.layout_lamps.proofs.Calls.{lamp_refused, lamp_answered}
-use borrow.Author.Rules.{rules}
 use Rattle.layout_lamps.proofs.lamp.Goals as goal
 
 pub prepare-prepared-requires : goal.prepare-prepared-requires

@@ -4,7 +4,6 @@ use Rattle.answer.specs.Lent.{counted}
 use Rattle.layout.specs.Parts.{found_outcome}
 use Rattle.layout.proofs.Calls.{laid_of}
 use Rattle.layout_lamps.proofs.Calls.{strip_refused, strip_counted}
-use borrow.Author.Rules.{rules}
 use Rattle.layout_lamps.proofs.strip_len.Goals as goal
 
 pub plan_of-requires : goal.plan_of-requires

@@ -7,7 +7,6 @@ use Rattle.layout.specs.Parts.{found_outcome}
 use Rattle.layout.proofs.Calls.{laid_of, ready_given}
 use Rattle.layout_layers.proofs.Calls.{layer_refused}
 use Rattle.layout_layers.proofs.PreparedPlans.{entries_positive, entry_below, entry_found, layer_answered}
-use borrow.Author.Rules.{rules}
 use Rattle.layout_layers.proofs.get_layer.Goals as goal
 
 pub prepare-prepared-requires : goal.prepare-prepared-requires

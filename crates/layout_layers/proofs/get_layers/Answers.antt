@@ -3,7 +3,6 @@ use mathlib.Core.Path.{sym, ap, ◌∙◌}
 use Rattle.layout.specs.Parts.{found_outcome}
 use Rattle.layout.proofs.Calls.{laid_of}
 use Rattle.layout_layers.proofs.Calls.{layers_not_written, layers_written}
-use borrow.Author.Rules.{rules}
 use Rattle.layout_layers.proofs.get_layers.Goals as goal
 
 pub plan_of-requires : goal.plan_of-requires

@@ -1,7 +1,6 @@
 -- The definition's tests.
 use native.Mathlib.Omega.{arith}
 use Rattle.layout_layers.proofs.PlanLaws.{kind_natural, kind_sharp, kind_enharmonic, kind_flat}
-use borrow.Author.Rules.{rules}
 use Rattle.layout_layers.proofs.kind.Goals as goal
 
 pub returns-then-number-eq0 : goal.returns-then-number-eq0

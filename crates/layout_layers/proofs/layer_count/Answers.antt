@@ -3,7 +3,6 @@ use mathlib.Core.Path.{sym, ap, ◌∙◌}
 use Rattle.layout.specs.Parts.{found_outcome}
 use Rattle.layout.proofs.Calls.{laid_of}
 use Rattle.layout_layers.proofs.Calls.{count_refused, count_given}
-use borrow.Author.Rules.{rules}
 use Rattle.layout_layers.proofs.layer_count.Goals as goal
 
 pub plan_of-requires : goal.plan_of-requires

@@ -1,6 +1,5 @@
 -- Questions 1 to 4 and 18, then the moves by the pattern's own numbers.
 use mathlib.Core.Path.{sym, ap, ◌∙◌}
-use borrow.Author.Rules.{rules}
 use Rattle.layout.specs.Parts.{found_outcome}
 use Rattle.layout.proofs.Calls.{parts_of}
 use Rattle.layout_moves.proofs.Theorems.{on_walk, moves_refused, moves_given}

@@ -5,7 +5,6 @@ use Rattle.math.proofs.Signed.{read_back_lem}
 use Rattle.layout.specs.Parts.{found_outcome}
 use Rattle.layout.proofs.Calls.{parts_of}
 use Rattle.layout_reach.proofs.Spans.{reach_not_written, reach_given}
-use borrow.Author.Rules.{rules}
 use Rattle.layout_reach.proofs.keys_in_reach.Goals as goal
 
 pub write_reach-requires : goal.write_reach-requires

@@ -2,7 +2,6 @@
 use mathlib.Core.Path.{sym, ap, ◌∙◌}
 use Rattle.layout.specs.Parts.{found_outcome}
 use Rattle.layout_reach.proofs.Spans.{count_refused, count_given}
-use borrow.Author.Rules.{rules}
 use Rattle.layout_reach.proofs.keys_in_reach_len.Goals as goal
 
 pub returns-in-Refused : goal.returns-in-Refused

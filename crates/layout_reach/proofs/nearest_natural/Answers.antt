@@ -5,7 +5,6 @@ use Rattle.math.proofs.Signed.{read_back_lem}
 use Rattle.layout.specs.Parts.{found_outcome}
 use Rattle.layout.proofs.Calls.{laid_of}
 use Rattle.layout_reach.proofs.Nearest.{nearest_refused, nearest_given}
-use borrow.Author.Rules.{rules}
 use Rattle.layout_reach.proofs.nearest_natural.Goals as goal
 
 pub nearest_of_letter-requires : goal.nearest_of_letter-requires

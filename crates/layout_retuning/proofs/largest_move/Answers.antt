@@ -3,7 +3,6 @@ use mathlib.Core.Path.{sym, ap, ◌∙◌}
 use Rattle.layout_retuning.specs.Parts.{tunings_outcome}
 use Rattle.layout_retuning.proofs.BothLayouts.{tuned}
 use Rattle.layout_retuning.proofs.Largest.{largest_refused, largest_given}
-use borrow.Author.Rules.{rules}
 use Rattle.layout_retuning.proofs.largest_move.Goals as goal
 
 pub largest_in-requires : goal.largest_in-requires

@@ -3,7 +3,6 @@ use mathlib.Core.Path.{sym, ap, ◌∙◌}
 use Rattle.layout_retuning.specs.Parts.{tunings_outcome}
 use Rattle.layout_retuning.proofs.BothLayouts.{tuned}
 use Rattle.layout_retuning.proofs.Tables.{not_written, written_given}
-use borrow.Author.Rules.{rules}
 use Rattle.layout_retuning.proofs.move_table.Goals as goal
 
 pub write_table-requires : goal.write_table-requires

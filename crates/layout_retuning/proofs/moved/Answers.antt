@@ -5,7 +5,6 @@ use Rattle.math.proofs.Signed.{read_back_lem}
 use Rattle.layout_retuning.specs.Parts.{tunings_outcome}
 use Rattle.layout_retuning.proofs.BothLayouts.{tuned}
 use Rattle.layout_retuning.proofs.Calls.{moved_refused, moved_with_signs}
-use borrow.Author.Rules.{rules}
 use Rattle.layout_retuning.proofs.moved.Goals as goal
 
 pub moved_in-requires : goal.moved_in-requires

@@ -4,7 +4,6 @@ use Rattle.answer.proofs.Lent.{filled_refused}
 use Rattle.layout.specs.Parts.{found_outcome}
 use Rattle.layout.proofs.Calls.{scale_refused, parts_of, filled_as, refused_in_room}
 use Rattle.layout_scale_names.proofs.ScalePlaces.{scale_in_room}
-use borrow.Author.Rules.{rules}
 use Rattle.layout_scale_names.proofs.get_scale_name.Goals as goal
 
 pub place_of-requires : goal.place_of-requires

@@ -4,7 +4,6 @@ use Rattle.answer.specs.Lent.{counted}
 use Rattle.layout.specs.Parts.{found_outcome}
 use Rattle.layout.proofs.Calls.{scale_refused, parts_of}
 use Rattle.layout_scale_names.proofs.ScalePlaces.{scale_count}
-use borrow.Author.Rules.{rules}
 use Rattle.layout_scale_names.proofs.scale_name_len.Goals as goal
 
 pub place_of-requires : goal.place_of-requires

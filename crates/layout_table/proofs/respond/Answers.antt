@@ -7,7 +7,6 @@ use Rattle.layout.proofs.Calls.{filled_as}
 use Rattle.layout_table.specs.Tables.{table_in}
 use Rattle.layout_table.proofs.Calls.{output_refused, output_given}
 use Rattle.line.proofs.AskedLayouts.{line_laid}
-use borrow.Author.Rules.{rules}
 use Rattle.layout_table.proofs.respond.Goals as goal
 
 pub prepare-requires : goal.prepare-requires

@@ -4,7 +4,6 @@ use Rattle.answer.specs.Lent.{counted}
 use Rattle.layout.specs.Parts.{found_outcome}
 use Rattle.layout.proofs.Calls.{laid_of, ready_given}
 use Rattle.layout_table.proofs.Calls.{table_refused, table_counted}
-use borrow.Author.Rules.{rules}
 use Rattle.layout_table.proofs.table_len.Goals as goal
 
 pub prepare-requires : goal.prepare-requires

@@ -4,7 +4,6 @@ use Rattle.answer.proofs.Lent.{filled_refused}
 use Rattle.layout.specs.Parts.{found_outcome}
 use Rattle.layout.proofs.Calls.{laid_of, ready_given, filled_as, refused_in_room}
 use Rattle.layout_table.proofs.Calls.{table_refused, table_in_room}
-use borrow.Author.Rules.{rules}
 use Rattle.layout_table.proofs.write_table.Goals as goal
 
 pub prepare-requires : goal.prepare-requires

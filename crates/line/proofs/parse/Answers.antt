@@ -1,7 +1,6 @@
 -- The three numbers in turn, then the octave's bound.
 use mathlib.Core.Path.{sym, ◌∙◌}
 use Rattle.line.proofs.WholeLine.{no_first, no_second, no_third, octave_too_large, line_given}
-use borrow.Author.Rules.{rules}
 use Rattle.line.proofs.parse.Goals as goal
 
 pub returns-in_default : goal.returns-in_default

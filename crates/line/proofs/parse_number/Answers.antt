@@ -1,7 +1,6 @@
 -- What is read at the front.
 use mathlib.Core.Path.{sym, ◌∙◌}
 use Rattle.line.proofs.OneNumber.{no_number_line, number_line_lem}
-use borrow.Author.Rules.{rules}
 use Rattle.line.proofs.parse_number.Goals as goal
 
 pub returns-in_default : goal.returns-in_default

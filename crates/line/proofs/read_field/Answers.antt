@@ -1,7 +1,6 @@
 -- No number, the end of the line, another byte, and the number with its byte.
 use mathlib.Core.Path.{sym, ◌∙◌}
 use Rattle.line.proofs.Fields.{nothing_read, line_ends, other_byte, field_read}
-use borrow.Author.Rules.{rules}
 use Rattle.line.proofs.read_field.Goals as goal
 
 pub returns-in_default : goal.returns-in_default

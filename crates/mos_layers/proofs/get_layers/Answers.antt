@@ -2,7 +2,6 @@
 use mathlib.Core.Path.{sym, ◌∙◌}
 use Rattle.mos_layers.proofs.Answers.{layers_no_pattern, layers_no_room, layers_room, layers_given, code_reduced}
 use Rattle.mos_layers.proofs.Theorems.{code_cycles}
-use borrow.Author.Rules.{rules}
 use Rattle.mos_layers.proofs.get_layers.Goals as goal
 
 pub returns-then-out-len : goal.returns-then-out-len

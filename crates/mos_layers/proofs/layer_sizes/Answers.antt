@@ -1,7 +1,6 @@
 -- Questions 7 and 10, then the sizes at the front.
 use mathlib.Core.Path.{sym, ◌∙◌}
 use Rattle.mos_layers.proofs.Answers.{sizes_no_pattern, sizes_no_room, sizes_given}
-use borrow.Author.Rules.{rules}
 use Rattle.mos_layers.proofs.layer_sizes.Goals as goal
 
 pub runs_in-runs-requires : goal.runs_in-runs-requires

@@ -3,7 +3,6 @@ use mathlib.Core.Path.{sym, ap, ◌∙◌}
 use lib.ListN.{length}
 use Rattle.mos.proofs.Sizes.{pattern_given, pattern_refused}
 use Rattle.mos_layers.proofs.Answers.{runs_sizes}
-use borrow.Author.Rules.{rules}
 use Rattle.mos_layers.proofs.layer_sizes_len.Goals as goal
 
 pub runs_in-requires : goal.runs_in-requires

@@ -4,8 +4,6 @@ use lib.ListN.{length}
 use Rattle.genchain.proofs.TableRows.{table_row}
 use Rattle.genchain.proofs.Calls.{is_chain, is_none}
 use Rattle.notes.proofs.Calls.{length_no_chain, planned_name, length_given}
-use borrow.Author.Tests.{not-true, not-false}
-use borrow.Author.Rules.{rules}
 use Rattle.notes.proofs.name_len.Goals as goal
 
 pub returns-then-not-is_chain : goal.returns-then-not-is_chain

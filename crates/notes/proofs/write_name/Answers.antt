@@ -4,8 +4,6 @@ use Rattle.answer.proofs.Lent.{filled_refused}
 use Rattle.genchain.proofs.TableRows.{table_row}
 use Rattle.genchain.proofs.Calls.{is_chain, is_none}
 use Rattle.notes.proofs.Calls.{name_no_chain, planned_name, name_in_room}
-use borrow.Author.Tests.{not-true, not-false}
-use borrow.Author.Rules.{rules}
 use Rattle.notes.proofs.write_name.Goals as goal
 
 pub returns-then-not-is_chain : goal.returns-then-not-is_chain

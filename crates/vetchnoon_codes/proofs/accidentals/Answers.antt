@@ -4,7 +4,6 @@ use Rattle.pergen.specs.Answers.{accidentals_outcome}
 use Rattle.pergen.specs.declared.AccidentalsAnswer.{AccidentalsAnswer}
 use Rattle.vetchnoon_codes.specs.Numbers.{as_numbers, accidentals_numbers}
 use Rattle.vetchnoon_codes.proofs.Coding.{coded, fills_refused, fills_as}
-use borrow.Author.Rules.{rules}
 use Rattle.vetchnoon_codes.proofs.accidentals.Goals as goal
 
 pub returns-in-Given : goal.returns-in-Given

@@ -5,7 +5,6 @@ use Rattle.mos.specs.declared.MosAnswer.{MosAnswer}
 use Rattle.mos.specs.Walks.{fields}
 use Rattle.vetchnoon_codes.specs.Numbers.{as_numbers}
 use Rattle.vetchnoon_codes.proofs.Coding.{coded, fills_refused, fills_as}
-use borrow.Author.Rules.{rules}
 use Rattle.vetchnoon_codes.proofs.pattern.Goals as goal
 
 pub returns-in-Given : goal.returns-in-Given

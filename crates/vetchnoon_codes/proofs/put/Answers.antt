@@ -1,13 +1,10 @@
-use Prim.Native.Nat.{◌≤◌, ◌-◌}
-use mathlib.Core.Path.{◌≡◌, refl}
+use mathlib.Core.Path.{refl}
 use native.Mathlib.Omega.{arith}
-use lib.ListN.{length, take, length-set}
+use lib.ListN.{length-set}
 use mir.Syntax.{w64}
 use mir.ValLaws.{to_z_pos}
-use Rattle.text.specs.Writing.{Wrote}
 use Rattle.text.proofs.Copying.{copy_start, copy_more, copied}
 use Rattle.vetchnoon_codes.proofs.Coding.{coded, fills_short, fills_given}
-use borrow.Author.Rules.{rules}
 use Rattle.vetchnoon_codes.proofs.put.Goals as goal
 
 pub returns-then-out-len : goal.returns-then-out-len

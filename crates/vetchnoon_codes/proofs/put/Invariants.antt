@@ -1,13 +1,8 @@
 -- After `place` turns, so many of the numbers stand at the front.
 use Prim.Native.Nat.{◌≤◌, ◌-◌}
-use mathlib.Core.Path.{◌≡◌, refl}
-use native.Mathlib.Omega.{arith}
-use lib.ListN.{length, take, length-set}
-use mir.Syntax.{w64}
-use mir.ValLaws.{to_z_pos}
+use mathlib.Core.Path.{◌≡◌}
+use lib.ListN.{length, take}
 use Rattle.text.specs.Writing.{Wrote}
-use Rattle.text.proofs.Copying.{copy_start, copy_more, copied}
-use Rattle.vetchnoon_codes.proofs.Coding.{coded, fills_short, fills_given}
 use Rattle.vetchnoon_codes.proofs.put.Given as goal
 
 abbrev pub invariant-loop-place : goal.invariant-loop-place

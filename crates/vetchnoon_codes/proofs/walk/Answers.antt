@@ -4,7 +4,6 @@ use Rattle.mos.specs.Answers.{walk_outcome}
 use Rattle.mos.specs.declared.WalkAnswer.{WalkAnswer}
 use Rattle.vetchnoon_codes.specs.Numbers.{as_numbers, walk_numbers}
 use Rattle.vetchnoon_codes.proofs.Coding.{coded, fills_refused, fills_nothing, fills_as}
-use borrow.Author.Rules.{rules}
 use Rattle.vetchnoon_codes.proofs.walk.Goals as goal
 
 pub returns-in-Found : goal.returns-in-Found

@@ -2,7 +2,6 @@
 use mathlib.Core.Path.{sym, ap, ◌∙◌}
 use Rattle.edo_layouts.specs.Layouts.{edo_outcome}
 use Rattle.edo_counts.proofs.Counting.{counts_none, counts_one}
-use borrow.Author.Rules.{rules}
 use Rattle.edo_counts.proofs.parts.count_chain.Goals as goal
 
 pub returns-in-Refused : goal.returns-in-Refused

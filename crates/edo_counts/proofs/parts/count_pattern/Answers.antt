@@ -1,6 +1,5 @@
 -- Above 0, below 0, and neither.
 use Rattle.edo_counts.proofs.Counting.{side_above, side_below, side_equal}
-use borrow.Author.Rules.{rules}
 use Rattle.edo_counts.proofs.parts.count_pattern.Goals as goal
 
 pub returns-then-pattern : goal.returns-then-pattern

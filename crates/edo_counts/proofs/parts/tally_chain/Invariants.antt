@@ -1,10 +1,7 @@
 -- After each turn the divisions so far are counted.
-use Prim.Native.Nat.{ℕ, ◌≤◌, ◌-◌}
-use mathlib.Core.Path.{◌≡◌, ap, ◌∙◌}
-use native.Mathlib.Omega.{arith}
-use native.Mathlib.Nat.{le_antisymm}
+use Prim.Native.Nat.{◌≤◌, ◌-◌}
+use mathlib.Core.Path.{◌≡◌}
 use Rattle.edo_counts.specs.Counts.{all_layouts, tally_of}
-use Rattle.edo_counts.proofs.Counting.{tally_none, tally_more, tally_small}
 use Rattle.edo_counts.proofs.parts.tally_chain.Given as goal
 
 abbrev pub invariant-loop-before : goal.invariant-loop-before

@@ -1,9 +1,7 @@
-use Prim.Native.Nat.{◌≤◌, ◌-◌}
-use mathlib.Core.Path.{◌≡◌, refl}
+use mathlib.Core.Path.{refl}
 use native.Mathlib.Omega.{arith}
-use lib.ListN.{length, take, length-set}
+use lib.ListN.{length-set}
 use Rattle.answer.proofs.Lent.{held, not_held, filled_refused}
-use Rattle.text.specs.Writing.{Wrote}
 use Rattle.text.proofs.Writing.{filled_given}
 use Rattle.text.proofs.Copying.{copy_start, copy_more, copied}
 use Rattle.edo_layouts.proofs.parts.fill.Goals as goal

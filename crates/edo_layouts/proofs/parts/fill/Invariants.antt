@@ -1,12 +1,8 @@
 -- Question 10; after `place` turns, so many of the numbers stand at the front.
 use Prim.Native.Nat.{◌≤◌, ◌-◌}
-use mathlib.Core.Path.{◌≡◌, refl}
-use native.Mathlib.Omega.{arith}
-use lib.ListN.{length, take, length-set}
-use Rattle.answer.proofs.Lent.{held, not_held, filled_refused}
+use mathlib.Core.Path.{◌≡◌}
+use lib.ListN.{length, take}
 use Rattle.text.specs.Writing.{Wrote}
-use Rattle.text.proofs.Writing.{filled_given}
-use Rattle.text.proofs.Copying.{copy_start, copy_more, copied}
 use Rattle.edo_layouts.proofs.parts.fill.Given as goal
 
 abbrev pub invariant-loop-place : goal.invariant-loop-place

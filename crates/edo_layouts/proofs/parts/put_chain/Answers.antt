@@ -3,7 +3,6 @@ use mathlib.Core.Path.{sym, ap, ◌∙◌}
 use Rattle.text.proofs.Writing.{wrote_none, wrote_as}
 use Rattle.edo_layouts.specs.Layouts.{edo_outcome}
 use Rattle.edo_layouts.proofs.Listing.{chain_numbers_lem, no_numbers}
-use borrow.Author.Rules.{rules}
 use Rattle.edo_layouts.proofs.parts.put_chain.Goals as goal
 
 pub returns-in-Refused : goal.returns-in-Refused

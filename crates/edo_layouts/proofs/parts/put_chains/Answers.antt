@@ -1,11 +1,7 @@
-use Prim.Native.Nat.{◌*◌, ◌≤◌, ◌-◌}
-use mathlib.Core.Path.{◌≡◌, refl}
+use mathlib.Core.Path.{refl}
 use native.Mathlib.Omega.{arith}
 use native.Mathlib.Nat.{le_antisymm}
-use lib.ListN.{length}
-use Rattle.text.specs.Writing.{Wrote, joined}
 use Rattle.text.proofs.Joined.{joined_start, joined_step}
-use Rattle.edo_layouts.specs.Parts.{chain_numbers}
 use Rattle.edo_layouts.proofs.Listing.{few_numbers}
 use Rattle.edo_layouts.proofs.parts.put_chains.Goals as goal
 

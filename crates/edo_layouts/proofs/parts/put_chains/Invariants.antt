@@ -1,13 +1,9 @@
 -- What is written is the numbers of the chains so far.
 use Prim.Native.Nat.{◌*◌, ◌≤◌, ◌-◌}
-use mathlib.Core.Path.{◌≡◌, refl}
-use native.Mathlib.Omega.{arith}
-use native.Mathlib.Nat.{le_antisymm}
+use mathlib.Core.Path.{◌≡◌}
 use lib.ListN.{length}
 use Rattle.text.specs.Writing.{Wrote, joined}
-use Rattle.text.proofs.Joined.{joined_start, joined_step}
 use Rattle.edo_layouts.specs.Parts.{chain_numbers}
-use Rattle.edo_layouts.proofs.Listing.{few_numbers}
 use Rattle.edo_layouts.proofs.parts.put_chains.Given as goal
 
 abbrev pub invariant-loop-genchain : goal.invariant-loop-genchain

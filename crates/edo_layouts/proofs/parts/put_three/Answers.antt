@@ -2,7 +2,6 @@
 use native.Mathlib.Omega.{arith}
 use lib.ListN.{length-set}
 use Rattle.edo_layouts.proofs.Listing.{three_stored}
-use borrow.Author.Rules.{rules}
 use Rattle.edo_layouts.proofs.parts.put_three.Goals as goal
 
 pub bounds-out-at-2 : goal.bounds-out-at-2

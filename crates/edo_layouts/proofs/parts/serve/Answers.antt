@@ -2,7 +2,6 @@
 use mathlib.Core.Path.{sym, ap, ◌∙◌}
 use Rattle.edo_layouts.specs.Layouts.{edo_outcome}
 use Rattle.edo_layouts.proofs.Serving.{served_first, no_second, served_second}
-use borrow.Author.Rules.{rules}
 use Rattle.edo_layouts.proofs.parts.serve.Goals as goal
 
 pub returns-then-choices-eq0 : goal.returns-then-choices-eq0

@@ -2,7 +2,6 @@
 use mathlib.Core.Path.{sym, ap, ◌∙◌}
 use Rattle.edo_layouts.specs.Layouts.{edo_outcome}
 use Rattle.edo_layouts.proofs.Serving.{else_refused, else_given}
-use borrow.Author.Rules.{rules}
 use Rattle.edo_layouts.proofs.parts.try_second.Goals as goal
 
 pub returns-in-Refused : goal.returns-in-Refused

@@ -2,7 +2,6 @@
 use mathlib.Core.Path.{sym, ap, ◌∙◌}
 use Rattle.layout.specs.Parts.{found_outcome}
 use Rattle.edo_layouts.proofs.Serving.{tried_refused, tried_given}
-use borrow.Author.Rules.{rules}
 use Rattle.edo_layouts.proofs.parts.try_tritave.Goals as goal
 
 pub returns-in-Refused : goal.returns-in-Refused

@@ -4,7 +4,6 @@ use lib.Seq.{length-take-le}
 use Rattle.answer.specs.Lent.{held_in}
 use Rattle.layout.proofs.Calls.{filled_as}
 use Rattle.edo_layouts.proofs.Listing.{all_there}
-use borrow.Author.Rules.{rules}
 use Rattle.edo_layouts.proofs.parts.write_layouts.Goals as goal
 
 pub slice_bounds-numbers-end : goal.slice_bounds-numbers-end

@@ -1,5 +1,4 @@
 -- The tests in turn, a law for each way in which they end.
-use borrow.Author.Rules.{rules}
 use mathlib.Core.Path.{sym, ◌∙◌}
 use Rattle.kbm_text.proofs.KindLaws.{kind_short, kind_comment, kind_mark, kind_frequency, kind_number_lem, kind_other}
 use Rattle.kbm_text.proofs.kinds.kind_of.Goals as goal

@@ -1,8 +1,6 @@
 use borrow.Author.Rules.{rules}
 use native.Mathlib.Omega.{arith}
-use Prim.Native.Nat.{◌-◌, ◌≤◌}
-use lib.ListN.{length}
-use Rattle.kbm_text.proofs.Bytes.{Read, read_none, none_short, none_long, small_enough, read_all, low_byte, high_byte, read_more}
+use Rattle.kbm_text.proofs.Bytes.{read_none, none_short, none_long, small_enough, read_all, low_byte, high_byte, read_more}
 use Rattle.kbm_text.proofs.kinds.number_in.Goals as goal
 
 pub returns-then-line-lt1 : goal.returns-then-line-lt1

@@ -1,8 +1,7 @@
 -- The digits before `i` are read, and say a number below 10 to the power i.
-use native.Mathlib.Omega.{arith}
 use Prim.Native.Nat.{◌-◌, ◌≤◌}
 use lib.ListN.{length}
-use Rattle.kbm_text.proofs.Bytes.{Read, read_none, none_short, none_long, small_enough, read_all, low_byte, high_byte, read_more}
+use Rattle.kbm_text.proofs.Bytes.{Read}
 use Rattle.kbm_text.proofs.kinds.number_in.Given as goal
 
 abbrev pub invariant-loop-i : goal.invariant-loop-i

@@ -1,8 +1,5 @@
 use borrow.Author.Rules.{rules}
-use Prim.Native.Nat.{◌-◌, ◌≤◌}
-use mathlib.Core.Path.{◌≡◌, refl, sym, ◌∙◌}
-use lib.ListN.{length, drop}
-use Rattle.kbm_text.specs.Kinds.{same_bytes}
+use mathlib.Core.Path.{refl, sym, ◌∙◌}
 use Rattle.kbm_text.proofs.Bytes.{other_length, same_more, same_differs, same_all}
 use Rattle.kbm_text.proofs.kinds.same.Goals as goal
 

@@ -1,9 +1,8 @@
 -- The bytes before `i` are the same; so the whole texts are if the rest is.
 use Prim.Native.Nat.{◌-◌, ◌≤◌}
-use mathlib.Core.Path.{◌≡◌, refl, sym, ◌∙◌}
+use mathlib.Core.Path.{◌≡◌}
 use lib.ListN.{length, drop}
 use Rattle.kbm_text.specs.Kinds.{same_bytes}
-use Rattle.kbm_text.proofs.Bytes.{other_length, same_more, same_differs, same_all}
 use Rattle.kbm_text.proofs.kinds.same.Given as goal
 
 abbrev pub invariant-loop-i : goal.invariant-loop-i

@@ -1,5 +1,4 @@
 -- By kinds: a number is compared, all else agrees.
-use borrow.Author.Rules.{rules}
 use mathlib.Core.Path.{sym, ap, ◌∙◌}
 use lib.Dec.{eqb}
 use Rattle.kbm_text.specs.Reading.{agrees_at}

@@ -1,5 +1,4 @@
 -- By kinds, as the definition goes.
-use borrow.Author.Rules.{rules}
 use mathlib.Core.Path.{sym, ap}
 use Rattle.kbm_text.specs.Reading.{fits_at}
 use Rattle.kbm_text.proofs.scan.fits_at.Goals as goal

@@ -1,7 +1,5 @@
 use native.Mathlib.Omega.{arith}
-use Prim.Native.Nat.{◌-◌}
-use lib.ListN.{length}
-use Rattle.kbm_text.proofs.LineLaws.{Going, going_start, going_more, going_end}
+use Rattle.kbm_text.proofs.LineLaws.{going_start, going_more, going_end}
 use Rattle.kbm_text.proofs.scan.line_end.Goals as goal
 
 pub loop-end-init : goal.loop-end-init

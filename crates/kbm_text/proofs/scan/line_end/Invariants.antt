@@ -1,8 +1,7 @@
 -- The bytes from `at` to `end` are on one line (`Going`); the last byte of the text is a line feed, so the walk ends within it.
-use native.Mathlib.Omega.{arith}
 use Prim.Native.Nat.{◌-◌}
 use lib.ListN.{length}
-use Rattle.kbm_text.proofs.LineLaws.{Going, going_start, going_more, going_end}
+use Rattle.kbm_text.proofs.LineLaws.{Going}
 use Rattle.kbm_text.proofs.scan.line_end.Given as goal
 
 abbrev pub invariant-loop-end : goal.invariant-loop-end

@@ -1,5 +1,4 @@
 -- A line that is skipped, one without a key, one with its key.
-use borrow.Author.Rules.{rules}
 use mathlib.Core.Path.{sym, ◌∙◌}
 use Rattle.kbm_text.proofs.StepLaws.{put_comment, put_none, put_one, key_line_lem}
 use Rattle.kbm_text.proofs.scan.put_key.Goals as goal

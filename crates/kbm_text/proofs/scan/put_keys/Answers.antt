@@ -1,9 +1,6 @@
-use borrow.Author.Rules.{rules}
 use native.Mathlib.Omega.{arith}
-use Prim.Native.Nat.{◌-◌}
-use lib.ListN.{length}
 use Rattle.text.proofs.Writing.{wrote_length}
-use Rattle.kbm_text.proofs.Listing.{Listing, list_start, list_room, list_more, list_few, list_end}
+use Rattle.kbm_text.proofs.Listing.{list_start, list_room, list_more, list_few, list_end}
 use Rattle.kbm_text.proofs.scan.put_keys.Goals as goal
 
 pub loop-at-init : goal.loop-at-init

@@ -1,9 +1,7 @@
 -- The keys of the lines before `at` are written, and those from `at` on are to come (`Listing`).
-use native.Mathlib.Omega.{arith}
 use Prim.Native.Nat.{◌-◌}
 use lib.ListN.{length}
-use Rattle.text.proofs.Writing.{wrote_length}
-use Rattle.kbm_text.proofs.Listing.{Listing, list_start, list_room, list_more, list_few, list_end}
+use Rattle.kbm_text.proofs.Listing.{Listing}
 use Rattle.kbm_text.proofs.scan.put_keys.Given as goal
 
 abbrev pub invariant-loop-at : goal.invariant-loop-at

@@ -1,8 +1,5 @@
-use borrow.Author.Rules.{rules}
 use native.Mathlib.Omega.{arith}
-use Prim.Native.Nat.{◌-◌}
-use lib.ListN.{length}
-use Rattle.kbm_text.proofs.Scanning.{Scanning, scan_start, scan_more, scan_end}
+use Rattle.kbm_text.proofs.Scanning.{scan_start, scan_more, scan_end}
 use Rattle.kbm_text.proofs.scan.scan_all.Goals as goal
 
 pub loop-at-init : goal.loop-at-init

@@ -1,6 +1,5 @@
 -- A number, or the mark.
 use Rattle.kbm_text.proofs.WriteLaws.{number_length, mark_length}
-use borrow.Author.Rules.{rules}
 use Rattle.kbm_text.proofs.writer.entry_len.Goals as goal
 
 pub returns-then-mapped : goal.returns-then-mapped

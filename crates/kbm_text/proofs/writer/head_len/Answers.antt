@@ -1,6 +1,5 @@
 -- Two numbers, and what stands between and behind them.
 use Rattle.kbm_text.proofs.WriteLaws.{head_length}
-use borrow.Author.Rules.{rules}
 use Rattle.kbm_text.proofs.writer.head_len.Goals as goal
 
 pub returns : goal.returns

@@ -6,7 +6,6 @@ use lib.ListN.{length, length-append}
 use Rattle.text.specs.Decimal.{digits}
 use Rattle.text.proofs.Writing.{then, wrote_as, room_next}
 use Rattle.kbm_text.proofs.WriteLaws.{entry_number, entry_mark, room_as}
-use borrow.Author.Rules.{rules}
 use Rattle.kbm_text.proofs.writer.put_entry.Goals as goal
 
 pub put_number-number-requires : goal.put_number-number-requires

@@ -3,7 +3,6 @@ use native.Mathlib.Omega.{arith}
 use mathlib.Core.Path.{sym}
 use Rattle.text.proofs.Writing.{then, wrote_as}
 use Rattle.kbm_text.proofs.WriteLaws.{head_is, length_head}
-use borrow.Author.Rules.{rules}
 use Rattle.kbm_text.proofs.writer.put_head.Goals as goal
 
 pub put_number-size-requires : goal.put_number-size-requires

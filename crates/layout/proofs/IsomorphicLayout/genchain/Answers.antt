@@ -2,7 +2,6 @@
 use mathlib.Core.Path.{sym, ap, ◌∙◌}
 use Rattle.layout.specs.Parts.{found_outcome}
 use Rattle.layout.proofs.Calls.{genchain_refused, genchain_given}
-use borrow.Author.Rules.{rules}
 use Rattle.layout.proofs.IsomorphicLayout.genchain.Goals as goal
 
 pub returns-in-Refused : goal.returns-in-Refused

@@ -7,7 +7,6 @@ use Rattle.pergen.proofs.Calls.{accidentals_from_zero}
 use Rattle.layout.specs.Layouts.{accidentals_in}
 use Rattle.layout.specs.Parts.{found_outcome}
 use Rattle.layout.proofs.Calls.{accidentals_refused, accidentals_given, parts_of}
-use borrow.Author.Rules.{rules}
 use Rattle.layout.proofs.IsomorphicLayout.get_accidentals.Goals as goal
 
 pub solve-solved-requires : goal.solve-solved-requires

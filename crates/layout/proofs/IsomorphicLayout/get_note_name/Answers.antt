@@ -7,7 +7,6 @@ use Rattle.math.proofs.Answers.{remainder_read}
 use Rattle.math.proofs.Division.{remainder_below}
 use Rattle.layout.specs.Parts.{found_outcome}
 use Rattle.layout.proofs.Calls.{name_refused, parts_of, laid_of, row_found, name_held, filled_as, refused_in_room}
-use borrow.Author.Rules.{rules}
 use Rattle.layout.proofs.IsomorphicLayout.get_note_name.Goals as goal
 
 pub rem_u16-index-requires : goal.rem_u16-index-requires

@@ -3,7 +3,6 @@ use mathlib.Core.Path.{sym, ap, ◌∙◌}
 use Rattle.layout.specs.Parts.{found_outcome}
 use Rattle.layout.proofs.Calls.{laid_of}
 use Rattle.layout.proofs.SoundedKeys.{sounded_refused, sounded_given}
-use borrow.Author.Rules.{rules}
 use Rattle.layout.proofs.IsomorphicLayout.get_sounded_key.Goals as goal
 
 pub sounded-requires : goal.sounded-requires

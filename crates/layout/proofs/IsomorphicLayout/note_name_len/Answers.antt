@@ -7,7 +7,6 @@ use Rattle.math.proofs.Answers.{remainder_read}
 use Rattle.math.proofs.Division.{remainder_below}
 use Rattle.layout.specs.Parts.{found_outcome}
 use Rattle.layout.proofs.Calls.{name_refused, parts_of, laid_of, row_found, name_measured}
-use borrow.Author.Rules.{rules}
 use Rattle.layout.proofs.IsomorphicLayout.note_name_len.Goals as goal
 
 pub rem_u16-index-requires : goal.rem_u16-index-requires

@@ -2,7 +2,6 @@
 use mathlib.Core.Path.{sym, ap, ◌∙◌}
 use Rattle.answer.specs.Refusals.{number_outcome}
 use Rattle.layout.proofs.Finding.{generated, ask_refused, ask_given}
-use borrow.Author.Rules.{rules}
 use Rattle.layout.proofs.parts.ask_with_letters.Goals as goal
 
 pub with_pattern-requires : goal.with_pattern-requires

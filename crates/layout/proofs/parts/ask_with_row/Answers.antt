@@ -2,7 +2,6 @@
 use mathlib.Core.Path.{ap}
 use Rattle.genchain.specs.Chains.{row_of}
 use Rattle.genchain.specs.declared.rows.ChainRow.{ChainRow}
-use borrow.Author.Rules.{rules}
 use Rattle.layout.proofs.parts.ask_with_row.Goals as goal
 
 pub ask_with_letters-requires : goal.ask_with_letters-requires

@@ -1,7 +1,6 @@
 -- Questions 16 and 21, then the key at the difference of the sides.
 use Rattle.layout.proofs.Finding.{laid}
 use Rattle.layout.proofs.SoundedKeys.{no_letter, many_stars, key_sounded}
-use borrow.Author.Rules.{rules}
 use Rattle.layout.proofs.parts.sounded.Goals as goal
 
 pub returns-then-found-spelling : goal.returns-then-found-spelling

@@ -1,7 +1,6 @@
 -- A number below the octave is its own remainder.
 use mathlib.Core.Path.{sym}
 use native.Mathlib.Nat.{mod-eq_of_lt}
-use borrow.Author.Rules.{rules}
 use Rattle.layout.proofs.parts.within_octave.Goals as goal
 
 pub returns-then-generator-octave : goal.returns-then-generator-octave

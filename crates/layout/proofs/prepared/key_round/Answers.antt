@@ -3,7 +3,6 @@ use mir.Syntax.{w32}
 use mathlib.Core.Path.{◌∙◌}
 use Rattle.math.proofs.Answers.{remainder_read}
 use Rattle.layout.proofs.Readiness.{parts_ready, found_round}
-use borrow.Author.Rules.{rules}
 use Rattle.layout.proofs.prepared.key_round.Goals as goal
 
 pub rem_u16-index-requires : goal.rem_u16-index-requires

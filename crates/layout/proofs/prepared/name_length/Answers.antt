@@ -7,7 +7,6 @@ use Rattle.layout.specs.Parts.{layout_of}
 use Rattle.layout.proofs.Finding.{laid}
 use Rattle.layout.proofs.Calls.{text_planned}
 use Rattle.layout.proofs.Readiness.{planned_by_row}
-use borrow.Author.Rules.{rules}
 use Rattle.layout.proofs.prepared.name_length.Goals as goal
 
 pub spelled_in-spelled-requires : goal.spelled_in-spelled-requires

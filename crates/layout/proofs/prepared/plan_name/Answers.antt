@@ -1,7 +1,6 @@
 -- The plan of the key's spellings, by the letters of the row.
 use Rattle.genchain.proofs.TableRows.{table_row}
 use Rattle.layout.proofs.Readiness.{parts_ready, planned_name}
-use borrow.Author.Rules.{rules}
 use Rattle.layout.proofs.prepared.plan_name.Goals as goal
 
 pub plan_name-requires : goal.plan_name-requires

@@ -1,6 +1,5 @@
 -- From the steps as they stand, or exchanged, where the primary one is the smaller.
 use Rattle.pergen.proofs.ExtendedEuclid.{exchanged}
-use borrow.Author.Rules.{rules}
 use Rattle.layout.proofs.prepared.solve_from_steps.Goals as goal
 
 pub solve_from-requires : goal.solve_from-requires

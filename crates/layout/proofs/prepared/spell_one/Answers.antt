@@ -3,7 +3,6 @@ use mathlib.Core.Path.{refl}
 use native.Mathlib.Omega.{arith}
 use Rattle.pergen.proofs.CarriedWalk.{walkable, solved_period}
 use Rattle.pergen.proofs.Calls.{accidentals_from_zero}
-use borrow.Author.Rules.{rules}
 use Rattle.layout.proofs.prepared.spell_one.Goals as goal
 
 pub spelled-requires : goal.spelled-requires

@@ -1,12 +1,11 @@
 -- The key's degree and cycle, then their two spellings.
-use Prim.Native.Nat.{ℕ, ◌<◌}
+use Prim.Native.Nat.{◌<◌}
 use mathlib.Core.Path.{ap, ◌∙◌}
 use native.Mathlib.Nat.{mod-lt}
 use native.Mathlib.Omega.{arith}
 use Rattle.pergen.specs.declared.Generation.{Generation}
 use Rattle.pergen.specs.Spelling.{accidentals_of}
 use Rattle.pergen.specs.Parts.{generation_from}
-use borrow.Author.Rules.{rules}
 use Rattle.layout.proofs.prepared.spelled.Goals as goal
 
 pub generation-generation-requires : goal.generation-generation-requires

@@ -1,6 +1,5 @@
 -- The key's degree and cycle, then their two spellings.
 use Rattle.layout.proofs.Readiness.{parts_ready, degree_below, spellings_are}
-use borrow.Author.Rules.{rules}
 use Rattle.layout.proofs.prepared.spellings.Goals as goal
 
 pub accidentals-requires : goal.accidentals-requires

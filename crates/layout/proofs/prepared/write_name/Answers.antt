@@ -3,13 +3,12 @@ use lib.ListN.{length}
 use Rattle.answer.specs.Lent.{held_in}
 use Rattle.layout.proofs.Calls.{filled_as}
 use lib.IntN.{pos}
-use mathlib.Core.Path.{ap, ◌∙◌}
+use mathlib.Core.Path.{ap}
 use Rattle.genchain.proofs.TableRows.{table_row}
 use Rattle.layout.specs.Parts.{layout_of}
 use Rattle.layout.proofs.Finding.{laid}
 use Rattle.layout.proofs.Calls.{text_planned}
 use Rattle.layout.proofs.Readiness.{planned_by_row}
-use borrow.Author.Rules.{rules}
 use Rattle.layout.proofs.prepared.write_name.Goals as goal
 
 pub spelled_in-spelled-requires : goal.spelled_in-spelled-requires

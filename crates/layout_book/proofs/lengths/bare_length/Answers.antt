@@ -1,7 +1,6 @@
 -- The rounds at both ends, and the middle.
 use native.Mathlib.Omega.{arith}
-use borrow.Author.Rules.{rules}
-use Rattle.layout_book.proofs.ReadyNumbers.{Numbers, ready_numbers}
+use Rattle.layout_book.proofs.ReadyNumbers.{ready_numbers}
 use Rattle.layout_book.proofs.LettersRead.{ready_row, row_length}
 use Rattle.layout_book.proofs.BareLengths.{round_inside, middle_stretch, few_rounds, few_signs, few_signs_all, few_letters, bare_length}
 use Rattle.layout_book.proofs.lengths.bare_length.Goals as goal

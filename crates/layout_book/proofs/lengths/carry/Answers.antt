@@ -1,5 +1,4 @@
 -- The quotient of the next index, by one comparison.
-use borrow.Author.Rules.{rules}
 use Rattle.layout_book.proofs.PlacesAlong.{carry_none, carry_one}
 use Rattle.layout_book.proofs.lengths.carry.Goals as goal
 

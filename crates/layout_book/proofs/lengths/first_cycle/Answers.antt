@@ -1,5 +1,4 @@
 -- The cycle that key 0 shows.
-use borrow.Author.Rules.{rules}
 use Rattle.layout_book.proofs.BareNames.{first_shown}
 use Rattle.layout_book.proofs.lengths.first_cycle.Goals as goal
 

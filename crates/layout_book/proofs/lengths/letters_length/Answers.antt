@@ -1,14 +1,13 @@
-use Prim.Native.Nat.{ℕ, ◌-◌, ◌≤◌}
+use Prim.Native.Nat.{ℕ}
 use mathlib.Core.Path.{ap, ◌∙◌}
 use native.Mathlib.Nat.{le_antisymm}
 use native.Mathlib.Omega.{arith}
 use lib.ListN.{length}
-use borrow.Author.Rules.{rules}
 use Rattle.text.specs.Writing.{joined}
 use Rattle.genchain.specs.Chains.{letters_in}
 use Rattle.genchain.proofs.TableRows.{row_count_small}
 use Rattle.layout_book.specs.Parts.{letter_in}
-use Rattle.layout_book.proofs.LettersRead.{LettersAdded, letters_none, letters_more}
+use Rattle.layout_book.proofs.LettersRead.{letters_none, letters_more}
 use Rattle.layout_book.proofs.lengths.letters_length.Goals as goal
 
 pub loop-index-init : goal.loop-index-init

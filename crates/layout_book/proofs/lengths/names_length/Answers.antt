@@ -1,7 +1,6 @@
 -- The bare names in each cycle, and their stars.
 use native.Mathlib.Omega.{arith}
-use borrow.Author.Rules.{rules}
-use Rattle.layout_book.proofs.ReadyNumbers.{Numbers, ready_numbers}
+use Rattle.layout_book.proofs.ReadyNumbers.{ready_numbers}
 use Rattle.layout_book.proofs.NamesLength.{names_measured, few_stars, names_parts}
 use Rattle.layout_book.proofs.lengths.names_length.Goals as goal
 

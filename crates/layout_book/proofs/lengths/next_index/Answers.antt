@@ -1,5 +1,4 @@
 -- The remainder of the next index, by one comparison.
-use borrow.Author.Rules.{rules}
 use Rattle.layout_book.proofs.PlacesAlong.{letter_stays, letter_first}
 use Rattle.layout_book.proofs.lengths.next_index.Goals as goal
 

@@ -1,10 +1,8 @@
-use Prim.Native.Nat.{◌-◌}
 use native.Mathlib.Omega.{arith}
-use borrow.Author.Rules.{rules}
 use Rattle.math.proofs.Congruence.{mod_room}
 use Rattle.layout.proofs.Readiness.{ready_walkable}
-use Rattle.layout_book.proofs.ReadyNumbers.{Numbers, ready_numbers}
-use Rattle.layout_book.proofs.PlacesAlong.{Adding, first_past, adding_first, sharp_below, flat_below, sharps_fit, flat_left, total_fits, adding_next, all_added}
+use Rattle.layout_book.proofs.ReadyNumbers.{ready_numbers}
+use Rattle.layout_book.proofs.PlacesAlong.{first_past, adding_first, sharp_below, flat_below, sharps_fit, flat_left, total_fits, adding_next, all_added}
 use Rattle.layout_book.proofs.lengths.stretch_length.Goals as goal
 
 pub first_cycle-cycle-requires : goal.first_cycle-cycle-requires

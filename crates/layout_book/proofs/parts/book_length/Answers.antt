@@ -4,7 +4,6 @@ use Rattle.book.proofs.Written.{length_book}
 use Rattle.layout.specs.Names.{listed_name}
 use Rattle.layout.specs.Parts.{layout_in}
 use Rattle.layout_book.specs.LayoutBooks.{book_in}
-use borrow.Author.Rules.{rules}
 use Rattle.layout_book.proofs.parts.book_length.Goals as goal
 
 pub returns : goal.returns

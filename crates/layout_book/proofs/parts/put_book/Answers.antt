@@ -5,7 +5,6 @@ use Rattle.text.proofs.Writing.{then, wrote_as, wrote_length}
 use Rattle.text.proofs.FourBytes.{length_le32}
 use Rattle.layout.specs.Parts.{layout_in}
 use Rattle.layout_book.proofs.BookCalls.{book_whole, length_whole}
-use borrow.Author.Rules.{rules}
 use Rattle.layout_book.proofs.parts.put_book.Goals as goal
 
 pub put_u32-requires : goal.put_u32-requires

@@ -1,15 +1,11 @@
-use Prim.Native.Nat.{ℕ, ◌+◌, ◌-◌, ◌≤◌}
+use Prim.Native.Nat.{ℕ, ◌+◌, ◌-◌}
 use native.Mathlib.Omega.{arith}
 use native.Mathlib.Nat.{le_antisymm}
 use mathlib.Core.Path.{subst}
-use mathlib.Core.List.{List}
-use borrow.Author.Rules.{rules}
-use Rattle.text.specs.Writing.{joined}
 use Rattle.text.proofs.Joined.{length_joined_more, length_joined_le}
 use Rattle.text.proofs.Writing.{wrote_as, wrote_length}
-use Rattle.notes.specs.declared.plans.NamePlan.{NamePlan}
 use Rattle.notes.specs.Parts.{starred_text}
-use Rattle.layout_book.specs.Parts.{starred_pair, Beside}
+use Rattle.layout_book.specs.Parts.{starred_pair}
 use Rattle.layout_book.proofs.Due.{length_numbers, length_starred_pairs, numbers_starred}
 use Rattle.layout_book.proofs.SideBySide.{beside_start, beside_room, beside_more, beside_length}
 use Rattle.layout_book.proofs.parts.put_cycles.Invariants.{Written}

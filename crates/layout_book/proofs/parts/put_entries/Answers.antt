@@ -1,11 +1,9 @@
-use Prim.Native.Nat.{◌-◌}
 use native.Mathlib.Omega.{arith}
 use native.Mathlib.Nat.{div-le_self}
 use mathlib.Core.Path.{refl}
-use borrow.Author.Rules.{rules}
 use Rattle.layout.proofs.Readiness.{ready_walkable}
 use Rattle.layout_book.proofs.ReadyNumbers.{ready_numbers}
-use Rattle.layout_book.proofs.Turns.{Entering, entering_first, place_below, pair_fits_lem, turn_fits, entering_next, entering_length, all_entered}
+use Rattle.layout_book.proofs.Turns.{entering_first, place_below, pair_fits_lem, turn_fits, entering_next, entering_length, all_entered}
 use Rattle.layout_book.proofs.parts.put_entries.Goals as goal
 
 pub nonzero_div-reciprocal : goal.nonzero_div-reciprocal

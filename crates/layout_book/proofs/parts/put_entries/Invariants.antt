@@ -1,11 +1,6 @@
 -- After `turn` turns the place is that of the turn, its first name is due at `text`, and the pairs and names before it stand side by side.
 use Prim.Native.Nat.{◌-◌}
-use native.Mathlib.Omega.{arith}
-use native.Mathlib.Nat.{div-le_self}
-use mathlib.Core.Path.{refl}
-use Rattle.layout.proofs.Readiness.{ready_walkable}
-use Rattle.layout_book.proofs.ReadyNumbers.{ready_numbers}
-use Rattle.layout_book.proofs.Turns.{Entering, entering_first, place_below, pair_fits_lem, turn_fits, entering_next, entering_length, all_entered}
+use Rattle.layout_book.proofs.Turns.{Entering}
 use Rattle.layout_book.proofs.parts.put_entries.Given as goal
 
 abbrev pub invariant-loop-turn : goal.invariant-loop-turn

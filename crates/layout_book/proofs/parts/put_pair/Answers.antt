@@ -4,7 +4,6 @@ use Rattle.text.proofs.Writing.{then}
 use Rattle.text.proofs.FourBytes.{length_le32}
 use Rattle.layout_book.specs.Parts.{numbers_text}
 use Rattle.layout_book.proofs.Due.{length_numbers}
-use borrow.Author.Rules.{rules}
 use Rattle.layout_book.proofs.parts.put_pair.Goals as goal
 
 pub put_u32-next-requires : goal.put_u32-next-requires

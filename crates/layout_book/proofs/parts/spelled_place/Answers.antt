@@ -1,7 +1,6 @@
 -- A letter alone, or remainder and quotient of both coordinates.
 use Prim.Native.Nat.{◌+◌, ◌-◌}
 use native.Mathlib.Omega.{arith}
-use borrow.Author.Rules.{rules}
 use Rattle.layout_book.proofs.SpelledPlaces.{place_alone, place_signed, rounds_below, rest_below}
 use Rattle.layout_book.proofs.parts.spelled_place.Goals as goal
 

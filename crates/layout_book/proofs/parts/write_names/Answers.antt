@@ -7,7 +7,6 @@ use Rattle.answer.proofs.Lent.{held, not_held, filled_refused}
 use Rattle.text.proofs.Writing.{filled_given}
 use Rattle.layout.specs.Parts.{layout_in}
 use Rattle.layout_book.specs.LayoutBooks.{book_in}
-use borrow.Author.Rules.{rules}
 use Rattle.layout_book.proofs.parts.write_names.Goals as goal
 
 pub returns-then-out-bytes : goal.returns-then-out-bytes

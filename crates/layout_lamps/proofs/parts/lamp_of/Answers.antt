@@ -5,7 +5,6 @@ use Rattle.layout.specs.Parts.{layout_in}
 use borrow.Author.Tests.{eqb-true, eqb-false}
 use Rattle.layout_layers.proofs.Theorems.{numbers_are_below}
 use Rattle.layout_lamps.proofs.StripLaws.{lamp_home, lamp_other}
-use borrow.Author.Rules.{rules}
 use Rattle.layout_lamps.proofs.parts.lamp_of.Goals as goal
 
 pub returns-then-is_home : goal.returns-then-is_home

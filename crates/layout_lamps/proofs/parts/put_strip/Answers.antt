@@ -1,6 +1,5 @@
 -- The codes, home over the first, and over the one at the octave where there is a second octave.
 use Rattle.layout_lamps.proofs.StripLaws.{counted_within, strip_coded, first_inside, octave_inside, home_over, homes_over}
-use borrow.Author.Rules.{rules}
 use Rattle.layout_lamps.proofs.parts.put_strip.Goals as goal
 
 pub put_entries-requires : goal.put_entries-requires

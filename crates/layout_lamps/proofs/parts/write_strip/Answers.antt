@@ -5,7 +5,6 @@ use Rattle.layout_layers.specs.Parts.{total_of, Fronted}
 use Rattle.layout_layers.proofs.Calls.{text_too_long, text_held}
 use Rattle.layout_lamps.specs.Parts.{plan_strip}
 use Rattle.layout_lamps.proofs.StripLaws.{length_strip}
-use borrow.Author.Rules.{rules}
 use Rattle.layout_lamps.proofs.parts.write_strip.Goals as goal
 
 pub returns-then-out-count : goal.returns-then-out-count

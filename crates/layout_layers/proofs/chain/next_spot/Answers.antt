@@ -1,6 +1,5 @@
 -- One comparison for the remainder.
 use Rattle.layout_layers.proofs.ChainLaws.{next_stays, next_wraps}
-use borrow.Author.Rules.{rules}
 use Rattle.layout_layers.proofs.chain.next_spot.Goals as goal
 
 pub returns-then-spot-left : goal.returns-then-spot-left

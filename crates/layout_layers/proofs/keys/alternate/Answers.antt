@@ -1,9 +1,7 @@
 -- The definition's test.
-use Prim.Native.Nat.{◌+◌}
 use native.Mathlib.Omega.{arith}
 use native.Mathlib.Nat.{mul-le-mul}
 use Rattle.layout_layers.proofs.PlanLaws.{alternating_same, alternating_other, steps_fit}
-use borrow.Author.Rules.{rules}
 use Rattle.layout_layers.proofs.keys.alternate.Goals as goal
 
 pub overflow_mul-here : goal.overflow_mul-here

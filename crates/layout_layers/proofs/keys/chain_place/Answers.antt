@@ -1,6 +1,5 @@
 -- One comparison for the remainder.
 use Rattle.layout_layers.proofs.PlanLaws.{place_stays, place_wraps}
-use borrow.Author.Rules.{rules}
 use Rattle.layout_layers.proofs.keys.chain_place.Goals as goal
 
 pub returns-then-degree-left : goal.returns-then-degree-left

@@ -1,6 +1,5 @@
 -- Places are left for the enharmonic layer, or they are not.
 use native.Mathlib.Omega.{arith}
-use borrow.Author.Rules.{rules}
 use Rattle.layout_layers.proofs.LayerPlaces.{sharp_fits, count_without, count_with, count_fits}
 use Rattle.layout_layers.proofs.keys.count_of.Goals as goal
 

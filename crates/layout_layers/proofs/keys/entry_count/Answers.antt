@@ -1,7 +1,6 @@
 -- Two octaves where both steps are equal.
 use native.Mathlib.Omega.{arith}
 use Rattle.layout_layers.proofs.PreparedPlans.{entries_double, entries_single}
-use borrow.Author.Rules.{rules}
 use Rattle.layout_layers.proofs.keys.entry_count.Goals as goal
 
 pub returns-then-found : goal.returns-then-found

@@ -1,6 +1,5 @@
 -- Flat, sharp or natural, enharmonic.
 use native.Mathlib.Omega.{arith}
-use borrow.Author.Rules.{rules}
 use Rattle.layout_layers.proofs.LayerPlaces.{sharp_fits, count_fits, faced_sharp, flat_below, layer_flat, layer_enharmonic}
 use Rattle.layout_layers.proofs.keys.layer_at.Goals as goal
 

@@ -2,7 +2,6 @@
 use mathlib.Core.Path.{sym, ◌∙◌}
 use native.Mathlib.Nat.{div-le_self}
 use native.Mathlib.Omega.{arith}
-use borrow.Author.Rules.{rules}
 use Rattle.layout_layers.proofs.PreparedLayers.{some_cycles, key_place, layer_alternates, place_inside, layer_listed}
 use Rattle.layout_layers.proofs.keys.layer_of.Goals as goal
 

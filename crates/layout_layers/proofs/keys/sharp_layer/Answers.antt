@@ -1,6 +1,5 @@
 -- Full layers come first.
 use native.Mathlib.Omega.{arith}
-use borrow.Author.Rules.{rules}
 use Rattle.layout_layers.proofs.LayerPlaces.{sharp_fits, layer_small, layer_full, layer_partial}
 use Rattle.layout_layers.proofs.keys.sharp_layer.Goals as goal
 

@@ -1,6 +1,5 @@
 -- Full layers, and those behind them: all are on the chain.
 use native.Mathlib.Omega.{arith}
-use borrow.Author.Rules.{rules}
 use Rattle.layout_layers.proofs.LayerPlaces.{sharp_fits}
 use Rattle.layout_layers.proofs.keys.sharp_places.Goals as goal
 

@@ -1,5 +1,4 @@
 -- Two layers, or as many as there are, in each cycle.
-use Prim.Native.Nat.{◌*◌}
 use mathlib.Core.Path.{sym, ◌∙◌}
 use native.Mathlib.Omega.{arith}
 use borrow.Author.Rules.{rules}

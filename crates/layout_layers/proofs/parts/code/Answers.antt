@@ -1,6 +1,5 @@
 -- Natural; at the half; on either side of it.
 use Rattle.layout_layers.proofs.LampCodeLaws.{code_first, code_half, code_side}
-use borrow.Author.Rules.{rules}
 use Rattle.layout_layers.proofs.parts.code.Goals as goal
 
 pub returns-then-number-eq0 : goal.returns-then-number-eq0

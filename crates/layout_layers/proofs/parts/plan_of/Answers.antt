@@ -1,6 +1,5 @@
 -- With the divisor of the steps.
 use Rattle.layout_layers.proofs.PlanLaws.{divisor_is_cycles}
-use borrow.Author.Rules.{rules}
 use Rattle.layout_layers.proofs.parts.plan_of.Goals as goal
 
 pub plan_with-requires : goal.plan_with-requires

@@ -1,7 +1,6 @@
-use Prim.Native.Nat.{◌-◌, ◌≤◌}
 use mathlib.Core.Path.{ap}
 use native.Mathlib.Omega.{arith}
-use Rattle.layout_layers.specs.Parts.{Spread, InTurns, plan_number, shown_as}
+use Rattle.layout_layers.specs.Parts.{shown_as}
 use Rattle.layout_layers.proofs.SpreadLaws.{spread_as, turns_none, turns_more, turns_room, turns_all}
 use Rattle.layout_layers.proofs.PlanLaws.{layer_alternates, number_alternates, turn_within}
 use Rattle.layout_layers.proofs.parts.put_alternating.Goals as goal

@@ -1,17 +1,10 @@
-use Prim.Native.Nat.{◌-◌, ◌≤◌}
-use mathlib.Core.Path.{◌≡◌}
 use native.Mathlib.Omega.{arith}
-use lib.ListN.{length}
-use Rattle.text.specs.Writing.{joined}
-use Rattle.mos_layers.specs.Layers.{drop_empty}
-use Rattle.mos_layers.specs.Theorems.{sum}
 use Rattle.mos_layers.specs.Parts.{run_at}
 use Rattle.mos_layers.proofs.Sizes.{count_none, count_more}
-use Rattle.layout_layers.specs.Parts.{Walk, listed_number, shown_as, limit}
+use Rattle.layout_layers.specs.Parts.{shown_as, limit}
 use Rattle.layout_layers.proofs.PlanLaws.{listed_within}
 use Rattle.layout_layers.proofs.RunPlaces.{count_within}
 use Rattle.layout_layers.proofs.ChainLaws.{chain_start, chain_ahead, chain_fits, chain_more, chain_done}
-use borrow.Author.Rules.{rules}
 use Rattle.layout_layers.proofs.parts.put_chain.Goals as goal
 
 pub first_spot-spot-requires : goal.first_spot-spot-requires

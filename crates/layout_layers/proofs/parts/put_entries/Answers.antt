@@ -4,7 +4,6 @@ use native.Mathlib.Omega.{arith}
 use Rattle.layout_layers.specs.Parts.{shown_as}
 use Rattle.layout_layers.proofs.SpreadLaws.{spread_as}
 use Rattle.layout_layers.proofs.PlanLaws.{length_plan, turns_single, number_listed, entries_front}
-use borrow.Author.Rules.{rules}
 use Rattle.layout_layers.proofs.parts.put_entries.Goals as goal
 
 pub put_alternating-requires : goal.put_alternating-requires

@@ -1,11 +1,9 @@
-use Prim.Native.Nat.{◌+◌, ◌*◌, ◌-◌, ◌%◌, ◌≤◌}
 use mathlib.Core.Path.{ap, ◌∙◌}
 use native.Mathlib.Nat.{le_antisymm}
 use native.Mathlib.Omega.{arith}
-use Rattle.layout_layers.specs.Parts.{Walk, shown_as, limit}
+use Rattle.layout_layers.specs.Parts.{shown_as, limit}
 use Rattle.layout_layers.proofs.ChainLaws.{walk_none, walk_then, walk_one, walk_count, walk_as, turn_room, layer_fits}
 use Rattle.layout_layers.proofs.SpreadLaws.{single_number}
-use borrow.Author.Rules.{rules}
 use Rattle.layout_layers.proofs.parts.put_layer.Goals as goal
 
 pub shown-entry-requires : goal.shown-entry-requires

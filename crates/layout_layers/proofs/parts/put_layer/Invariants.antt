@@ -1,11 +1,6 @@
 -- One entry where there is one cycle; else place by place: what was walked has the layer's entries, and the spot is where the walk stands.
 use Prim.Native.Nat.{◌+◌, ◌*◌, ◌-◌, ◌%◌, ◌≤◌}
-use mathlib.Core.Path.{ap, ◌∙◌}
-use native.Mathlib.Nat.{le_antisymm}
-use native.Mathlib.Omega.{arith}
-use Rattle.layout_layers.specs.Parts.{Walk, shown_as, limit}
-use Rattle.layout_layers.proofs.ChainLaws.{walk_none, walk_then, walk_one, walk_count, walk_as, turn_room, layer_fits}
-use Rattle.layout_layers.proofs.SpreadLaws.{single_number}
+use Rattle.layout_layers.specs.Parts.{Walk, shown_as}
 use Rattle.layout_layers.proofs.parts.put_layer.Given as goal
 
 abbrev pub invariant-loop-k : goal.invariant-loop-k

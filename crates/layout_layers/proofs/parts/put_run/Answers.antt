@@ -1,8 +1,8 @@
-use Prim.Native.Nat.{ℕ, ◌+◌, ◌*◌, ◌-◌, ◌≤◌}
+use Prim.Native.Nat.{ℕ, ◌+◌, ◌*◌}
 use mathlib.Core.Path.{ap}
 use native.Mathlib.Nat.{le_antisymm}
 use native.Mathlib.Omega.{arith}
-use Rattle.layout_layers.specs.Parts.{Walk, run_number, shown_as, limit}
+use Rattle.layout_layers.specs.Parts.{shown_as, limit}
 use Rattle.layout_layers.proofs.LampCodeLaws.{limit_fits}
 use Rattle.layout_layers.proofs.ChainLaws.{run_empty, run_start, run_more, run_room, run_fits, layer_fits, walk_count, ahead_part}
 use borrow.Author.Rules.{rules}

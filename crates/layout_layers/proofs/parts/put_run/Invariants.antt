@@ -1,11 +1,6 @@
 -- After k layers their places are walked.
-use Prim.Native.Nat.{ℕ, ◌+◌, ◌*◌, ◌-◌, ◌≤◌}
-use mathlib.Core.Path.{ap}
-use native.Mathlib.Nat.{le_antisymm}
-use native.Mathlib.Omega.{arith}
-use Rattle.layout_layers.specs.Parts.{Walk, run_number, shown_as, limit}
-use Rattle.layout_layers.proofs.LampCodeLaws.{limit_fits}
-use Rattle.layout_layers.proofs.ChainLaws.{run_empty, run_start, run_more, run_room, run_fits, layer_fits, walk_count, ahead_part}
+use Prim.Native.Nat.{◌*◌, ◌-◌, ◌≤◌}
+use Rattle.layout_layers.specs.Parts.{Walk, run_number, shown_as}
 use Rattle.layout_layers.proofs.parts.put_run.Given as goal
 
 abbrev pub invariant-loop-k : goal.invariant-loop-k

@@ -1,10 +1,7 @@
-use Prim.Native.Nat.{◌-◌, ◌≤◌}
 use mathlib.Core.Path.{refl}
 use native.Mathlib.Nat.{le_antisymm}
 use native.Mathlib.Omega.{arith}
 use lib.ListN.{length}
-use borrow.Author.Rules.{rules}
-use Rattle.layout_layers.specs.Parts.{Walk}
 use Rattle.layout_layers.proofs.SpreadLaws.{block_single}
 use Rattle.layout_layers.proofs.ChainLaws.{walk_none, walk_then, walk_one, walk_count, single_inside}
 use Rattle.layout_layers.proofs.parts.put_single.Goals as goal

@@ -1,12 +1,6 @@
 -- Place by place: what was walked has the entry, and the spot is where the walk stands.
 use Prim.Native.Nat.{◌-◌, ◌≤◌}
-use mathlib.Core.Path.{refl}
-use native.Mathlib.Nat.{le_antisymm}
-use native.Mathlib.Omega.{arith}
-use lib.ListN.{length}
 use Rattle.layout_layers.specs.Parts.{Walk}
-use Rattle.layout_layers.proofs.SpreadLaws.{block_single}
-use Rattle.layout_layers.proofs.ChainLaws.{walk_none, walk_then, walk_one, walk_count, single_inside}
 use Rattle.layout_layers.proofs.parts.put_single.Given as goal
 
 abbrev pub invariant-loop-k : goal.invariant-loop-k

@@ -1,10 +1,10 @@
-use Prim.Native.Nat.{◌+◌, ◌*◌, ◌-◌, ◌%◌, ◌≤◌}
+use Prim.Native.Nat.{◌*◌}
 use native.Mathlib.Omega.{arith}
 use borrow.Author.Rules.{rules}
-use mathlib.Core.Path.{◌≡◌, ap, ◌∙◌}
-use Rattle.layout_layers.specs.Parts.{Spread, shown_as}
+use mathlib.Core.Path.{ap, ◌∙◌}
+use Rattle.layout_layers.specs.Parts.{shown_as}
 use Rattle.layout_layers.proofs.LampCodeLaws.{limit_fits}
-use Rattle.layout_layers.proofs.SpreadLaws.{InBlock, block_none, block_more, block_whole, block_number}
+use Rattle.layout_layers.proofs.SpreadLaws.{block_none, block_more, block_whole, block_number}
 use Rattle.layout_layers.proofs.parts.put_turn.Goals as goal
 
 pub overflow_mul-at : goal.overflow_mul-at

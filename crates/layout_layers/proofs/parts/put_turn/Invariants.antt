@@ -1,10 +1,8 @@
 -- After c turns the first c keys of the scale degree have their entries.
 use Prim.Native.Nat.{◌+◌, ◌*◌, ◌-◌, ◌%◌, ◌≤◌}
-use native.Mathlib.Omega.{arith}
-use mathlib.Core.Path.{◌≡◌, ap, ◌∙◌}
+use mathlib.Core.Path.{◌≡◌}
 use Rattle.layout_layers.specs.Parts.{Spread, shown_as}
-use Rattle.layout_layers.proofs.LampCodeLaws.{limit_fits}
-use Rattle.layout_layers.proofs.SpreadLaws.{InBlock, block_none, block_more, block_whole, block_number}
+use Rattle.layout_layers.proofs.SpreadLaws.{InBlock}
 use Rattle.layout_layers.proofs.parts.put_turn.Given as goal
 
 abbrev pub invariant-loop-c : goal.invariant-loop-c

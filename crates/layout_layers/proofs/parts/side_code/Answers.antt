@@ -1,7 +1,6 @@
 -- The comparison chooses.
 use mathlib.Core.Path.{refl}
 use borrow.Author.Tests.{lt-ltb, le-ltb}
-use borrow.Author.Rules.{rules}
 use Rattle.layout_layers.proofs.parts.side_code.Goals as goal
 
 pub returns-then-number-left : goal.returns-then-number-left

@@ -3,7 +3,6 @@ use Prim.Native.Nat.{ℕ, ◌*◌}
 use mathlib.Core.Path.{ap, ◌∙◌}
 use native.Mathlib.Omega.{arith}
 use Rattle.layout_layers.proofs.PlanLaws.{count_alternates, count_listed}
-use borrow.Author.Rules.{rules}
 use Rattle.layout_layers.proofs.parts.total_of.Goals as goal
 
 pub overflow_mul-result : goal.overflow_mul-result

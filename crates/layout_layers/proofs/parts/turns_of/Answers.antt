@@ -1,5 +1,4 @@
 -- Twice the reduced period where the scale is equalized.
-use native.Mathlib.Omega.{arith}
 use Rattle.layout_layers.proofs.PlanLaws.{turns_double, turns_single}
 use borrow.Author.Rules.{rules}
 use Rattle.layout_layers.proofs.parts.turns_of.Goals as goal

@@ -3,7 +3,6 @@ use native.Mathlib.Omega.{arith}
 use Rattle.layout_layers.specs.Parts.{plan_layers}
 use Rattle.layout_layers.proofs.LampCodeLaws.{numbers_front}
 use Rattle.layout_layers.proofs.Calls.{text_too_long, text_held}
-use borrow.Author.Rules.{rules}
 use Rattle.layout_layers.proofs.parts.write_layers.Goals as goal
 
 pub returns-then-out-count : goal.returns-then-out-count

@@ -1,6 +1,5 @@
 -- Questions 1 to 4 and 18, then 10 of either list and the entries.
 use mathlib.Core.Path.{sym, ap, ◌∙◌}
-use borrow.Author.Rules.{rules}
 use Rattle.layout.specs.Parts.{found_outcome}
 use Rattle.layout.proofs.Calls.{laid_of, ready_given}
 use Rattle.layout_order.proofs.Ordering.{call_refused, call_given}

@@ -1,10 +1,10 @@
-use Prim.Native.Nat.{ℕ, ◌-◌}
+use Prim.Native.Nat.{ℕ}
 use mathlib.Core.Path.{ap}
 use native.Mathlib.Omega.{arith}
 use lib.ListN.{get_or}
 use borrow.Author.Rules.{rules}
 use Rattle.layout.proofs.Readiness.{ready_walkable}
-use Rattle.layout_order.proofs.Carrying.{Carrying, position_below, carry_start, carry_length, carry_on, carry_end}
+use Rattle.layout_order.proofs.Carrying.{position_below, carry_start, carry_length, carry_on, carry_end}
 use Rattle.layout_order.proofs.parts.put_order.Goals as goal
 
 pub first-key-requires : goal.first-key-requires

@@ -1,10 +1,6 @@
 -- The entries of the keys before the one at hand are placed. `test` is where the key was found to be one of the octave.
-use Prim.Native.Nat.{ℕ, ◌-◌}
-use mathlib.Core.Path.{ap}
-use native.Mathlib.Omega.{arith}
-use lib.ListN.{get_or}
-use Rattle.layout.proofs.Readiness.{ready_walkable}
-use Rattle.layout_order.proofs.Carrying.{Carrying, position_below, carry_start, carry_length, carry_on, carry_end}
+use Prim.Native.Nat.{◌-◌}
+use Rattle.layout_order.proofs.Carrying.{Carrying}
 use Rattle.layout_order.proofs.parts.put_order.Given as goal
 
 abbrev pub invariant-loop-key : goal.invariant-loop-key

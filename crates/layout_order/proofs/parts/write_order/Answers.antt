@@ -1,6 +1,4 @@
 -- Question 10 of either list, then the entries.
-use borrow.Author.Rules.{rules}
-use borrow.Author.Tests.{not-true, not-false}
 use Rattle.layout_order.proofs.Ordering.{order_refused, order_asks, order_given}
 use Rattle.layout_order.proofs.parts.write_order.Goals as goal
 

@@ -1,6 +1,5 @@
 -- The gap, from the lower to the higher, and the shorter way of it.
 use Rattle.layout_reach.proofs.Blocks.{distance_first, distance_second}
-use borrow.Author.Rules.{rules}
 use Rattle.layout_reach.proofs.parts.distance.Goals as goal
 
 pub returns-then-a-b : goal.returns-then-a-b

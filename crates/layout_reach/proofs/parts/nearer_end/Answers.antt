@@ -2,7 +2,6 @@
 use mathlib.Core.Path.{refl}
 use mathlib.Core.Logic.{inl, inr}
 use native.Mathlib.Omega.{arith}
-use borrow.Author.Rules.{rules}
 use Rattle.layout_reach.proofs.parts.nearer_end.Goals as goal
 
 pub returns-then-distance : goal.returns-then-distance

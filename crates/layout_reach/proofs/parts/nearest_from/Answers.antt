@@ -3,7 +3,6 @@ use mir.Syntax.{w32}
 use Rattle.math.proofs.Answers.{remainder_read}
 use Rattle.layout_reach.proofs.Distances.{round_below}
 use Rattle.layout_reach.proofs.Nearest.{block, nearest_from}
-use borrow.Author.Rules.{rules}
 use Rattle.layout_reach.proofs.parts.nearest_from.Goals as goal
 
 pub nearest_in-requires : goal.nearest_in-requires

@@ -2,7 +2,6 @@
 use mathlib.Core.Logic.{inl, inr}
 use native.Mathlib.Omega.{arith}
 use Rattle.layout_reach.proofs.Blocks.{key_itself, end_is}
-use borrow.Author.Rules.{rules}
 use Rattle.layout_reach.proofs.parts.nearest_in.Goals as goal
 
 pub returns-then-key-base : goal.returns-then-key-base

@@ -1,10 +1,8 @@
-use Prim.Native.Nat.{◌+◌, ◌-◌, ◌≤◌}
-use mathlib.Core.Path.{◌≡◌, refl}
-use lib.ListN.{length, length-set}
+use Prim.Native.Nat.{◌-◌}
+use mathlib.Core.Path.{refl}
+use lib.ListN.{length-set}
 use native.Mathlib.Nat.{le_antisymm}
 use native.Mathlib.Omega.{arith}
-use Rattle.text.specs.Writing.{Wrote}
-use Rattle.math.specs.Passing.{run}
 use Rattle.math.proofs.Passing.{length_run}
 use Rattle.layout_reach.proofs.Spans.{run_start, run_step}
 use Rattle.layout_reach.proofs.parts.put_run.Goals as goal

@@ -1,13 +1,9 @@
 -- What is stored is a run that grows by one with each turn.
 use Prim.Native.Nat.{◌+◌, ◌-◌, ◌≤◌}
-use mathlib.Core.Path.{◌≡◌, refl}
-use lib.ListN.{length, length-set}
-use native.Mathlib.Nat.{le_antisymm}
-use native.Mathlib.Omega.{arith}
+use mathlib.Core.Path.{◌≡◌}
+use lib.ListN.{length}
 use Rattle.text.specs.Writing.{Wrote}
 use Rattle.math.specs.Passing.{run}
-use Rattle.math.proofs.Passing.{length_run}
-use Rattle.layout_reach.proofs.Spans.{run_start, run_step}
 use Rattle.layout_reach.proofs.parts.put_run.Given as goal
 
 abbrev pub invariant-loop-key : goal.invariant-loop-key

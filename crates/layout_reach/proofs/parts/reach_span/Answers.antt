@@ -1,6 +1,5 @@
 -- One law for each way in which it ends.
 use Rattle.layout_reach.proofs.Spans.{span_all, span_low, span_high, span_inside}
-use borrow.Author.Rules.{rules}
 use Rattle.layout_reach.proofs.parts.reach_span.Goals as goal
 
 pub returns-then-octave-distance : goal.returns-then-octave-distance

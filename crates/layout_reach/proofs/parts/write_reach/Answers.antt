@@ -5,7 +5,6 @@ use Rattle.math.proofs.Answers.{remainder_read}
 use Rattle.text.proofs.Writing.{room_next}
 use Rattle.layout_reach.proofs.Distances.{round_below}
 use Rattle.layout_reach.proofs.Spans.{span_round, runs_fit, first_fits, reach_no_room, reach_written}
-use borrow.Author.Rules.{rules}
 use Rattle.layout_reach.proofs.parts.write_reach.Goals as goal
 
 pub returns-then-out-count : goal.returns-then-out-count

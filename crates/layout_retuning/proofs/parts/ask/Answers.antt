@@ -3,7 +3,6 @@ use mathlib.Core.Path.{sym, ap, ◌∙◌}
 use Rattle.layout.specs.Parts.{found_outcome}
 use Rattle.layout.specs.Layouts.{layout_outcome}
 use Rattle.layout_retuning.proofs.BothLayouts.{refused_first, refused_second, both_found}
-use borrow.Author.Rules.{rules}
 use Rattle.layout_retuning.proofs.parts.ask.Goals as goal
 
 pub returns-in-Refused : goal.returns-in-Refused

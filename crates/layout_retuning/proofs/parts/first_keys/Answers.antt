@@ -1,5 +1,4 @@
 -- The place is that of the first entry.
-use borrow.Author.Rules.{rules}
 use Rattle.layout_retuning.proofs.Strides.{first_keys}
 use Rattle.layout_retuning.proofs.parts.first_keys.Goals as goal
 

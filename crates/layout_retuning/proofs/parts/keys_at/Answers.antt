@@ -1,5 +1,4 @@
 -- Both tunings sound the place.
-use borrow.Author.Rules.{rules}
 use Rattle.layout_retuning.proofs.Strides.{keys_are}
 use Rattle.layout_retuning.proofs.parts.keys_at.Goals as goal
 

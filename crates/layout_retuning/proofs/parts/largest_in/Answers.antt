@@ -1,9 +1,4 @@
-use Prim.Native.Nat.{◌-◌, ◌≤◌}
-use mathlib.Core.Path.{◌≡◌}
 use native.Mathlib.Omega.{arith}
-use borrow.Author.Rules.{rules}
-use Rattle.layout_retuning.specs.Retunings.{largest}
-use Rattle.layout_retuning.specs.Parts.{table_by, table_keys}
 use Rattle.layout_retuning.proofs.Largest.{largest_start, largest_step, largest_end}
 use Rattle.layout_retuning.proofs.Strides.{table_keys_below, entry_is}
 use Rattle.layout_retuning.proofs.parts.largest_in.Goals as goal

@@ -1,11 +1,8 @@
 -- The largest of the table's front, which grows by an entry with each turn; the keys that are carried are the next entry's.
 use Prim.Native.Nat.{◌-◌, ◌≤◌}
 use mathlib.Core.Path.{◌≡◌}
-use native.Mathlib.Omega.{arith}
 use Rattle.layout_retuning.specs.Retunings.{largest}
 use Rattle.layout_retuning.specs.Parts.{table_by, table_keys}
-use Rattle.layout_retuning.proofs.Largest.{largest_start, largest_step, largest_end}
-use Rattle.layout_retuning.proofs.Strides.{table_keys_below, entry_is}
 use Rattle.layout_retuning.proofs.parts.largest_in.Given as goal
 
 abbrev pub invariant-loop-entry : goal.invariant-loop-entry

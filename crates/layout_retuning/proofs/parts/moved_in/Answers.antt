@@ -1,6 +1,5 @@
 -- Question 16, question 21 of both tunings, then the distance.
 use Rattle.layout_retuning.proofs.Calls.{no_letter, many_stars_first, many_stars_second, move_given}
-use borrow.Author.Rules.{rules}
 use Rattle.layout_retuning.proofs.parts.moved_in.Goals as goal
 
 pub returns-then-tunings-spelling : goal.returns-then-tunings-spelling

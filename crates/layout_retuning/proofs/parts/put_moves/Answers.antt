@@ -1,11 +1,7 @@
-use Prim.Native.Nat.{◌-◌, ◌≤◌}
-use mathlib.Core.Path.{◌≡◌, refl}
-use lib.ListN.{length, length-set}
+use mathlib.Core.Path.{refl}
+use lib.ListN.{length-set}
 use native.Mathlib.Nat.{le_antisymm}
 use native.Mathlib.Omega.{arith}
-use borrow.Author.Rules.{rules}
-use Rattle.text.specs.Writing.{Wrote}
-use Rattle.layout_retuning.specs.Parts.{table_by, table_keys}
 use Rattle.layout_retuning.proofs.Tables.{table_start, table_step}
 use Rattle.layout_retuning.proofs.Strides.{table_keys_below, entry_is}
 use Rattle.layout_retuning.proofs.parts.put_moves.Goals as goal

@@ -1,13 +1,9 @@
 -- What is stored is the table's front, which grows by an entry with each turn; the keys that are carried are the next entry's.
 use Prim.Native.Nat.{◌-◌, ◌≤◌}
-use mathlib.Core.Path.{◌≡◌, refl}
-use lib.ListN.{length, length-set}
-use native.Mathlib.Nat.{le_antisymm}
-use native.Mathlib.Omega.{arith}
+use mathlib.Core.Path.{◌≡◌}
+use lib.ListN.{length}
 use Rattle.text.specs.Writing.{Wrote}
 use Rattle.layout_retuning.specs.Parts.{table_by, table_keys}
-use Rattle.layout_retuning.proofs.Tables.{table_start, table_step}
-use Rattle.layout_retuning.proofs.Strides.{table_keys_below, entry_is}
 use Rattle.layout_retuning.proofs.parts.put_moves.Given as goal
 
 abbrev pub invariant-loop-entry : goal.invariant-loop-entry

@@ -1,5 +1,4 @@
 -- One comparison for the remainder.
-use borrow.Author.Rules.{rules}
 use Rattle.pergen.proofs.CarriedWalk.{turn_stays, turn_wraps}
 use Rattle.layout_retuning.proofs.parts.raised.Goals as goal
 

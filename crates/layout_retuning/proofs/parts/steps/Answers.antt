@@ -1,5 +1,4 @@
 -- Both keys are the spelling's, within the octave.
-use borrow.Author.Rules.{rules}
 use Rattle.layout_retuning.proofs.Calls.{steps_are}
 use Rattle.layout_retuning.proofs.Strides.{keys_below}
 use Rattle.layout_retuning.proofs.parts.steps.Goals as goal

@@ -1,6 +1,5 @@
 -- Question 10 of the count, then the moves.
 use Rattle.layout_retuning.proofs.Tables.{table_no_room, table_written}
-use borrow.Author.Rules.{rules}
 use Rattle.layout_retuning.proofs.parts.write_table.Goals as goal
 
 pub returns-then-out-count : goal.returns-then-out-count

@@ -1,6 +1,5 @@
 -- The definition's tests.
 use Rattle.layout_scale_names.proofs.ScalePlaces.{place_above_lem, place_below, place_equal}
-use borrow.Author.Rules.{rules}
 use Rattle.layout_scale_names.proofs.parts.place_of.Goals as goal
 
 pub returns-then-pattern : goal.returns-then-pattern

@@ -6,7 +6,6 @@ use Rattle.math.specs.Division.{remainder}
 use Rattle.math.proofs.Division.{remainder_below}
 use Rattle.math.proofs.Answers.{remainder_read}
 use Rattle.layout_layers.proofs.PreparedPlans.{entries_positive, entry_found}
-use borrow.Author.Rules.{rules}
 use Rattle.layout_sheet.proofs.parts.filled.Goals as goal
 
 pub rem_u32-number-requires : goal.rem_u32-number-requires

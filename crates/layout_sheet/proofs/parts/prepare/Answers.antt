@@ -5,7 +5,6 @@ use Rattle.layout.specs.Parts.{found_outcome}
 use Rattle.layout.proofs.Calls.{laid_of, ready_given}
 use Rattle.layout.proofs.Readiness.{ready_walkable}
 use Rattle.layout_sheet.proofs.Calls.{nothing_filled, all_filled}
-use borrow.Author.Rules.{rules}
 use Rattle.layout_sheet.proofs.parts.prepare.Goals as goal
 
 pub prepare-prepared-requires : goal.prepare-prepared-requires

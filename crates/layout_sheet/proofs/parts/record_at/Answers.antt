@@ -4,7 +4,6 @@ use mir.Syntax.{w32}
 use Rattle.math.proofs.Signed.{read_back_lem}
 use Rattle.layout_layers.proofs.PreparedPlans.{entry_below}
 use Rattle.layout_sheet.proofs.Records.{record_filled}
-use borrow.Author.Rules.{rules}
 use Rattle.layout_sheet.proofs.parts.record_at.Goals as goal
 
 pub lamp_of-lamp-requires : goal.lamp_of-lamp-requires

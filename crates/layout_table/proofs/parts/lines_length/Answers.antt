@@ -5,7 +5,6 @@ use lib.ListN.{length}
 use Rattle.layout.specs.Parts.{layout_in}
 use Rattle.layout_table.proofs.Lines.{length_lines}
 use Rattle.layout_table.proofs.Calls.{table_lines}
-use borrow.Author.Rules.{rules}
 use Rattle.layout_table.proofs.parts.lines_length.Goals as goal
 
 pub returns : goal.returns

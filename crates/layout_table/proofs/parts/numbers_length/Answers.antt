@@ -1,16 +1,14 @@
-use Prim.Native.Nat.{ℕ, ◌*◌, ◌-◌, ◌≤◌}
+use Prim.Native.Nat.{ℕ}
 use mathlib.Core.Path.{◌≡◌, sym, ap, ◌∙◌}
 use native.Mathlib.Nat.{le_antisymm}
 use native.Mathlib.Omega.{arith}
 use lib.ListN.{length}
 use Rattle.text.specs.Writing.{joined}
 use Rattle.text.proofs.Joined.{joined_none, length_joined_more}
-use Rattle.pergen.specs.Parts.{At}
 use Rattle.layout.specs.Parts.{layout_in}
 use Rattle.layout.proofs.Readiness.{ready_walkable}
 use Rattle.layout_table.specs.Parts.{numbers_in}
 use Rattle.layout_table.proofs.Lines.{length_numbers}
-use borrow.Author.Rules.{rules}
 use Rattle.layout_table.proofs.parts.numbers_length.Goals as goal
 
 pub first-key-requires : goal.first-key-requires

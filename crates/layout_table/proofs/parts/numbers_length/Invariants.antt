@@ -1,16 +1,11 @@
 -- The key that is carried says of how many lines the numbers are measured.
-use Prim.Native.Nat.{ℕ, ◌*◌, ◌-◌, ◌≤◌}
-use mathlib.Core.Path.{◌≡◌, sym, ap, ◌∙◌}
-use native.Mathlib.Nat.{le_antisymm}
-use native.Mathlib.Omega.{arith}
+use Prim.Native.Nat.{◌*◌, ◌-◌, ◌≤◌}
+use mathlib.Core.Path.{◌≡◌}
 use lib.ListN.{length}
 use Rattle.text.specs.Writing.{joined}
-use Rattle.text.proofs.Joined.{joined_none, length_joined_more}
 use Rattle.pergen.specs.Parts.{At}
 use Rattle.layout.specs.Parts.{layout_in}
-use Rattle.layout.proofs.Readiness.{ready_walkable}
 use Rattle.layout_table.specs.Parts.{numbers_in}
-use Rattle.layout_table.proofs.Lines.{length_numbers}
 use Rattle.layout_table.proofs.parts.numbers_length.Given as goal
 
 abbrev pub invariant-loop-key : goal.invariant-loop-key

@@ -4,7 +4,6 @@ use Rattle.layout_table.specs.Tables.{key_line}
 use native.Mathlib.Omega.{arith}
 use Rattle.text.proofs.Writing.{then, room_next}
 use Rattle.layout_table.proofs.Lines.{length_line}
-use borrow.Author.Rules.{rules}
 use Rattle.layout_table.proofs.parts.put_line.Goals as goal
 
 pub put_number-number-requires : goal.put_number-number-requires

@@ -1,11 +1,10 @@
-use Prim.Native.Nat.{ℕ, ◌+◌, ◌-◌, ◌≤◌}
+use Prim.Native.Nat.{◌+◌, ◌-◌, ◌≤◌}
 use mathlib.Core.Path.{◌≡◌, refl, sym, ap, ◌∙◌}
 use native.Mathlib.Omega.{arith}
 use lib.ListN.{length}
-use Rattle.text.specs.Writing.{Wrote, joined}
+use Rattle.text.specs.Writing.{joined}
 use Rattle.text.proofs.Writing.{wrote_as, wrote_length}
 use Rattle.text.proofs.Joined.{joined_start, joined_step, joined_room}
-use Rattle.pergen.specs.Parts.{At}
 use Rattle.layout.specs.Parts.{layout_in}
 use Rattle.layout.proofs.Readiness.{parts_ready, ready_walkable, found_twice, planned_text}
 use Rattle.layout_table.specs.Tables.{line_in}

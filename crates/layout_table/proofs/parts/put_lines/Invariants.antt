@@ -1,17 +1,11 @@
 -- The key that is carried says how many lines are written.
-use Prim.Native.Nat.{ℕ, ◌+◌, ◌-◌, ◌≤◌}
-use mathlib.Core.Path.{◌≡◌, refl, sym, ap, ◌∙◌}
-use native.Mathlib.Omega.{arith}
+use Prim.Native.Nat.{◌+◌, ◌-◌, ◌≤◌}
+use mathlib.Core.Path.{◌≡◌}
 use lib.ListN.{length}
 use Rattle.text.specs.Writing.{Wrote, joined}
-use Rattle.text.proofs.Writing.{wrote_as, wrote_length}
-use Rattle.text.proofs.Joined.{joined_start, joined_step, joined_room}
 use Rattle.pergen.specs.Parts.{At}
 use Rattle.layout.specs.Parts.{layout_in}
-use Rattle.layout.proofs.Readiness.{parts_ready, ready_walkable, found_twice, planned_text}
-use Rattle.layout_table.specs.Tables.{line_in}
 use Rattle.layout_table.specs.Parts.{line_from}
-use Rattle.layout_table.proofs.Lines.{line_is}
 use Rattle.layout_table.proofs.parts.put_lines.Given as goal
 
 abbrev pub invariant-loop-key : goal.invariant-loop-key

@@ -4,14 +4,13 @@ use mathlib.Core.Path.{refl, sym, ap, ◌∙◌}
 use native.Mathlib.Nat.{zero-add}
 use native.Mathlib.Omega.{arith}
 use lib.ListN.{length}
-use borrow.Author.Tests.{not-true, not-false, leb-true, leb-false}
+use borrow.Author.Tests.{leb-true, leb-false}
 use Rattle.answer.specs.Outcome.{given}
 use Rattle.answer.proofs.Lent.{held, not_held, filled_refused}
 use Rattle.text.proofs.Writing.{filled_given, wrote_as}
 use Rattle.layout.specs.Parts.{layout_in}
 use Rattle.layout_table.specs.Tables.{table_in}
 use Rattle.layout_table.proofs.Calls.{whole_table}
-use borrow.Author.Rules.{rules}
 use Rattle.layout_table.proofs.parts.write_lines.Goals as goal
 
 pub returns-then-not-has_room : goal.returns-then-not-has_room

@@ -3,7 +3,6 @@ use mathlib.Core.Path.{sym, ap, ◌∙◌}
 use Rattle.line.specs.Lines.{line_answered}
 use Rattle.layout.specs.Layouts.{layout_outcome}
 use Rattle.line.proofs.AskedLayouts.{line_not_read, line_read}
-use borrow.Author.Rules.{rules}
 use Rattle.line.proofs.layouts.ask_line.Goals as goal
 
 pub returns-in-Refused : goal.returns-in-Refused

@@ -3,7 +3,6 @@ use native.Mathlib.Omega.{arith}
 use Rattle.text.proofs.Writing.{then}
 use Rattle.line.specs.Refusals.{refusal_line}
 use Rattle.line.proofs.RefusalLines.{length_refusal}
-use borrow.Author.Rules.{rules}
 use Rattle.line.proofs.refusals.put_refusal.Goals as goal
 
 pub put_text-word-requires : goal.put_text-word-requires

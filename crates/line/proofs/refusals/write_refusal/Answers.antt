@@ -7,7 +7,6 @@ use Rattle.answer.proofs.Lent.{held, not_held, filled_refused}
 use Rattle.text.proofs.Writing.{filled_given}
 use Rattle.line.specs.Refusals.{refusal_line}
 use Rattle.line.proofs.RefusalLines.{length_refusal}
-use borrow.Author.Rules.{rules}
 use Rattle.line.proofs.refusals.write_refusal.Goals as goal
 
 pub returns-then-out-bytes : goal.returns-then-out-bytes

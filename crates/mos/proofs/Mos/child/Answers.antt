@@ -2,7 +2,6 @@
 use mathlib.Core.Path.{sym, ◌∙◌}
 use Rattle.mos.proofs.Sizes.{pattern_given, pattern_refused}
 use Rattle.mos.proofs.Sequences.{none_of}
-use borrow.Author.Rules.{rules}
 use Rattle.mos.proofs.Mos.child.Goals as goal
 
 pub child_of-requires : goal.child_of-requires

@@ -1,6 +1,5 @@
 -- Questions 7 and 8, with the step that the passes end with.
 use Rattle.mos.proofs.CoprimeAnswers.{coprime_no_pattern, coprime_too_large, coprime_given}
-use borrow.Author.Rules.{rules}
 use Rattle.mos.proofs.Mos.coprime.Goals as goal
 
 pub returns-then-wide_size-le65535 : goal.returns-then-wide_size-le65535

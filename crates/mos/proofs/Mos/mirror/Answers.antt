@@ -1,7 +1,6 @@
 -- Question 7, then the mirrored pattern.
 use mathlib.Core.Path.{refl}
 use Rattle.mos.proofs.Sizes.{pattern_given, pattern_refused}
-use borrow.Author.Rules.{rules}
 use Rattle.mos.proofs.Mos.mirror.Goals as goal
 
 pub returns-then-is_pattern : goal.returns-then-is_pattern

@@ -1,7 +1,6 @@
 -- Question 7, then the divisor of the steps.
 use Rattle.mos.proofs.Sizes.{pattern_given, pattern_refused}
 use Rattle.mos.specs.Patterns.{cycles_of}
-use borrow.Author.Rules.{rules}
 use Rattle.mos.proofs.Mos.num_cycles.Goals as goal
 
 pub returns-then-is_pattern : goal.returns-then-is_pattern

@@ -1,6 +1,5 @@
 -- Question 7, then what the part found.
 use Rattle.mos.proofs.Sizes.{pattern_given, pattern_refused}
-use borrow.Author.Rules.{rules}
 use Rattle.mos.proofs.Mos.num_steps.Goals as goal
 
 pub returns-then-is_pattern : goal.returns-then-is_pattern

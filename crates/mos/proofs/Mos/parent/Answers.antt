@@ -2,7 +2,6 @@
 use mathlib.Core.Path.{sym, ◌∙◌}
 use Rattle.mos.proofs.Sizes.{pattern_given, pattern_refused}
 use Rattle.mos.proofs.Sequences.{none_of}
-use borrow.Author.Rules.{rules}
 use Rattle.mos.proofs.Mos.parent.Goals as goal
 
 pub parent_of-requires : goal.parent_of-requires

@@ -3,7 +3,6 @@ use Prim.Native.Nat.{ℕ, ◌/◌}
 use mathlib.Core.Path.{ap₂}
 use Rattle.mos.proofs.Sizes.{size_given, size_refused}
 use Rattle.mos.specs.Patterns.{reduced_size_of}
-use borrow.Author.Rules.{rules}
 use Rattle.mos.proofs.Mos.reduced_size.Goals as goal
 
 pub returns-then-size-le65535 : goal.returns-then-size-le65535

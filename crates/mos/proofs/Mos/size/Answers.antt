@@ -1,6 +1,5 @@
 -- The size, where it fits.
 use Rattle.mos.proofs.Sizes.{size_given, size_refused}
-use borrow.Author.Rules.{rules}
 use Rattle.mos.proofs.Mos.size.Goals as goal
 
 pub returns-then-size-le65535 : goal.returns-then-size-le65535

@@ -1,9 +1,6 @@
-use mathlib.Core.Path.{◌≡◌, refl, ◌∙◌}
+use mathlib.Core.Path.{refl, ◌∙◌}
 use native.Mathlib.Omega.{arith}
-use borrow.Author.Rules.{rules}
-use Rattle.math.specs.Gcd.{gcd_or_one}
-use Rattle.mos.specs.Coprime.{coprime_step}
-use Rattle.mos.proofs.Passes.{left, code_falls, code_more, coprime_end}
+use Rattle.mos.proofs.Passes.{code_falls, code_more, coprime_end}
 use Rattle.mos.proofs.coprime.coprime_step.Goals as goal
 
 pub loop-g-init : goal.loop-g-init

@@ -1,9 +1,8 @@
 -- The loop keeps the divisor of both steps in hand, and the step that the passes end with; what is left falls with each pass.
-use mathlib.Core.Path.{◌≡◌, refl, ◌∙◌}
-use native.Mathlib.Omega.{arith}
+use mathlib.Core.Path.{◌≡◌}
 use Rattle.math.specs.Gcd.{gcd_or_one}
 use Rattle.mos.specs.Coprime.{coprime_step}
-use Rattle.mos.proofs.Passes.{left, code_falls, code_more, coprime_end}
+use Rattle.mos.proofs.Passes.{left}
 use Rattle.mos.proofs.coprime.coprime_step.Given as goal
 
 abbrev pub invariant-loop-g : goal.invariant-loop-g

@@ -3,7 +3,6 @@ use Prim.Native.Nat.{◌-◌}
 use native.Mathlib.Nat.{div-le_self}
 use native.Mathlib.Omega.{arith}
 use Rattle.mos.proofs.Passes.{pass_down_one, pass_down, pass_up_one, pass_up, some_above}
-use borrow.Author.Rules.{rules}
 use Rattle.mos.proofs.coprime.pass_of.Goals as goal
 
 pub overflow_sub-result : goal.overflow_sub-result

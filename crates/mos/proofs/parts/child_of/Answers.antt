@@ -1,6 +1,5 @@
 -- Each return is one way to a child; the counts fit since both steps are above 0 and the size fits.
 use native.Mathlib.Omega.{arith}
-use borrow.Author.Rules.{rules}
 use Rattle.mos.proofs.Descent.{has_child, child_longer_primary, child_longer_secondary, count_fits}
 use Rattle.mos.proofs.parts.child_of.Goals as goal
 

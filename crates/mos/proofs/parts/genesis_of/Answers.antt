@@ -1,6 +1,5 @@
 -- The step is below the period.
 use native.Mathlib.Nat.{mod-lt, le_of_lt}
-use borrow.Author.Rules.{rules}
 use Rattle.mos.proofs.parts.genesis_of.Goals as goal
 
 pub overflow_sub-result : goal.overflow_sub-result

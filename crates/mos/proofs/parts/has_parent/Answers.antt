@@ -1,6 +1,5 @@
 -- A parent is a child of the dual.
 use mathlib.Core.Path.{sym, ap, ◌∙◌}
-use borrow.Author.Rules.{rules}
 use Rattle.mos.specs.declared.Mos.{Mos}
 use Rattle.mos.specs.Patterns.{child_of}
 use Rattle.mos.specs.Parts.{is_some}

@@ -2,7 +2,6 @@
 use Prim.Native.Nat.{ℕ}
 use mathlib.Core.Path.{sym, ap, ◌∙◌}
 use lib.Dec.{leb}
-use borrow.Author.Rules.{rules}
 use Rattle.mos.proofs.Sizes.{size_decides}
 use Rattle.mos.proofs.parts.is_pattern.Goals as goal
 

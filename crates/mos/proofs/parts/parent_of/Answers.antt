@@ -1,7 +1,6 @@
 -- Swap counts with steps, child, swap back.
 use mathlib.Core.Path.{sym, ap, ◌∙◌}
 use mathlib.Core.Option.{some}
-use borrow.Author.Rules.{rules}
 use Rattle.mos.specs.declared.Mos.{Mos}
 use Rattle.mos.specs.Patterns.{is_pattern, child_of}
 use Rattle.mos.specs.Parts.{is_some}

@@ -1,6 +1,5 @@
 -- Both products, summed in 64 bits.
 use native.Mathlib.Omega.{arith}
-use borrow.Author.Rules.{rules}
 use Rattle.mos.specs.Patterns.{size_of}
 use Rattle.mos.proofs.parts.wide_size.Goals as goal
 

@@ -1,14 +1,10 @@
 -- After i turns the layers of the first i runs are counted; a run has at most 65,535.
 use Prim.Native.Nat.{◌*◌, ◌-◌, ◌≤◌}
-use mathlib.Core.Path.{◌≡◌, ap, ◌∙◌}
-use native.Mathlib.Nat.{le_antisymm}
-use native.Mathlib.Omega.{arith}
+use mathlib.Core.Path.{◌≡◌}
 use lib.ListN.{length}
-use Prim.Native.Nat.{ℕ}
 use Rattle.text.specs.Writing.{joined}
 use Rattle.mos_layers.specs.Layers.{drop_empty}
 use Rattle.mos_layers.specs.Parts.{run_at}
-use Rattle.mos_layers.proofs.Sizes.{count_none, count_more}
 use Rattle.mos_layers.proofs.parts.count_sizes.Given as goal
 
 abbrev pub invariant-loop-i : goal.invariant-loop-i

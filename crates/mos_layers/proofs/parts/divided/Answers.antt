@@ -1,6 +1,5 @@
 -- Dividing by 1 changes nothing.
 use Rattle.mos_layers.proofs.Theorems.{divided_by_one}
-use borrow.Author.Rules.{rules}
 use Rattle.mos_layers.proofs.parts.divided.Goals as goal
 
 pub returns-then-cycles-eq1 : goal.returns-then-cycles-eq1

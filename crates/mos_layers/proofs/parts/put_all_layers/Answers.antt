@@ -1,11 +1,11 @@
-use Prim.Native.Nat.{ℕ, ◌-◌, ◌≤◌}
+use Prim.Native.Nat.{ℕ}
 use mathlib.Core.Path.{ap, subst, ◌∙◌}
 use native.Mathlib.Nat.{le_antisymm, zero-add}
 use native.Mathlib.Omega.{arith}
 use lib.ListN.{get_or}
 use Rattle.text.specs.Writing.{Wrote, joined}
 use Rattle.mos_layers.specs.Layers.{drop_empty, numbered}
-use Rattle.mos_layers.specs.Parts.{run_at, Laid}
+use Rattle.mos_layers.specs.Parts.{run_at}
 use Rattle.mos_layers.proofs.Sizes.{sum_replicate}
 use Rattle.mos_layers.proofs.Cursors.{all_start, all_more, all_space, laid_as, laid_length, laid_place}
 use Rattle.mos_layers.proofs.parts.put_all_layers.Goals as goal

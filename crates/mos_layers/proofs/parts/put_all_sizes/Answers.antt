@@ -1,6 +1,5 @@
-use Prim.Native.Nat.{ℕ, ◌-◌, ◌≤◌}
+use Prim.Native.Nat.{ℕ}
 use mathlib.Core.Path.{◌≡◌, sym, ap, subst, ◌∙◌}
-use mathlib.Core.List.{List}
 use native.Mathlib.Nat.{le_antisymm, zero-add}
 use native.Mathlib.Omega.{arith}
 use Rattle.text.specs.Writing.{Room, Wrote, joined}

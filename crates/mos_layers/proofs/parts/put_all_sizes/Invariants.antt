@@ -1,16 +1,10 @@
 -- After i turns the sizes of the first i runs stand at the front, empty ones dropped run by run.
 -- the sizes of run i that are written
 use Prim.Native.Nat.{ℕ, ◌-◌, ◌≤◌}
-use mathlib.Core.Path.{◌≡◌, sym, ap, subst, ◌∙◌}
 use mathlib.Core.List.{List}
-use native.Mathlib.Nat.{le_antisymm, zero-add}
-use native.Mathlib.Omega.{arith}
-use Rattle.text.specs.Writing.{Room, Wrote, joined}
-use Rattle.text.proofs.Writing.{wrote_as, wrote_length}
-use Rattle.text.proofs.Joined.{joined_start, joined_step, joined_room}
+use Rattle.text.specs.Writing.{Wrote, joined}
 use Rattle.mos_layers.specs.Layers.{drop_empty}
 use Rattle.mos_layers.specs.Parts.{run_at}
-use Rattle.mos_layers.proofs.Sizes.{drop_joined}
 use Rattle.mos_layers.proofs.parts.put_all_sizes.Given as goal
 
 abbrev pub written : List ℕ → List ℕ → ℕ → List ℕ

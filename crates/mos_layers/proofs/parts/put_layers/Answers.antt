@@ -1,9 +1,8 @@
-use Prim.Native.Nat.{ℕ, ◌*◌, ◌-◌, ◌≤◌}
+use Prim.Native.Nat.{ℕ, ◌*◌}
 use mathlib.Core.Path.{ap}
 use native.Mathlib.Nat.{le_antisymm}
 use native.Mathlib.Omega.{arith}
 use lib.ListN.{replicate}
-use Rattle.mos_layers.specs.Parts.{Laid, Space}
 use Rattle.mos_layers.proofs.Cursors.{laid_none, laid_empty, laid_one, laid_more, laid_as, laid_length, space_after, space_run, one_more}
 use Rattle.mos_layers.proofs.parts.put_layers.Goals as goal
 

@@ -1,11 +1,7 @@
 -- After i turns, i layers are written from the cursor on; a layer's number is at most its place, so it fits.
-use Prim.Native.Nat.{ℕ, ◌*◌, ◌-◌, ◌≤◌}
-use mathlib.Core.Path.{ap}
-use native.Mathlib.Nat.{le_antisymm}
-use native.Mathlib.Omega.{arith}
+use Prim.Native.Nat.{◌-◌, ◌≤◌}
 use lib.ListN.{replicate}
-use Rattle.mos_layers.specs.Parts.{Laid, Space}
-use Rattle.mos_layers.proofs.Cursors.{laid_none, laid_empty, laid_one, laid_more, laid_as, laid_length, space_after, space_run, one_more}
+use Rattle.mos_layers.specs.Parts.{Laid}
 use Rattle.mos_layers.proofs.parts.put_layers.Given as goal
 
 abbrev pub invariant-loop-i : goal.invariant-loop-i

@@ -1,9 +1,7 @@
-use mathlib.Core.Path.{◌≡◌, refl}
-use Prim.Native.Nat.{◌+◌, ◌≤◌, ◌-◌}
+use mathlib.Core.Path.{refl}
 use native.Mathlib.Nat.{le_antisymm}
 use native.Mathlib.Omega.{arith}
-use lib.ListN.{length, replicate, length-replicate, length-set}
-use Rattle.text.specs.Writing.{Wrote}
+use lib.ListN.{length-replicate, length-set}
 use Rattle.text.proofs.Writing.{wrote_none, run_more}
 use Rattle.mos_layers.proofs.parts.put_run.Goals as goal
 

@@ -1,11 +1,8 @@
 -- After `written` turns, so many copies stand from `at` on, and `place` is the place after them.
-use mathlib.Core.Path.{◌≡◌, refl}
+use mathlib.Core.Path.{◌≡◌}
 use Prim.Native.Nat.{◌+◌, ◌≤◌, ◌-◌}
-use native.Mathlib.Nat.{le_antisymm}
-use native.Mathlib.Omega.{arith}
-use lib.ListN.{length, replicate, length-replicate, length-set}
+use lib.ListN.{length, replicate}
 use Rattle.text.specs.Writing.{Wrote}
-use Rattle.text.proofs.Writing.{wrote_none, run_more}
 use Rattle.mos_layers.proofs.parts.put_run.Given as goal
 
 abbrev pub invariant-loop-written : goal.invariant-loop-written

@@ -3,7 +3,6 @@ use mathlib.Core.Path.{sym, subst}
 use Rattle.text.specs.Writing.{Room}
 use Rattle.text.proofs.Writing.{wrote_as, wrote_none}
 use Rattle.mos_layers.proofs.Sizes.{drop_none, drop_all}
-use borrow.Author.Rules.{rules}
 use Rattle.mos_layers.proofs.parts.put_sizes.Goals as goal
 
 pub returns-then-size-eq0 : goal.returns-then-size-eq0

@@ -1,6 +1,5 @@
 -- The divisor of the steps, and the runs over it.
 use Rattle.mos_layers.proofs.Theorems.{code_cycles}
-use borrow.Author.Rules.{rules}
 use Rattle.mos_layers.proofs.parts.runs_in.Goals as goal
 
 pub runs_over-requires : goal.runs_over-requires

@@ -1,6 +1,5 @@
 -- The numbers of the eight runs, each from its own call.
 use Rattle.mos_layers.proofs.Plans.{planned, full_room, odd_room}
-use borrow.Author.Rules.{rules}
 use Rattle.mos_layers.proofs.parts.runs_of.Goals as goal
 
 pub held-enharmonic-requires : goal.held-enharmonic-requires

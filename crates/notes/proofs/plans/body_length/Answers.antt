@@ -3,7 +3,6 @@ use mathlib.Core.Path.{ap}
 use native.Mathlib.Omega.{arith}
 use lib.ListN.{length}
 use Rattle.notes.proofs.Lengths.{length_two, length_in_parentheses, length_plain, body_bracketed, body_one}
-use borrow.Author.Rules.{rules}
 use Rattle.notes.proofs.plans.body_length.Goals as goal
 
 pub returns-then-plan-2 : goal.returns-then-plan-2

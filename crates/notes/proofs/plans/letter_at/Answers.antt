@@ -2,7 +2,6 @@
 use native.Mathlib.Omega.{arith}
 use Rattle.genchain.proofs.TableRows.{row_count_small}
 use Rattle.notes.proofs.RowLetters.{letter_inside, letter_past, letter_small}
-use borrow.Author.Rules.{rules}
 use Rattle.notes.proofs.plans.letter_at.Goals as goal
 
 pub bounds-row-place : goal.bounds-row-place

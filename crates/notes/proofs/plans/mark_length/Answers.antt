@@ -1,7 +1,6 @@
 -- The letter's bytes and one for each sign.
 use native.Mathlib.Omega.{arith}
 use Rattle.notes.proofs.Lengths.{length_mark}
-use borrow.Author.Rules.{rules}
 use Rattle.notes.proofs.plans.mark_length.Goals as goal
 
 pub returns : goal.returns

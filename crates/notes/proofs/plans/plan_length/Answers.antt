@@ -1,7 +1,6 @@
 -- The printed spellings and one for each star.
 use native.Mathlib.Omega.{arith}
 use Rattle.notes.proofs.Lengths.{length_plan}
-use borrow.Author.Rules.{rules}
 use Rattle.notes.proofs.plans.plan_length.Goals as goal
 
 pub returns : goal.returns

@@ -1,7 +1,6 @@
 -- The two spellings as marks, then one law for each way in which the plan is made.
 use Rattle.notes.proofs.PlanTexts.{planned_alone, planned_sharp, planned_flat, planned_sharp_flat, planned_flat_sharp}
 use mathlib.Core.Path.{sym, ◌∙◌}
-use borrow.Author.Rules.{rules}
 use Rattle.notes.proofs.plans.plan_letters.Goals as goal
 
 pub returns-then-alone : goal.returns-then-alone

@@ -1,5 +1,4 @@
 -- The letters at both indices, and the plan by them.
-use borrow.Author.Rules.{rules}
 use Rattle.notes.proofs.plans.plan_name.Goals as goal
 
 pub plan_letters-requires : goal.plan_letters-requires

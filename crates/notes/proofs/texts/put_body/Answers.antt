@@ -3,7 +3,6 @@ use mathlib.Core.Path.{ap}
 use native.Mathlib.Omega.{arith}
 use lib.ListN.{length}
 use Rattle.notes.proofs.Lengths.{body_bracketed, body_one}
-use borrow.Author.Rules.{rules}
 use Rattle.notes.proofs.texts.put_body.Goals as goal
 
 pub put_bracketed-requires : goal.put_bracketed-requires

@@ -3,7 +3,6 @@ use native.Mathlib.Omega.{arith}
 use Rattle.text.proofs.Writing.{then}
 use Rattle.notes.specs.Parts.{bracketed_text}
 use Rattle.notes.proofs.Lengths.{length_bracketed}
-use borrow.Author.Rules.{rules}
 use Rattle.notes.proofs.texts.put_bracketed.Goals as goal
 
 pub put_parenthesis-next-requires : goal.put_parenthesis-next-requires

@@ -4,7 +4,6 @@ use native.Mathlib.Omega.{arith}
 use lib.ListN.{length}
 use Rattle.text.proofs.Writing.{then}
 use Rattle.notes.proofs.Utf8.{letter_one, letter_two}
-use borrow.Author.Rules.{rules}
 use Rattle.notes.proofs.texts.put_letter.Goals as goal
 
 pub put_byte-requires : goal.put_byte-requires

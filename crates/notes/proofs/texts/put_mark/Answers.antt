@@ -1,14 +1,13 @@
 -- The letter, then its signs; one sign is a run of one.
 use Prim.Native.Nat.{ℕ}
 use mathlib.Core.Path.{sym, ap}
-use mathlib.Core.List.{List, ◌++◌}
+use mathlib.Core.List.{◌++◌}
 use native.Mathlib.Omega.{arith}
 use lib.ListN.{replicate, length-replicate}
 use Rattle.text.proofs.Writing.{then, wrote_as}
 use Rattle.notes.specs.Names.{letter_text}
 use Rattle.notes.specs.Parts.{mark_text}
 use Rattle.notes.proofs.Lengths.{length_mark}
-use borrow.Author.Rules.{rules}
 use Rattle.notes.proofs.texts.put_mark.Goals as goal
 
 pub put_letter-next-requires : goal.put_letter-next-requires

@@ -1,6 +1,5 @@
 -- The plan's own stars.
 use Rattle.notes.specs.Parts.{plan_text}
-use borrow.Author.Rules.{rules}
 use Rattle.notes.proofs.texts.put_name.Goals as goal
 
 pub put_starred-requires : goal.put_starred-requires

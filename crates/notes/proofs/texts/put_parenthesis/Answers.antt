@@ -1,12 +1,10 @@
 -- One byte, or none.
-use Prim.Native.Nat.{ℕ}
 use mathlib.Core.Path.{ap}
 use mathlib.Core.Bool.{Bool}
 use native.Mathlib.Omega.{arith}
 use lib.ListN.{length}
 use Rattle.text.proofs.Writing.{wrote_none}
 use Rattle.notes.specs.Parts.{parenthesis_text}
-use borrow.Author.Rules.{rules}
 use Rattle.notes.proofs.texts.put_parenthesis.Goals as goal
 
 pub put_byte-requires : goal.put_byte-requires

@@ -5,7 +5,6 @@ use Prim.Native.Nat.{ℕ}
 use Rattle.text.proofs.Writing.{then}
 use Rattle.notes.specs.Parts.{starred_text}
 use Rattle.notes.proofs.Lengths.{length_starred}
-use borrow.Author.Rules.{rules}
 use Rattle.notes.proofs.texts.put_starred.Goals as goal
 
 pub put_body-next-requires : goal.put_body-next-requires

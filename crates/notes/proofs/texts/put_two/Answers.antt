@@ -3,7 +3,6 @@ use native.Mathlib.Omega.{arith}
 use Rattle.text.proofs.Writing.{then}
 use Rattle.notes.specs.Parts.{two_text}
 use Rattle.notes.proofs.Lengths.{length_two}
-use borrow.Author.Rules.{rules}
 use Rattle.notes.proofs.texts.put_two.Goals as goal
 
 pub put_mark-next-requires : goal.put_mark-next-requires

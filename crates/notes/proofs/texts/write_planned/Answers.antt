@@ -6,7 +6,6 @@ use Rattle.answer.specs.Outcome.{given}
 use Rattle.text.proofs.Writing.{filled_given}
 use Rattle.answer.proofs.Lent.{held, not_held, filled_refused}
 use Rattle.notes.specs.Parts.{plan_text}
-use borrow.Author.Rules.{rules}
 use Rattle.notes.proofs.texts.write_planned.Goals as goal
 
 pub returns-then-out-bytes : goal.returns-then-out-bytes

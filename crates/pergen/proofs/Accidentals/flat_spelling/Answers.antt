@@ -4,7 +4,6 @@ use mathlib.Core.Path.{ap}
 use Rattle.pergen.specs.declared.Signs.TheVariants.{Flats}
 use Rattle.pergen.specs.declared.Spelling.{Spelling}
 use Rattle.pergen.specs.Spelling.{flat_spelling}
-use borrow.Author.Rules.{rules}
 use Rattle.pergen.proofs.Accidentals.flat_spelling.Goals as goal
 
 abbrev spelt : ℕ → ℕ → ℕ → Spelling

@@ -4,7 +4,6 @@ use mathlib.Core.Path.{ap}
 use Rattle.pergen.specs.declared.Signs.TheVariants.{Sharps}
 use Rattle.pergen.specs.declared.Spelling.{Spelling}
 use Rattle.pergen.specs.Spelling.{sharp_spelling}
-use borrow.Author.Rules.{rules}
 use Rattle.pergen.proofs.Accidentals.sharp_spelling.Goals as goal
 
 abbrev spelt : ℕ → ℕ → ℕ → Spelling

@@ -4,7 +4,6 @@ use mir.Syntax.{w64}
 use mir.ValLaws.{to_z-of_z}
 use Rattle.answer.specs.Outcome.{given}
 use Rattle.pergen.proofs.Calls.{place_no_symbols, place_no_origin, place_given}
-use borrow.Author.Rules.{rules}
 use Rattle.pergen.proofs.AccidentalsFormat.get_place.Goals as goal
 
 pub returns-then-self-eq0 : goal.returns-then-self-eq0

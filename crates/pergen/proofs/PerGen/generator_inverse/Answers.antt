@@ -1,6 +1,5 @@
 -- Question 2, then what `solve` found.
 use Rattle.pergen.proofs.Calls.{no_number, number_given, solved_inverse}
-use borrow.Author.Rules.{rules}
 use Rattle.pergen.proofs.PerGen.generator_inverse.Goals as goal
 
 pub returns-then-self-eq0 : goal.returns-then-self-eq0

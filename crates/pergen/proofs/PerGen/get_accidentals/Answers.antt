@@ -5,7 +5,6 @@ use native.Mathlib.Nat.{pos_of_ne-zero}
 use Rattle.pergen.proofs.Calls.{no_accidentals, accidentals_no_symbols, accidentals_no_origin, accidentals_given, degree_small, accidentals_are}
 use Rattle.pergen.proofs.CarriedWalk.{round_found}
 use Rattle.math.proofs.Answers.{remainder_read}
-use borrow.Author.Rules.{rules}
 use Rattle.pergen.proofs.PerGen.get_accidentals.Goals as goal
 
 pub returns-then-self-eq0 : goal.returns-then-self-eq0

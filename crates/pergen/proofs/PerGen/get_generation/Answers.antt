@@ -5,7 +5,6 @@ use native.Mathlib.Nat.{pos_of_ne-zero}
 use Rattle.pergen.proofs.Calls.{no_generation, generation_given, generation_is}
 use Rattle.pergen.proofs.CarriedWalk.{round_found}
 use Rattle.math.proofs.Answers.{remainder_read}
-use borrow.Author.Rules.{rules}
 use Rattle.pergen.proofs.PerGen.get_generation.Goals as goal
 
 pub returns-then-self-eq0 : goal.returns-then-self-eq0

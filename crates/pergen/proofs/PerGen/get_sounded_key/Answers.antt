@@ -1,11 +1,8 @@
 -- Questions 2, 5 and 6, then the key at the difference of the sides.
-use Prim.Native.Nat.{ℕ}
 use mathlib.Core.Path.{sym, ap, ◌∙◌}
 use lib.IntN.{ℤ}
-use native.Mathlib.Nat.{pos_of_ne-zero}
 use Rattle.pergen.specs.Spelling.{sounds, sounded_key}
 use Rattle.pergen.proofs.Calls.{no_key, key_no_symbols, key_no_origin, key_given}
-use borrow.Author.Rules.{rules}
 use Rattle.pergen.proofs.PerGen.get_sounded_key.Goals as goal
 
 pub returns-then-self-eq0 : goal.returns-then-self-eq0

@@ -1,6 +1,5 @@
 -- Question 2, then what `gcd_u16` found.
 use Rattle.pergen.proofs.Calls.{no_number, number_given, cycles_found}
-use borrow.Author.Rules.{rules}
 use Rattle.pergen.proofs.PerGen.num_cycles.Goals as goal
 
 pub returns-then-self-eq0 : goal.returns-then-self-eq0

@@ -1,6 +1,5 @@
 -- Question 2, then the period divided by what `gcd_u16` found, which is above 0.
 use Rattle.pergen.proofs.Calls.{no_number, number_given, reduced_found}
-use borrow.Author.Rules.{rules}
 use Rattle.pergen.proofs.PerGen.reduced_period.Goals as goal
 
 pub returns-then-self-eq0 : goal.returns-then-self-eq0

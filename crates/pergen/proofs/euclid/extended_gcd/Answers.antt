@@ -1,7 +1,6 @@
 use native.Mathlib.Nat.{mod-lt}
 use native.Mathlib.Omega.{arith}
 use borrow.Author.Rules.{rules}
-use Rattle.pergen.specs.Parts.{Going}
 use Rattle.pergen.proofs.ExtendedEuclid.{step, next_small, last_small, done}
 use Rattle.pergen.proofs.euclid.extended_gcd.Goals as goal
 

@@ -1,8 +1,5 @@
 -- At each turn both remainders are left by their coefficients, one of them counted backward (`Going`).
-use native.Mathlib.Nat.{mod-lt}
-use native.Mathlib.Omega.{arith}
 use Rattle.pergen.specs.Parts.{Going}
-use Rattle.pergen.proofs.ExtendedEuclid.{step, next_small, last_small, done}
 use Rattle.pergen.proofs.euclid.extended_gcd.Given as goal
 
 abbrev pub invariant-loop-r1 : goal.invariant-loop-r1

@@ -1,6 +1,5 @@
 -- Backward, the coefficient's rest is counted.
 use Rattle.pergen.proofs.ExtendedEuclid.{turned_back, turned_on}
-use borrow.Author.Rules.{rules}
 use Rattle.pergen.proofs.euclid.inverse_from.Goals as goal
 
 pub returns-then-found : goal.returns-then-found

@@ -1,6 +1,5 @@
 -- The coefficient, counted forward below the reduced period, is the inverse.
 use Rattle.pergen.proofs.ExtendedEuclid.{solve_is}
-use borrow.Author.Rules.{rules}
 use Rattle.pergen.proofs.euclid.solve_from.Goals as goal
 
 pub inverse_from-requires : goal.inverse_from-requires

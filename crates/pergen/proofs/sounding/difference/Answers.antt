@@ -1,6 +1,5 @@
 -- Both sides are far below the half of 64 bits.
 use Rattle.pergen.proofs.Differences.{difference_fits, difference_is}
-use borrow.Author.Rules.{rules}
 use Rattle.pergen.proofs.sounding.difference.Goals as goal
 
 pub overflow_sub-result : goal.overflow_sub-result

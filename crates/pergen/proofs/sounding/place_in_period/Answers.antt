@@ -1,7 +1,6 @@
 -- Both signs of the difference, by their remainders.
 use Rattle.pergen.proofs.Differences.{remainder_above, remainder_below_zero}
 use Rattle.math.proofs.Congruence.{mod_room}
-use borrow.Author.Rules.{rules}
 use Rattle.pergen.proofs.sounding.place_in_period.Goals as goal
 
 pub overflow_sub-result-then-above-below-3 : goal.overflow_sub-result-then-above-below-3

@@ -1,5 +1,5 @@
 -- Both branches of the definition; each index is below the number of symbols and each count below the reduced period.
-use native.Mathlib.Nat.{mod-lt, mod-le, div-le_self}
+use native.Mathlib.Nat.{mod-le, div-le_self}
 use native.Mathlib.Omega.{arith}
 use Rattle.math.proofs.Congruence.{mod_room}
 use Rattle.pergen.specs.Spelling.{by_coordinates, by_indices}

@@ -1,6 +1,5 @@
 -- The definition's test.
 use Rattle.pergen.proofs.Indices.{low_sharp_less, low_sharp_kept}
-use borrow.Author.Rules.{rules}
 use Rattle.pergen.proofs.spellings.low_sharp_index.Goals as goal
 
 pub returns-then-symbols-d : goal.returns-then-symbols-d

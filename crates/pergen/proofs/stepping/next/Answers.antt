@@ -2,7 +2,6 @@
 use mathlib.Core.Path.{refl}
 use native.Mathlib.Omega.{arith}
 use Rattle.pergen.proofs.CarriedWalk.{at_stay, at_carry, at_degree_below, at_cycle_below}
-use borrow.Author.Rules.{rules}
 use Rattle.pergen.proofs.stepping.next.Goals as goal
 
 pub overflow_add-cycle : goal.overflow_add-cycle

@@ -1,6 +1,5 @@
 -- One comparison for the remainder.
 use Rattle.pergen.proofs.CarriedWalk.{turn_stays, turn_wraps}
-use borrow.Author.Rules.{rules}
 use Rattle.pergen.proofs.stepping.next_degree.Goals as goal
 
 pub returns-then-degree-left : goal.returns-then-degree-left

@@ -2,7 +2,6 @@
 use Prim.Native.Nat.{ℕ, ◌/◌}
 use mathlib.Core.Path.{sym, ap, ◌∙◌}
 use native.Mathlib.Nat.{div-one}
-use borrow.Author.Rules.{rules}
 use Rattle.pergen.proofs.stepping.turn_of.Goals as goal
 
 pub returns-then-num_cycles-eq1 : goal.returns-then-num_cycles-eq1
