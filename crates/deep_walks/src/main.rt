@@ -4,11 +4,17 @@
 #![tactic(auto)]
 
 use answer::CountAnswer;
-use libc::STDOUT_FILENO;
 use mos::{Mos, MosAnswer, WalkAnswer};
+use std::io::{Stdout, Write};
+
+// Writes a text; where that fails, nobody is left to be told.
+fn put(stdout: Stdout, text: &[u8]) {
+    let mut to = stdout;
+    let _ = to.write_all(text);
+}
 
 // A number of at most 65,535 in five digits, and a space.
-fn put_number(n: u16) {
+fn put_number(stdout: Stdout, n: u16) {
     let text = [
         (n / 10000 % 10) as u8 + 48,
         (n / 1000 % 10) as u8 + 48,
@@ -17,107 +23,107 @@ fn put_number(n: u16) {
         (n % 10) as u8 + 48,
         b' ',
     ];
-    io::write_all(STDOUT_FILENO, &text);
+    put(stdout, &text);
 }
 
-fn put_pattern(m: Mos) {
-    put_number(m.num_primary_steps);
-    put_number(m.num_secondary_steps);
-    put_number(m.primary_step);
-    put_number(m.secondary_step);
-    io::write_all(STDOUT_FILENO, b"\n");
+fn put_pattern(stdout: Stdout, m: Mos) {
+    put_number(stdout, m.num_primary_steps);
+    put_number(stdout, m.num_secondary_steps);
+    put_number(stdout, m.primary_step);
+    put_number(stdout, m.secondary_step);
+    put(stdout, b"\n");
 }
 
-fn put_walked(answer: WalkAnswer) {
+fn put_walked(stdout: Stdout, answer: WalkAnswer) {
     match answer {
-        WalkAnswer::Found(m) => put_pattern(m),
+        WalkAnswer::Found(m) => put_pattern(stdout, m),
         WalkAnswer::Nothing => {
-            io::write_all(STDOUT_FILENO, b"nothing\n");
+            put(stdout, b"nothing\n");
         }
         WalkAnswer::Refused(_) => {
-            io::write_all(STDOUT_FILENO, b"refused\n");
+            put(stdout, b"refused\n");
         }
     }
 }
 
-fn put_made(answer: MosAnswer) {
+fn put_made(stdout: Stdout, answer: MosAnswer) {
     match answer {
-        MosAnswer::Given(m) => put_pattern(m),
+        MosAnswer::Given(m) => put_pattern(stdout, m),
         MosAnswer::Refused(_) => {
-            io::write_all(STDOUT_FILENO, b"refused\n");
+            put(stdout, b"refused\n");
         }
     }
 }
 
 // A count of numbers, four to a pattern, as the count of patterns.
-fn put_count(answer: CountAnswer) {
+fn put_count(stdout: Stdout, answer: CountAnswer) {
     match answer {
         CountAnswer::Given(n) => {
             let patterns = n / 4;
             if patterns <= 65535 {
-                put_number(patterns as u16);
-                io::write_all(STDOUT_FILENO, b"patterns\n");
+                put_number(stdout, patterns as u16);
+                put(stdout, b"patterns\n");
             }
         }
         CountAnswer::Refused(_) => {
-            io::write_all(STDOUT_FILENO, b"refused\n");
+            put(stdout, b"refused\n");
         }
     }
 }
 
 // The last pattern of a listing.
-fn put_last(out: &[u16]) {
+fn put_last(stdout: Stdout, out: &[u16]) {
     if 262136 <= out.len() {
-        put_number(out[262132]);
-        put_number(out[262133]);
-        put_number(out[262134]);
-        put_number(out[262135]);
-        io::write_all(STDOUT_FILENO, b"\n");
+        put_number(stdout, out[262132]);
+        put_number(stdout, out[262133]);
+        put_number(stdout, out[262134]);
+        put_number(stdout, out[262135]);
+        put(stdout, b"\n");
     }
 }
 
-fn walk_down(m: Mos, out: &mut [u16]) {
-    put_walked(mos_walks::find_child(m, 65535));
-    put_walked(mos_walks::find_child(m, 65536));
-    put_walked(mos_walks::nth_child(m, 65533));
-    put_walked(mos_walks::nth_child(m, 65534));
-    put_count(mos_listings::children_len(m));
-    put_count(mos_listings::children(m, out));
-    put_last(out);
+fn walk_down(stdout: Stdout, m: Mos, out: &mut [u16]) {
+    put_walked(stdout, mos_walks::find_child(m, 65535));
+    put_walked(stdout, mos_walks::find_child(m, 65536));
+    put_walked(stdout, mos_walks::nth_child(m, 65533));
+    put_walked(stdout, mos_walks::nth_child(m, 65534));
+    put_count(stdout, mos_listings::children_len(m));
+    put_count(stdout, mos_listings::children(m, out));
+    put_last(stdout, out);
 }
 
-fn walk_up(m: Mos, out: &mut [u16]) {
-    put_made(mos_walks::genesis(m));
-    put_walked(mos_walks::nth_parent(m, 65534));
-    put_walked(mos_walks::nth_parent(m, 65535));
-    put_count(mos_listings::parents_len(m));
-    put_count(mos_listings::parents(m, out));
+fn walk_up(stdout: Stdout, m: Mos, out: &mut [u16]) {
+    put_made(stdout, mos_walks::genesis(m));
+    put_walked(stdout, mos_walks::nth_parent(m, 65534));
+    put_walked(stdout, mos_walks::nth_parent(m, 65535));
+    put_count(stdout, mos_listings::parents_len(m));
+    put_count(stdout, mos_listings::parents(m, out));
 }
 
-fn down(out: &mut [u16]) {
+fn down(stdout: Stdout, out: &mut [u16]) {
     match Mos::new_genesis(65535, 1) {
-        MosAnswer::Given(m) => walk_down(m, out),
+        MosAnswer::Given(m) => walk_down(stdout, m, out),
         MosAnswer::Refused(_) => {
-            io::write_all(STDOUT_FILENO, b"refused\n");
+            put(stdout, b"refused\n");
         }
     }
 }
 
-fn up(out: &mut [u16]) {
+fn up(stdout: Stdout, out: &mut [u16]) {
     match Mos::new(1, 65535, 4, 0) {
-        MosAnswer::Given(m) => walk_up(m, out),
+        MosAnswer::Given(m) => walk_up(stdout, m, out),
         MosAnswer::Refused(_) => {
-            io::write_all(STDOUT_FILENO, b"refused\n");
+            put(stdout, b"refused\n");
         }
     }
 }
 
-fn both(out: &mut [u16]) {
-    down(out);
-    up(out);
+fn both(stdout: Stdout, out: &mut [u16]) {
+    down(stdout, out);
+    up(stdout, out);
 }
 
-fn main() {
+fn main(rt: HostRuntime) {
     let mut out: [u16; 262140] = [0; 262140];
-    both(&mut out);
+    both(rt.stdout(), &mut out);
 }

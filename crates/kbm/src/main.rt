@@ -15,40 +15,41 @@ ghost use Rattle.kbm.specs.Printing.{kbm_output, Refusing, Mapping};
 use layout::parts::FoundAnswer;
 use layout::prepared;
 use layout::prepared::Prepared;
+use std::io::{Stderr, Stdout};
 use streams::input::Input;
 use streams::output::Output;
 use streams::{input, lines, output, words};
 
 // Writes the line of a refusal, and says that it is one.
-fn print_refusal(line: &[u8], input: Input, number: u16) -> Output
+fn print_refusal(stdout: Stdout, stderr: Stderr, line: &[u8], input: Input, number: u16) -> Output
     requires { Refusing line.now input number }
     ensures { Printed kbm_output line.now input result }
 {
     let mut out = [0u8; 16];
     let bytes = line::refusals::put_refusal(&mut out, number);
-    let done = output::write_front(output::begin(), &out, bytes);
-    words::say_refused();
+    let done = output::write_front(output::begin(stdout), &out, bytes);
+    words::say_refused(stderr);
     done
 }
 
 // Writes a mapping.
-fn print_mapping(line: &[u8], input: Input, prepared: Prepared) -> Output
+fn print_mapping(stdout: Stdout, line: &[u8], input: Input, prepared: Prepared) -> Output
     requires { Mapping line.now input prepared }
     ensures { Printed kbm_output line.now input result }
 {
     let mut out = [0u8; 24611];
     let bytes = layout_kbm::parts::put_file(&mut out, prepared);
-    output::write_front(output::begin(), &out, bytes)
+    output::write_front(output::begin(stdout), &out, bytes)
 }
 
 // Prints the output for the line that was read.
-fn print(line: &[u8], input: Input) -> Output
+fn print(stdout: Stdout, stderr: Stderr, line: &[u8], input: Input) -> Output
     requires { LineRead line.now input }
     ensures { Printed kbm_output line.now input result }
 {
     match line::layouts::ask_line(&line[..input::kept(input)]) {
-        FoundAnswer::Refused(q) => print_refusal(line, input, q.number() as u16),
-        FoundAnswer::Given(found) => print_mapping(line, input, prepared::prepare(found)),
+        FoundAnswer::Refused(q) => print_refusal(stdout, stderr, line, input, q.number() as u16),
+        FoundAnswer::Given(found) => print_mapping(stdout, line, input, prepared::prepare(found)),
     }
 }
 
@@ -60,9 +61,9 @@ pub fn line_is_enough()
     ()
 }
 
-fn main() {
+fn main(rt: HostRuntime) {
     let mut line = [0u8; 18];
-    let input = lines::read_line(&mut line);
-    let done = print(&line, input);
-    words::say_if_not_written(b"kbm", done);
+    let input = lines::read_line(rt.stdin(), &mut line);
+    let done = print(rt.stdout(), rt.stderr(), &line, input);
+    words::say_if_not_written(rt.stderr(), b"kbm", done);
 }
