@@ -10,26 +10,27 @@ ghost use Rattle.edo_lines.specs.Lines.{output};
 ghost use Rattle.streams.specs.Reading.{LineRead, LineIsEnough};
 ghost use Rattle.streams.specs.Printing.{Printed};
 
+use std::io::{Stderr, Stdout};
 use streams::input::Input;
 use streams::output::Output;
 use streams::{input, lines, output, words};
 
 // Says that a text is a refusal's line, where it is: no layout's line begins with a letter.
-fn say_if_refusal(first: u8) {
+fn say_if_refusal(stderr: Stderr, first: u8) {
     if first == b'r' {
-        words::say_refused();
+        words::say_refused(stderr);
     }
 }
 
 // Prints the output for the line that was read.
-fn print(line: &[u8], input: Input) -> Output
+fn print(stdout: Stdout, stderr: Stderr, line: &[u8], input: Input) -> Output
     requires { LineRead line.now input }
     ensures { Printed output line.now input result }
 {
     let mut out = [0u8; 264];
     let bytes = edo_lines::put_output(&line[..input::kept(input)], &mut out);
-    let done = output::write_front(output::begin(), &out, bytes);
-    say_if_refusal(out[0]);
+    let done = output::write_front(output::begin(stdout), &out, bytes);
+    say_if_refusal(stderr, out[0]);
     done
 }
 
@@ -41,9 +42,9 @@ pub fn line_is_enough()
     ()
 }
 
-fn main() {
+fn main(rt: HostRuntime) {
     let mut line = [0u8; 18];
-    let input = lines::read_line(&mut line);
-    let done = print(&line, input);
-    words::say_if_not_written(b"edo", done);
+    let input = lines::read_line(rt.stdin(), &mut line);
+    let done = print(rt.stdout(), rt.stderr(), &line, input);
+    words::say_if_not_written(rt.stderr(), b"edo", done);
 }

@@ -19,19 +19,20 @@ ghost use Rattle.key_table.specs.Printing.{Refusing, Tabling, Lines};
 use layout::parts::FoundAnswer;
 use layout::prepared;
 use layout::prepared::Prepared;
+use std::io::{Stderr, Stdout};
 use streams::input::Input;
 use streams::output::Output;
 use streams::{input, lines, output, words};
 
 // Writes the line of a refusal, and says that it is one.
-fn print_refusal(line: &[u8], input: Input, number: u16) -> Output
+fn print_refusal(stdout: Stdout, stderr: Stderr, line: &[u8], input: Input, number: u16) -> Output
     requires { Refusing line.now input number }
     ensures { Printed output line.now input result }
 {
     let mut out = [0u8; 16];
     let bytes = line::refusals::put_refusal(&mut out, number);
-    let done = output::write_front(output::begin(), &out, bytes);
-    words::say_refused();
+    let done = output::write_front(output::begin(stdout), &out, bytes);
+    words::say_refused(stderr);
     done
 }
 
@@ -52,12 +53,18 @@ fn print_lines(prepared: Prepared, from: u16, count: u16, past: Output, out: &mu
 }
 
 // Writes a table, so many lines at a time; it stops where a part is not taken.
-fn print_table(line: &[u8], input: Input, prepared: Prepared, out: &mut [u8]) -> Output
+fn print_table(
+    stdout: Stdout,
+    line: &[u8],
+    input: Input,
+    prepared: Prepared,
+    out: &mut [u8],
+) -> Output
     requires { Tabling line.now input prepared × (65536 ≤ length out.old) }
     ensures { Printed output line.now input result }
 {
     let octave = prepared.found.octave;
-    let mut done = output::begin();
+    let mut done = output::begin(stdout);
     let mut from: u16 = 0;
     while from < octave {
         let count = at_once(octave - from);
@@ -72,15 +79,15 @@ fn print_table(line: &[u8], input: Input, prepared: Prepared, out: &mut [u8]) ->
 
 // Prints the output for the line that was read. The buffer is small beside the largest table, of 1.7 million bytes, so that a small stack
 // is enough.
-fn print(line: &[u8], input: Input) -> Output
+fn print(stdout: Stdout, stderr: Stderr, line: &[u8], input: Input) -> Output
     requires { LineRead line.now input }
     ensures { Printed output line.now input result }
 {
     match line::layouts::ask_line(&line[..input::kept(input)]) {
-        FoundAnswer::Refused(q) => print_refusal(line, input, q.number() as u16),
+        FoundAnswer::Refused(q) => print_refusal(stdout, stderr, line, input, q.number() as u16),
         FoundAnswer::Given(found) => {
             let mut out = [0u8; 65536];
-            print_table(line, input, prepared::prepare(found), &mut out)
+            print_table(stdout, line, input, prepared::prepare(found), &mut out)
         }
     }
 }
@@ -93,9 +100,9 @@ pub fn line_is_enough()
     ()
 }
 
-fn main() {
+fn main(rt: HostRuntime) {
     let mut line = [0u8; 18];
-    let input = lines::read_line(&mut line);
-    let done = print(&line, input);
-    words::say_if_not_written(b"key_table", done);
+    let input = lines::read_line(rt.stdin(), &mut line);
+    let done = print(rt.stdout(), rt.stderr(), &line, input);
+    words::say_if_not_written(rt.stderr(), b"key_table", done);
 }

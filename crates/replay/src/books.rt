@@ -6,34 +6,35 @@
 //     find_in KEY BYTE..    the same in any bytes, at most 256
 use crate::print;
 use book::FindAnswer;
+use std::io::Stdout;
 
 // What the two calls give: offset and length, and the name; each tells a refusal.
-pub(crate) fn put_lookup(book: &[u8], key: i32) {
-    put_place(book::find(book, key));
-    print::space();
-    put_name_of(book, key);
+pub(crate) fn put_lookup(stdout: Stdout, book: &[u8], key: i32) {
+    put_place(stdout, book::find(book, key));
+    print::space(stdout);
+    put_name_of(stdout, book, key);
 }
 
-fn put_place(answer: FindAnswer) {
+fn put_place(stdout: Stdout, answer: FindAnswer) {
     match answer {
-        FindAnswer::Refused(q) => print::refusal(q),
+        FindAnswer::Refused(q) => print::refusal(stdout, q),
         FindAnswer::Found(place) => {
-            print::number(place.offset as u64);
-            print::next_number(place.length as u64);
+            print::number(stdout, place.offset as u64);
+            print::next_number(stdout, place.length as u64);
         }
     }
 }
 
 // The two fields are handed on at once. Covered code cannot hold a struct with a reference, so this is proved by hand.
-fn put_name_of(book: &[u8], key: i32) {
+fn put_name_of(stdout: Stdout, book: &[u8], key: i32) {
     let found = book::name(book, key);
-    put_name(found.name, found.refusal)
+    put_name(stdout, found.name, found.refusal)
 }
 
 // A name that is found has 0 beside it; a refusal has the empty part.
-fn put_name(name: &[u8], refusal: u8) {
+fn put_name(stdout: Stdout, name: &[u8], refusal: u8) {
     if refusal != 0 {
-        print::refused(refusal);
+        print::refused(stdout, refusal);
     }
-    print::text(name);
+    print::text(stdout, name);
 }

@@ -7,30 +7,37 @@
 use crate::{patterns, print};
 use edo_layouts::EdoAnswer;
 use edo_tritaves::TritavesAnswer;
+use std::io::Stdout;
 
 // A second choice of 0 is none.
-pub(crate) fn put_tritaves(answer: TritavesAnswer) {
+pub(crate) fn put_tritaves(stdout: Stdout, answer: TritavesAnswer) {
     match answer {
-        TritavesAnswer::Refused(q) => print::refusal(q),
+        TritavesAnswer::Refused(q) => print::refusal(stdout, q),
         TritavesAnswer::Given(choices) => {
-            print::short(choices.first);
+            print::short(stdout, choices.first);
             if 0 < choices.second {
-                print::next_short(choices.second);
+                print::next_short(stdout, choices.second);
             }
         }
     }
 }
 
-pub(crate) fn put_chain(answer: EdoAnswer) {
+pub(crate) fn put_chain(stdout: Stdout, answer: EdoAnswer) {
     match answer {
-        EdoAnswer::Refused(q) => print::refusal(q),
+        EdoAnswer::Refused(q) => print::refusal(stdout, q),
         EdoAnswer::Given(found) => {
             let layout = found.layout;
-            print::four(layout.genchain, layout.octave, layout.tritave, layout.start);
-            print::next_short(flag(found.second));
-            print::space();
+            print::four(
+                stdout,
+                layout.genchain,
+                layout.octave,
+                layout.tritave,
+                layout.start,
+            );
+            print::next_short(stdout, flag(found.second));
+            print::space(stdout);
             let pattern = found.pattern;
-            patterns::put_pattern(pattern);
+            patterns::put_pattern(stdout, pattern);
         }
     }
 }

@@ -18,6 +18,7 @@ use crate::words::Values;
 use crate::{names, print};
 use answer::CountAnswer;
 use mos_fractional::{ChildAnswer, FractionalAnswer, FractionalMos, FractionalWalkAnswer};
+use std::io::Stdout;
 
 // What the library answered, and the patterns.
 #[derive(Clone, Copy)]
@@ -26,45 +27,48 @@ pub(crate) struct Page {
     pub(crate) patterns: [FractionalMos; 8],
 }
 
-pub(crate) fn answer(kind: usize, n: Values, more: Values) {
+pub(crate) fn answer(stdout: Stdout, kind: usize, n: Values, more: Values) {
     match kind {
-        names::FRACTIONAL_CHILD => put_child(FractionalMos {
-            num_primary_steps: n.first,
-            num_secondary_steps: n.second,
-            primary_step: n.double,
-            secondary_step: more.double,
-        }),
-        names::FRACTIONAL_GENESIS => put_made(FractionalMos::new_genesis(n.double)),
-        names::FRACTIONAL_NTH => put_walked(mos_fractional::nth_child(n.double, n.wide)),
-        names::FRACTIONAL_LEN => print::count(mos_fractional::children_len(n.double)),
-        _ => put_children(n.double),
+        names::FRACTIONAL_CHILD => put_child(
+            stdout,
+            FractionalMos {
+                num_primary_steps: n.first,
+                num_secondary_steps: n.second,
+                primary_step: n.double,
+                secondary_step: more.double,
+            },
+        ),
+        names::FRACTIONAL_GENESIS => put_made(stdout, FractionalMos::new_genesis(n.double)),
+        names::FRACTIONAL_NTH => put_walked(stdout, mos_fractional::nth_child(n.double, n.wide)),
+        names::FRACTIONAL_LEN => print::count(stdout, mos_fractional::children_len(n.double)),
+        _ => put_children(stdout, n.double),
     }
 }
 
-fn put_child(pattern: FractionalMos) {
+fn put_child(stdout: Stdout, pattern: FractionalMos) {
     match pattern.child() {
-        ChildAnswer::Child(m) => put_pattern(m),
-        ChildAnswer::Nothing => print::none(),
+        ChildAnswer::Child(m) => put_pattern(stdout, m),
+        ChildAnswer::Nothing => print::none(stdout),
     }
 }
 
-fn put_made(answer: FractionalAnswer) {
+fn put_made(stdout: Stdout, answer: FractionalAnswer) {
     match answer {
-        FractionalAnswer::Given(m) => put_pattern(m),
-        FractionalAnswer::Refused(q) => print::refusal(q),
+        FractionalAnswer::Given(m) => put_pattern(stdout, m),
+        FractionalAnswer::Refused(q) => print::refusal(stdout, q),
     }
 }
 
-fn put_walked(answer: FractionalWalkAnswer) {
+fn put_walked(stdout: Stdout, answer: FractionalWalkAnswer) {
     match answer {
-        FractionalWalkAnswer::Found(m) => put_pattern(m),
-        FractionalWalkAnswer::Nothing => print::none(),
-        FractionalWalkAnswer::Refused(q) => print::refusal(q),
+        FractionalWalkAnswer::Found(m) => put_pattern(stdout, m),
+        FractionalWalkAnswer::Nothing => print::none(stdout),
+        FractionalWalkAnswer::Refused(q) => print::refusal(stdout, q),
     }
 }
 
-fn put_children(generator: f64) {
-    put_page(list_page(generator, [lent(); 8]));
+fn put_children(stdout: Stdout, generator: f64) {
+    put_page(stdout, list_page(generator, [lent(); 8]));
 }
 
 // A pattern as it is lent.
@@ -89,31 +93,31 @@ fn list_page(generator: f64, patterns: [FractionalMos; 8]) -> Page
     }
 }
 
-fn put_page(page: Page) {
+fn put_page(stdout: Stdout, page: Page) {
     let answer = page.answer;
-    print::count(answer);
+    print::count(stdout, answer);
     let patterns = page.patterns;
     let mut i: usize = 0;
     while i < 8 {
-        print::text(b", ");
-        put_pattern(patterns[i]);
+        print::text(stdout, b", ");
+        put_pattern(stdout, patterns[i]);
         i += 1;
     }
 }
 
-fn put_pattern(m: FractionalMos) {
-    print::short(m.num_primary_steps);
-    print::next_short(m.num_secondary_steps);
-    put_double(m.primary_step);
-    put_double(m.secondary_step);
+fn put_pattern(stdout: Stdout, m: FractionalMos) {
+    print::short(stdout, m.num_primary_steps);
+    print::next_short(stdout, m.num_secondary_steps);
+    put_double(stdout, m.primary_step);
+    put_double(stdout, m.secondary_step);
 }
 
-fn put_double(x: f64) {
+fn put_double(stdout: Stdout, x: f64) {
     if x == x {
         let bits = f64::to_bits(x);
-        print::next_number(bits / 4294967296);
-        print::next_number(bits % 4294967296);
+        print::next_number(stdout, bits / 4294967296);
+        print::next_number(stdout, bits % 4294967296);
         return;
     }
-    print::text(b" nan");
+    print::text(stdout, b" nan");
 }

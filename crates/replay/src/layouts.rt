@@ -14,6 +14,7 @@ use crate::{names, patterns, pergens, print, texts};
 use answer::{CountAnswer, NumberAnswer};
 use layout::{IsomorphicLayout, LayoutAnswer};
 use layout_layers::Layer;
+use std::io::Stdout;
 
 // The layout that a question is about.
 pub(crate) fn layout_of(kind: usize, n: Values) -> IsomorphicLayout {
@@ -29,7 +30,12 @@ pub(crate) fn layout_of(kind: usize, n: Values) -> IsomorphicLayout {
 }
 
 // Prints what is asked of a layout that is made first; then nothing is left to print but a refusal.
-pub(crate) fn put_made(kind: usize, layout: IsomorphicLayout, out: &mut [u8]) -> CountAnswer {
+pub(crate) fn put_made(
+    stdout: Stdout,
+    kind: usize,
+    layout: IsomorphicLayout,
+    out: &mut [u8],
+) -> CountAnswer {
     let made = layout::create_layout_beginning(
         layout.genchain,
         layout.octave,
@@ -38,79 +44,84 @@ pub(crate) fn put_made(kind: usize, layout: IsomorphicLayout, out: &mut [u8]) ->
     );
     match made {
         LayoutAnswer::Refused(q) => CountAnswer::Refused(q),
-        LayoutAnswer::Given(accepted) => put_accepted(kind, accepted, out),
+        LayoutAnswer::Given(accepted) => put_accepted(stdout, kind, accepted, out),
     }
 }
 
-fn put_accepted(kind: usize, layout: IsomorphicLayout, out: &mut [u8]) -> CountAnswer {
+fn put_accepted(
+    stdout: Stdout,
+    kind: usize,
+    layout: IsomorphicLayout,
+    out: &mut [u8],
+) -> CountAnswer {
     if kind == names::NAMES {
-        put_names(layout, out);
+        put_names(stdout, layout, out);
         return CountAnswer::Given(0);
     }
     let answer = layout_scale_names::get_scale_name(layout, out);
-    texts::put(kind, 0, out, answer);
-    print::space();
-    pergens::put_pergen(layout.pergen());
-    print::space();
-    patterns::put_made(layout.mos());
+    texts::put(stdout, kind, 0, out, answer);
+    print::space(stdout);
+    pergens::put_pergen(stdout, layout.pergen());
+    print::space(stdout);
+    patterns::put_made(stdout, layout.mos());
     CountAnswer::Given(0)
 }
 
-fn put_names(layout: IsomorphicLayout, out: &mut [u8]) {
+fn put_names(stdout: Stdout, layout: IsomorphicLayout, out: &mut [u8]) {
     let octave = layout.octave;
     let mut key: u16 = 0;
     while key < octave {
-        put_name(layout, key, out);
+        put_name(stdout, layout, key, out);
         key += 1;
     }
 }
 
 // A key's name, behind that of the key before it.
-fn put_name(layout: IsomorphicLayout, key: u16, out: &mut [u8]) {
+fn put_name(stdout: Stdout, layout: IsomorphicLayout, key: u16, out: &mut [u8]) {
     if 0 < key {
-        print::space();
+        print::space(stdout);
     }
     let answer = layout.get_note_name(key as i32, out);
-    texts::put(names::NAME, 0, out, answer);
+    texts::put(stdout, names::NAME, 0, out, answer);
 }
 
 // The layers of keys, of so many layers.
-pub(crate) fn put_layers(total: NumberAnswer, layers: &[u16]) {
+pub(crate) fn put_layers(stdout: Stdout, total: NumberAnswer, layers: &[u16]) {
     let mut i: usize = 0;
     while i < layers.len() {
         if 0 < i {
-            print::space();
+            print::space(stdout);
         }
-        put_number(total, layers[i]);
+        put_number(stdout, total, layers[i]);
         i += 1;
     }
 }
 
 // One key's layer, or a refusal.
-pub(crate) fn put_layer(total: NumberAnswer, layer: NumberAnswer) {
+pub(crate) fn put_layer(stdout: Stdout, total: NumberAnswer, layer: NumberAnswer) {
     match layer {
-        NumberAnswer::Refused(q) => print::refusal(q),
-        NumberAnswer::Given(number) => put_number(total, number),
+        NumberAnswer::Refused(q) => print::refusal(stdout, q),
+        NumberAnswer::Given(number) => put_number(stdout, total, number),
     }
 }
 
-fn put_number(total: NumberAnswer, layer: u16) {
+fn put_number(stdout: Stdout, total: NumberAnswer, layer: u16) {
     match total {
-        NumberAnswer::Refused(q) => print::refusal(q),
-        NumberAnswer::Given(layers) => put_kind(layout_layers::kind(layers, layer)),
+        NumberAnswer::Refused(q) => print::refusal(stdout, q),
+        NumberAnswer::Given(layers) => put_kind(stdout, layout_layers::kind(layers, layer)),
     }
 }
 
-fn put_kind(layer: Layer) {
+fn put_kind(stdout: Stdout, layer: Layer) {
     match layer {
-        Layer::Natural => print::letter(b'n'),
-        Layer::Sharp(level) => put_level(b's', level),
-        Layer::Enharmonic(level) => put_level(b'e', level),
-        Layer::Flat(level) => put_level(b'f', level),
+        Layer::Natural => print::letter(stdout, b'n'),
+        Layer::Sharp(level) => put_level(stdout, b's', level),
+        Layer::Enharmonic(level) => put_level(stdout, b'e', level),
+        Layer::Flat(level) => put_level(stdout, b'f', level),
     }
 }
 
-fn put_level(kind: u8, level: u16) {
-    print::letter(kind);
-    print::short(level);
+fn put_level(stdout: Stdout, kind: u8, level: u16) {
+    print::letter(stdout, kind);
+    print::short(stdout, level);
 }

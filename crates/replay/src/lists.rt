@@ -16,8 +16,10 @@ use crate::{layouts, names, patterns, plain, print};
 use answer::CountAnswer;
 use layout::IsomorphicLayout;
 use mos::Mos;
+use std::io::Stdout;
 
 pub(crate) fn answer(
+    stdout: Stdout,
     kind: usize,
     layout: IsomorphicLayout,
     n: Values,
@@ -26,10 +28,11 @@ pub(crate) fn answer(
 ) {
     let mut out = print::list_room();
     let end = n.room as usize;
-    put_into(kind, layout, n, entries, bytes, &mut out[..end]);
+    put_into(stdout, kind, layout, n, entries, bytes, &mut out[..end]);
 }
 
 fn put_into(
+    stdout: Stdout,
     kind: usize,
     layout: IsomorphicLayout,
     n: Values,
@@ -38,7 +41,7 @@ fn put_into(
     out: &mut [u16],
 ) {
     let answer = write(kind, layout, n, entries, bytes, out);
-    put(kind, layout, out, answer);
+    put(stdout, kind, layout, out, answer);
 }
 
 fn write(
@@ -86,21 +89,21 @@ fn write_of_layout(
 }
 
 // What was written to the front of a slice, or the refusal to write it.
-fn put(kind: usize, layout: IsomorphicLayout, out: &[u16], answer: CountAnswer) {
+fn put(stdout: Stdout, kind: usize, layout: IsomorphicLayout, out: &[u16], answer: CountAnswer) {
     match answer {
-        CountAnswer::Refused(q) => print::refusal(q),
+        CountAnswer::Refused(q) => print::refusal(stdout, q),
         CountAnswer::Given(count) => {
             if count <= out.len() {
-                put_front(kind, layout, &out[..count]);
+                put_front(stdout, kind, layout, &out[..count]);
             }
         }
     }
 }
 
-fn put_front(kind: usize, layout: IsomorphicLayout, numbers: &[u16]) {
+fn put_front(stdout: Stdout, kind: usize, layout: IsomorphicLayout, numbers: &[u16]) {
     if kind == names::KEY_LAYERS {
-        layouts::put_layers(layout_layers::layer_count(layout), numbers);
+        layouts::put_layers(stdout, layout_layers::layer_count(layout), numbers);
         return;
     }
-    print::list(numbers);
+    print::list(stdout, numbers);
 }

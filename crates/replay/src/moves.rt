@@ -13,11 +13,12 @@ use answer::CountAnswer;
 use layout::IsomorphicLayout;
 use mos::{MosAnswer, WalkAnswer};
 use mos_moves::Moves;
+use std::io::Stdout;
 
-pub(crate) fn answer(kind: usize, layout: IsomorphicLayout, n: Values) {
+pub(crate) fn answer(stdout: Stdout, kind: usize, layout: IsomorphicLayout, n: Values) {
     let mut moves = [[0i32; 2]; 2];
     let found = find(kind, layout, n, &mut moves);
-    put(found, moves);
+    put(stdout, found, moves);
 }
 
 fn find(kind: usize, layout: IsomorphicLayout, n: Values, moves: &mut Moves) -> WalkAnswer {
@@ -36,32 +37,32 @@ fn walked(answer: MosAnswer) -> WalkAnswer {
     }
 }
 
-fn put(answer: WalkAnswer, moves: Moves) {
+fn put(stdout: Stdout, answer: WalkAnswer, moves: Moves) {
     match answer {
-        WalkAnswer::Nothing => print::none(),
-        WalkAnswer::Refused(q) => print::refusal(q),
+        WalkAnswer::Nothing => print::none(stdout),
+        WalkAnswer::Refused(q) => print::refusal(stdout, q),
         WalkAnswer::Found(m) => {
-            patterns::put_pattern(m);
-            put_row(moves[0]);
-            put_row(moves[1]);
+            patterns::put_pattern(stdout, m);
+            put_row(stdout, moves[0]);
+            put_row(stdout, moves[1]);
         }
     }
 }
 
-fn put_row(row: [i32; 2]) {
-    print::next_signed(row[0]);
-    print::next_signed(row[1]);
+fn put_row(stdout: Stdout, row: [i32; 2]) {
+    print::next_signed(stdout, row[0]);
+    print::next_signed(stdout, row[1]);
 }
 
-pub(crate) fn answer_list(kind: usize, layout: IsomorphicLayout, n: Values) {
+pub(crate) fn answer_list(stdout: Stdout, kind: usize, layout: IsomorphicLayout, n: Values) {
     let mut out = list_room();
     let end = n.room as usize;
-    put_list(kind, layout, n, &mut out[..end]);
+    put_list(stdout, kind, layout, n, &mut out[..end]);
 }
 
-fn put_list(kind: usize, layout: IsomorphicLayout, n: Values, out: &mut [i32]) {
+fn put_list(stdout: Stdout, kind: usize, layout: IsomorphicLayout, n: Values, out: &mut [i32]) {
     let answer = write(kind, layout, n, out);
-    put_written(out, answer);
+    put_written(stdout, out, answer);
 }
 
 // Room for a list of 65,536 moves. The `ensures` is what lending the array needs.
@@ -80,24 +81,24 @@ fn write(kind: usize, layout: IsomorphicLayout, n: Values, out: &mut [i32]) -> C
 }
 
 // What was written to the front of a slice, or the refusal to write it.
-fn put_written(out: &[i32], answer: CountAnswer) {
+fn put_written(stdout: Stdout, out: &[i32], answer: CountAnswer) {
     match answer {
-        CountAnswer::Refused(q) => print::refusal(q),
-        CountAnswer::Given(count) => put_front(out, count),
+        CountAnswer::Refused(q) => print::refusal(stdout, q),
+        CountAnswer::Given(count) => put_front(stdout, out, count),
     }
 }
 
 // The first `count` moves, which the slice holds.
-fn put_front(moves: &[i32], count: usize) {
+fn put_front(stdout: Stdout, moves: &[i32], count: usize) {
     let mut i: usize = 0;
     while i < count {
         if moves.len() <= i {
             return;
         }
         if 0 < i {
-            print::space();
+            print::space(stdout);
         }
-        print::signed32(moves[i]);
+        print::signed32(stdout, moves[i]);
         i += 1;
     }
 }

@@ -10,13 +10,14 @@
 use crate::words::Values;
 use crate::{names, print, words};
 use mos::{KeyAnswer, Mos, MosAnswer, SharpnessAnswer, TotalAnswer, WalkAnswer};
+use std::io::Stdout;
 
-pub(crate) fn answer(kind: usize, n: Values) {
+pub(crate) fn answer(stdout: Stdout, kind: usize, n: Values) {
     match kind {
-        names::NEW_GENESIS => put_made(Mos::new_genesis(n.first, n.second)),
-        names::NEW_COLLAPSED => put_pattern(Mos::new_collapsed(n.first, n.second)),
-        names::PATTERN => put_new(Mos::new(n.first, n.second, n.third, n.fourth)),
-        _ => answer_pattern(kind, pattern_of(n)),
+        names::NEW_GENESIS => put_made(stdout, Mos::new_genesis(n.first, n.second)),
+        names::NEW_COLLAPSED => put_pattern(stdout, Mos::new_collapsed(n.first, n.second)),
+        names::PATTERN => put_new(stdout, Mos::new(n.first, n.second, n.third, n.fourth)),
+        _ => answer_pattern(stdout, kind, pattern_of(n)),
     }
 }
 
@@ -29,19 +30,20 @@ pub(crate) fn pattern_of(n: Values) -> Mos {
     }
 }
 
-fn answer_pattern(kind: usize, m: Mos) {
+fn answer_pattern(stdout: Stdout, kind: usize, m: Mos) {
     match kind {
-        names::CHILD => put_walked(m.child()),
-        names::PARENT => put_walked(m.parent()),
-        names::GENESIS => put_made(mos_walks::genesis(m)),
-        names::DUAL => put_made(m.dual()),
-        names::MIRROR => put_made(m.mirror()),
-        _ => put_made(m.coprime()),
+        names::CHILD => put_walked(stdout, m.child()),
+        names::PARENT => put_walked(stdout, m.parent()),
+        names::GENESIS => put_made(stdout, mos_walks::genesis(m)),
+        names::DUAL => put_made(stdout, m.dual()),
+        names::MIRROR => put_made(stdout, m.mirror()),
+        _ => put_made(stdout, m.coprime()),
     }
 }
 
-pub(crate) fn put_pattern(m: Mos) {
+pub(crate) fn put_pattern(stdout: Stdout, m: Mos) {
     print::four(
+        stdout,
         m.num_primary_steps,
         m.num_secondary_steps,
         m.primary_step,
@@ -50,63 +52,66 @@ pub(crate) fn put_pattern(m: Mos) {
 }
 
 // A pattern, or a refusal.
-pub(crate) fn put_made(answer: MosAnswer) {
+pub(crate) fn put_made(stdout: Stdout, answer: MosAnswer) {
     match answer {
-        MosAnswer::Given(m) => put_pattern(m),
-        MosAnswer::Refused(q) => print::refusal(q),
+        MosAnswer::Given(m) => put_pattern(stdout, m),
+        MosAnswer::Refused(q) => print::refusal(stdout, q),
     }
 }
 
-fn put_walked(answer: WalkAnswer) {
+fn put_walked(stdout: Stdout, answer: WalkAnswer) {
     match answer {
-        WalkAnswer::Found(m) => put_pattern(m),
-        WalkAnswer::Nothing => print::none(),
-        WalkAnswer::Refused(q) => print::refusal(q),
+        WalkAnswer::Found(m) => put_pattern(stdout, m),
+        WalkAnswer::Nothing => print::none(stdout),
+        WalkAnswer::Refused(q) => print::refusal(stdout, q),
     }
 }
 
-fn put_new(answer: MosAnswer) {
+fn put_new(stdout: Stdout, answer: MosAnswer) {
     match answer {
-        MosAnswer::Refused(q) => print::refusal(q),
+        MosAnswer::Refused(q) => print::refusal(stdout, q),
         MosAnswer::Given(m) => {
-            put_sharpness(m.sharpness());
-            print::space();
-            put_steps(m.num_steps());
-            print::next_answer(m.size());
-            print::next_answer(m.num_cycles());
-            print::next_answer(m.reduced_size());
+            put_sharpness(stdout, m.sharpness());
+            print::space(stdout);
+            put_steps(stdout, m.num_steps());
+            print::next_answer(stdout, m.size());
+            print::next_answer(stdout, m.num_cycles());
+            print::next_answer(stdout, m.reduced_size());
         }
     }
 }
 
-fn put_sharpness(answer: SharpnessAnswer) {
+fn put_sharpness(stdout: Stdout, answer: SharpnessAnswer) {
     match answer {
-        SharpnessAnswer::Given(n) => print::signed32(n),
-        SharpnessAnswer::Refused(q) => print::refusal(q),
+        SharpnessAnswer::Given(n) => print::signed32(stdout, n),
+        SharpnessAnswer::Refused(q) => print::refusal(stdout, q),
     }
 }
 
-fn put_steps(answer: TotalAnswer) {
+fn put_steps(stdout: Stdout, answer: TotalAnswer) {
     match answer {
-        TotalAnswer::Given(n) => print::number(n as u64),
-        TotalAnswer::Refused(q) => print::refusal(q),
+        TotalAnswer::Given(n) => print::number(stdout, n as u64),
+        TotalAnswer::Refused(q) => print::refusal(stdout, q),
     }
 }
 
 // Whether two numbers of 16 signed bits are the rest of the line; if so, it is answered.
-pub(crate) fn get_key(line: &[u8], n: Values) -> bool {
+pub(crate) fn get_key(stdout: Stdout, line: &[u8], n: Values) -> bool {
     let primary = words::short_after(line, n.end);
     let secondary = words::short_after(line, primary.end);
     if words::is_at(line, secondary.end, b'\n') {
-        put_key(pattern_of(n).get_key(primary.value, secondary.value));
+        put_key(
+            stdout,
+            pattern_of(n).get_key(primary.value, secondary.value),
+        );
         return true;
     }
     false
 }
 
-fn put_key(answer: KeyAnswer) {
+fn put_key(stdout: Stdout, answer: KeyAnswer) {
     match answer {
-        KeyAnswer::Given(key) => print::signed(key),
-        KeyAnswer::Refused(q) => print::refusal(q),
+        KeyAnswer::Given(key) => print::signed(stdout, key),
+        KeyAnswer::Refused(q) => print::refusal(stdout, q),
     }
 }

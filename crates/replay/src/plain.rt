@@ -12,21 +12,30 @@ use crate::{edo, layouts, names, pergens, print};
 use answer::NumberAnswer;
 use layout::IsomorphicLayout;
 use layout_retuning::Retuning;
+use std::io::Stdout;
 
-pub(crate) fn answer(kind: usize, layout: IsomorphicLayout, n: Values, more: Values) {
+pub(crate) fn answer(
+    stdout: Stdout,
+    kind: usize,
+    layout: IsomorphicLayout,
+    n: Values,
+    more: Values,
+) {
     match kind {
-        names::TRITAVES => edo::put_tritaves(edo_tritaves::tritaves(n.first)),
-        names::FIND_CHAIN_BY_EDO => edo::put_chain(edo_layouts::find_chain_by_edo(
-            n.first, n.second,
-        )),
-        names::KBM_LEN => print::count(layout_kbm::kbm_len(layout)),
-        names::BOOK_LEN => print::count(layout_book::book_len(layout)),
-        names::SPELLING => pergens::put_spelled(layout.get_accidentals(n.key)),
+        names::TRITAVES => edo::put_tritaves(stdout, edo_tritaves::tritaves(n.first)),
+        names::FIND_CHAIN_BY_EDO => edo::put_chain(
+            stdout,
+            edo_layouts::find_chain_by_edo(n.first, n.second),
+        ),
+        names::KBM_LEN => print::count(stdout, layout_kbm::kbm_len(layout)),
+        names::BOOK_LEN => print::count(stdout, layout_book::book_len(layout)),
+        names::SPELLING => pergens::put_spelled(stdout, layout.get_accidentals(n.key)),
         names::LAYER => layouts::put_layer(
+            stdout,
             layout_layers::layer_count(layout),
             layout_layers::get_layer(layout, n.key),
         ),
-        _ => print::answer(number(kind, layout, n, more)),
+        _ => print::answer(stdout, number(kind, layout, n, more)),
     }
 }
 

@@ -2,99 +2,101 @@
 ghost use Rattle.std.specs.Prelude.{◌≡◌, length};
 
 use answer::{CountAnswer, NumberAnswer, Refusal};
-use libc::STDOUT_FILENO;
+use std::io::{Stdout, Write};
 
-pub(crate) fn text(bytes: &[u8]) {
-    io::write_all(STDOUT_FILENO, bytes);
+// Writes a text; where that fails, nobody is left to be told.
+pub(crate) fn text(stdout: Stdout, bytes: &[u8]) {
+    let mut to = stdout;
+    let _ = to.write_all(bytes);
 }
 
 // One byte as it is.
-pub(crate) fn letter(byte: u8) {
-    text(&[byte]);
+pub(crate) fn letter(stdout: Stdout, byte: u8) {
+    text(stdout, &[byte]);
 }
 
-pub(crate) fn space() {
-    letter(b' ');
+pub(crate) fn space(stdout: Stdout) {
+    letter(stdout, b' ');
 }
 
-pub(crate) fn none() {
-    text(b"none");
+pub(crate) fn none(stdout: Stdout) {
+    text(stdout, b"none");
 }
 
-pub(crate) fn number(n: u64) {
-    io::print_decimal(STDOUT_FILENO, n);
+pub(crate) fn number(stdout: Stdout, n: u64) {
+    let _ = stdout.print(n);
 }
 
-pub(crate) fn short(n: u16) {
-    number(n as u64);
+pub(crate) fn short(stdout: Stdout, n: u16) {
+    number(stdout, n as u64);
 }
 
 // A number behind another word of the line.
-pub(crate) fn next_number(n: u64) {
-    space();
-    number(n);
+pub(crate) fn next_number(stdout: Stdout, n: u64) {
+    space(stdout);
+    number(stdout, n);
 }
 
-pub(crate) fn next_short(n: u16) {
-    next_number(n as u64);
+pub(crate) fn next_short(stdout: Stdout, n: u16) {
+    next_number(stdout, n as u64);
 }
 
-pub(crate) fn four(first: u16, second: u16, third: u16, fourth: u16) {
-    short(first);
-    next_short(second);
-    next_short(third);
-    next_short(fourth);
+pub(crate) fn four(stdout: Stdout, first: u16, second: u16, third: u16, fourth: u16) {
+    short(stdout, first);
+    next_short(stdout, second);
+    next_short(stdout, third);
+    next_short(stdout, fourth);
 }
 
 // A number that may be below 0: a minus, and then the number 1 above its mirror image.
-pub(crate) fn signed(n: i64) {
+pub(crate) fn signed(stdout: Stdout, n: i64) {
     if n < 0 {
-        letter(b'-');
+        letter(stdout, b'-');
         let mirror = (-1 - n) as u64;
-        number(mirror + 1);
+        number(stdout, mirror + 1);
         return;
     }
-    number(n as u64);
+    number(stdout, n as u64);
 }
 
-pub(crate) fn signed32(n: i32) {
-    signed(n as i64);
+pub(crate) fn signed32(stdout: Stdout, n: i32) {
+    signed(stdout, n as i64);
 }
 
 // Such a number behind another word of the line.
-pub(crate) fn next_signed(n: i32) {
-    space();
-    signed32(n);
+pub(crate) fn next_signed(stdout: Stdout, n: i32) {
+    space(stdout);
+    signed32(stdout, n);
 }
 
-pub(crate) fn refusal(q: Refusal) {
-    refused(q.number());
+pub(crate) fn refusal(stdout: Stdout, q: Refusal) {
+    refused(stdout, q.number());
 }
 
 // The refusal with the number of its question.
-pub(crate) fn refused(question: u8) {
-    text(b"refused ");
-    number(question as u64);
+pub(crate) fn refused(stdout: Stdout, question: u8) {
+    text(stdout, b"refused ");
+    number(stdout, question as u64);
 }
 
-pub(crate) fn answer(answer: NumberAnswer) {
+pub(crate) fn answer(stdout: Stdout, answer: NumberAnswer) {
     match answer {
-        NumberAnswer::Given(n) => short(n),
-        NumberAnswer::Refused(q) => refusal(q),
+        NumberAnswer::Given(n) => short(stdout, n),
+        NumberAnswer::Refused(q) => refusal(stdout, q),
     }
 }
 
 // An answer behind another word of the line.
-pub(crate) fn next_answer(found: NumberAnswer) {
-    space();
-    answer(found);
+pub(crate) fn next_answer(stdout: Stdout, found: NumberAnswer) {
+    space(stdout);
+    answer(stdout, found);
 }
 
 // How many there are, or a refusal.
-pub(crate) fn count(answer: CountAnswer) {
+pub(crate) fn count(stdout: Stdout, answer: CountAnswer) {
     match answer {
-        CountAnswer::Given(count) => number(count as u64),
-        CountAnswer::Refused(q) => refusal(q),
+        CountAnswer::Given(count) => number(stdout, count as u64),
+        CountAnswer::Refused(q) => refusal(stdout, q),
     }
 }
 
@@ -106,42 +108,42 @@ pub(crate) fn list_room() -> [u16; 65536]
 }
 
 // The numbers of a list, or `-` where it has none.
-pub(crate) fn list(numbers: &[u16]) {
+pub(crate) fn list(stdout: Stdout, numbers: &[u16]) {
     if numbers.len() == 0 {
-        letter(b'-');
+        letter(stdout, b'-');
         return;
     }
-    short(numbers[0]);
+    short(stdout, numbers[0]);
     let mut i: usize = 1;
     while i < numbers.len() {
-        next_short(numbers[i]);
+        next_short(stdout, numbers[i]);
         i += 1;
     }
 }
 
 // The bytes of a text as numbers, or `-` where it has none.
-pub(crate) fn codes(bytes: &[u8]) {
+pub(crate) fn codes(stdout: Stdout, bytes: &[u8]) {
     if bytes.len() == 0 {
-        letter(b'-');
+        letter(stdout, b'-');
         return;
     }
-    code(bytes[0]);
+    code(stdout, bytes[0]);
     let mut i: usize = 1;
     while i < bytes.len() {
-        space();
-        code(bytes[i]);
+        space(stdout);
+        code(stdout, bytes[i]);
         i += 1;
     }
 }
 
-fn code(byte: u8) {
-    number(byte as u64);
+fn code(stdout: Stdout, byte: u8) {
+    number(stdout, byte as u64);
 }
 
 // Lines, which have their own ends; the last is ended by `main`.
-pub(crate) fn lines(bytes: &[u8]) {
+pub(crate) fn lines(stdout: Stdout, bytes: &[u8]) {
     if 0 < bytes.len() {
         let end = bytes.len() - 1;
-        text(&bytes[..end]);
+        text(stdout, &bytes[..end]);
     }
 }

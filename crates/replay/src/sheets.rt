@@ -12,6 +12,7 @@ use crate::words::Values;
 use answer::CountAnswer;
 use layout::IsomorphicLayout;
 use layout_sheet::Record;
+use std::io::Stdout;
 
 // What the library answered, and the records.
 #[derive(Clone, Copy)]
@@ -20,14 +21,14 @@ pub(crate) struct Page {
     pub(crate) records: [Record; 4],
 }
 
-pub(crate) fn answer(layout: IsomorphicLayout, n: Values, more: Values) {
+pub(crate) fn answer(stdout: Stdout, layout: IsomorphicLayout, n: Values, more: Values) {
     let records = [
         asked(n.key),
         asked(n.next_key),
         asked(more.key),
         asked(more.next_key),
     ];
-    put(fill_page(layout, records));
+    put(stdout, fill_page(layout, records));
 }
 
 // A record that asks for a key.
@@ -55,27 +56,28 @@ fn fill_page(layout: IsomorphicLayout, records: [Record; 4]) -> Page
     }
 }
 
-fn put(page: Page) {
+fn put(stdout: Stdout, page: Page) {
     let answer = page.answer;
-    print::count(answer);
+    print::count(stdout, answer);
     let records = page.records;
     let mut i: usize = 0;
     while i < 4 {
-        put_record(records[i]);
+        put_record(stdout, records[i]);
         i += 1;
     }
 }
 
-fn put_record(record: Record) {
-    print::text(b", ");
-    print::signed32(record.key);
-    print::space();
+fn put_record(stdout: Stdout, record: Record) {
+    print::text(stdout, b", ");
+    print::signed32(stdout, record.key);
+    print::space(stdout);
     print::four(
+        stdout,
         record.sharp_index,
         record.sharp_count,
         record.flat_index,
         record.flat_count,
     );
-    print::next_short(record.stars);
-    print::next_short(record.lamp);
+    print::next_short(stdout, record.stars);
+    print::next_short(stdout, record.lamp);
 }

@@ -1,7 +1,7 @@
 // The words of a line: a name, then numbers with one space before each, then a line feed. What cannot be read ends `NOWHERE`, and so does
 // all that is read behind it: only the end of the last number is tested. A number that is not wanted is 0, and ends where it would begin.
 ghost use Rattle.std.specs.Prelude.{◌≤◌, ◌≡◌, length};
-ghost use Rattle.io.specs.Counts.{IsPrefixLen};
+ghost use Rattle.replay.specs.Counts.{IsPrefixLen};
 
 // A place behind every line.
 pub(crate) const NOWHERE: usize = 65536;
