@@ -1,9 +1,9 @@
 -- The output for what is kept of a line is the output for the line; its parts, one after the other, are all of it.
 use Prim.Native.Nat.{ℕ, ◌+◌, ◌≤◌}
 use native.Mathlib.Omega.{arith}
-use mathlib.Core.Bool.{true, false, false≢true}
+use mathlib.Core.Bool.{false, false≢true}
 use mathlib.Core.Path.{◌≡◌, sym, ap, ◌∙◌, subst}
-use mathlib.Core.List.{List, [], ◌++◌}
+use mathlib.Core.List.{List, []}
 use lib.ListN.{length, take, replicate, length-replicate}
 use Rattle.text.specs.Writing.{joined}
 use Rattle.text.proofs.Joined.{joined_none, joined_add}
