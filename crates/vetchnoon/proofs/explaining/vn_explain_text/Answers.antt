@@ -1,0 +1,11 @@
+-- The library filled the slice; the code is its count.
+use mathlib.Core.Path.{refl}
+use native.Mathlib.Omega.{arith}
+use Rattle.vetchnoon_codes.proofs.Coding.{coded, fills_filled, small_filled}
+use Rattle.vetchnoon.proofs.explaining.vn_explain_text.Goals as goal
+
+pub count-requires : goal.count-requires
+count-requires c = small_filled c.explain_text.result c.explain_text.ensures (omega arith)
+
+pub returns : goal.returns
+returns c = fills_filled refl c.explain_text.ensures (coded c.count.type_inv c.count.ensures)
