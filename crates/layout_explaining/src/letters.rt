@@ -1,4 +1,4 @@
-// The letter that counting begins with, and a letter's bytes: parts, and no entry points.
+// The letter that counting begins with, and the bytes of a letter: parts, and no entry points. Callers have asked questions 1 to 4 and 18.
 ghost use Rattle.std.specs.Prelude.{◌≡◌, ◌<◌};
 ghost use Rattle.genchain.specs.Chains.{TableRow, letters_in};
 ghost use Rattle.text.specs.Writing.{Room, Wrote};

@@ -3,7 +3,7 @@
 // Holds the explanation of two spellings that are typed as text: where each stands on the chain, which key that is, how far apart they are
 // and after how many places the chain comes round, as numbers and as three sentences for a class. The texts are read by `layout_reading`.
 // specs/: Explanations and Sentences define, Answers says what each call answers, Theorems and Examples state what holds.
-// Every entry point answers every input; `typed`, `counting` and `sentences` ask for more, as their heads say. Nothing is assumed.
+// Every entry point answers every input; `typed`, `counting`, `sentences` and `letters` ask for more, as their heads say. Nothing is assumed.
 #![tactic(auto)]
 
 mod counting;
