@@ -41,8 +41,8 @@ pub returns : goal.returns
 returns c =
     explanation_stored c.args.explanation
     (record {
-      place = search rules;
-      other_place = search rules;
+      place = record { sfits = c.struct_told-1.given.0.1 };
+      other_place = record { sfits = c.struct_told-2-1.given.0.1 };
       stars = search rules;
       other_stars = search rules;
       key = search rules;

@@ -1,0 +1,12 @@
+-- The library filled the slice; the code is its count.
+use mathlib.Core.Path.{refl}
+use native.Mathlib.Omega.{arith}
+use Rattle.vetchnoon_codes.proofs.Coding.{coded, fills_filled, small_filled}
+use borrow.Author.Rules.{rules}
+use Rattle.vetchnoon.proofs.edo.vn_find_by_edo.Goals as goal
+
+pub count-requires : goal.count-requires
+count-requires c = small_filled c.find_by_edo.result c.find_by_edo.ensures (omega arith)
+
+pub returns : goal.returns
+returns c = fills_filled refl c.find_by_edo.ensures (coded c.count.type_inv c.count.ensures)

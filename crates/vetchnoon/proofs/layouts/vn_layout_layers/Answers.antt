@@ -1,0 +1,12 @@
+-- The library filled the slice; the code is its count.
+use mathlib.Core.Path.{refl}
+use native.Mathlib.Omega.{arith}
+use Rattle.vetchnoon_codes.proofs.Coding.{coded, fills_filled, small_filled}
+use borrow.Author.Rules.{rules}
+use Rattle.vetchnoon.proofs.layouts.vn_layout_layers.Goals as goal
+
+pub count-requires : goal.count-requires
+count-requires c = small_filled c.get_layers.result c.get_layers.ensures (omega arith)
+
+pub returns : goal.returns
+returns c = fills_filled refl c.get_layers.ensures (coded c.count.type_inv c.count.ensures)

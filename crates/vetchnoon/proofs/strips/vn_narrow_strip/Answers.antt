@@ -1,0 +1,12 @@
+-- The library filled the slice; the code is its count.
+use mathlib.Core.Path.{refl}
+use native.Mathlib.Omega.{arith}
+use Rattle.vetchnoon_codes.proofs.Coding.{coded, fills_filled, small_filled}
+use borrow.Author.Rules.{rules}
+use Rattle.vetchnoon.proofs.strips.vn_narrow_strip.Goals as goal
+
+pub count-requires : goal.count-requires
+count-requires c = small_filled c.narrow_strip.result c.narrow_strip.ensures (omega arith)
+
+pub returns : goal.returns
+returns c = fills_filled refl c.narrow_strip.ensures (coded c.count.type_inv c.count.ensures)
