@@ -7,12 +7,11 @@ use lib.ListN.{length, set}
 use mir.Syntax.{w64}
 use mir.Val.{SFits, to_z, of_z}
 use mir.ValLaws.{to_z_pos}
-use Rattle.answer.specs.Outcome.{Outcome, given}
+use Rattle.answer.specs.Outcome.{given}
 use Rattle.math.proofs.Signed.{read_back_lem}
 use Rattle.text.proofs.Writing.{wrote_one, then, wrote_as}
 use Rattle.vetchnoon_codes.specs.Codes.{Fills}
 use Rattle.vetchnoon_codes.proofs.Coding.{fills_given}
-use Rattle.layout_explaining.specs.declared.Standing.{Standing}
 use Rattle.layout_explaining.specs.declared.Explanation.{Explanation}
 use Rattle.vetchnoon.specs.TypedNames.{verdict_number, explanation_numbers}
 

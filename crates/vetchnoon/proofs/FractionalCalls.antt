@@ -21,7 +21,7 @@ use Rattle.mos_fractional.specs.Walk.{children_from}
 use Rattle.mos_fractional.specs.Answers.{of_generator, length_outcome, listing_outcome}
 use Rattle.mos_fractional.proofs.Theorems.{walk_is_whole}
 use Rattle.vetchnoon_codes.specs.Codes.{code_of, SmallCount}
-use Rattle.vetchnoon.specs.FractionalPatterns.{child_patterns, put_first, PlansChild}
+use Rattle.vetchnoon.specs.FractionalPatterns.{child_patterns, PlansChild}
 
 -- ---- a listing
 

@@ -31,7 +31,7 @@ use Rattle.layout_book.proofs.Theorems.{offsets_fit}
 use Rattle.layout_layers.specs.declared.Layer.{Layer}
 use Rattle.math.proofs.Signed.{read_back_lem}
 use Rattle.mos.specs.Answers.{of_pattern, genesis_outcome, listing_outcome}
-use Rattle.mos.specs.Patterns.{is_pattern, genesis, key_at}
+use Rattle.mos.specs.Patterns.{is_pattern, key_at}
 use Rattle.mos.specs.Walks.{children, first_with, fields, listed}
 use Rattle.mos.specs.declared.Mos.{Mos}
 use Rattle.mos.proofs.Theorems.{made_patterns}

@@ -1,10 +1,10 @@
 -- Question 10 on the two numbers of a lookup, which comes before the book's questions.
 use Prim.Native.Nat.{ℕ, ◌≤◌, ◌<◌}
-use mathlib.Core.Path.{◌≡◌, sym}
+use mathlib.Core.Path.{◌≡◌}
 use mathlib.Core.List.{List}
 use lib.IntN.{ℤ}
 use borrow.Author.Tests.{le-leb, lt-leb}
-use Rattle.answer.specs.Outcome.{Outcome, refused}
+use Rattle.answer.specs.Outcome.{refused}
 use Rattle.book.specs.Books.{find_outcome}
 use Rattle.vetchnoon_codes.specs.Numbers.{as_numbers}
 use Rattle.vetchnoon.specs.Written.{place_numbers, pair_output}

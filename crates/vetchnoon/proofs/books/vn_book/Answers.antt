@@ -2,7 +2,6 @@
 use mathlib.Core.Path.{refl}
 use native.Mathlib.Omega.{arith}
 use Rattle.vetchnoon_codes.proofs.Coding.{coded, fills_filled, small_filled}
-use borrow.Author.Rules.{rules}
 use Rattle.vetchnoon.proofs.books.vn_book.Goals as goal
 
 pub count-requires : goal.count-requires

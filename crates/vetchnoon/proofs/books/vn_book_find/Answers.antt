@@ -8,7 +8,6 @@ use Rattle.vetchnoon.specs.Written.{place_numbers}
 use Rattle.vetchnoon_codes.proofs.Coding.{coded, fills_refused, fills_given}
 use Rattle.vetchnoon.proofs.Pairs.{no_room, room_for_two}
 use Rattle.vetchnoon.proofs.Outputs.{key_handed_on}
-use borrow.Author.Rules.{rules}
 use Rattle.vetchnoon.proofs.books.vn_book_find.Goals as goal
 
 pub returns-then-out-lt2 : goal.returns-then-out-lt2

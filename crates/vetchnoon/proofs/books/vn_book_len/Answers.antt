@@ -6,7 +6,6 @@ use Rattle.vetchnoon_codes.specs.Codes.{code_of}
 use Rattle.vetchnoon.specs.Written.{layout}
 use Rattle.vetchnoon_codes.proofs.Coding.{coded, small_counted}
 use Rattle.vetchnoon.proofs.Outputs.{books_fit}
-use borrow.Author.Rules.{rules}
 use Rattle.vetchnoon.proofs.books.vn_book_len.Goals as goal
 
 pub count-requires : goal.count-requires

@@ -2,7 +2,6 @@
 use native.Mathlib.Omega.{arith}
 use Rattle.vetchnoon_codes.proofs.Coding.{coded, fills_filled, small_filled}
 use Rattle.vetchnoon.proofs.Outputs.{letters_in_room}
-use borrow.Author.Rules.{rules}
 use Rattle.vetchnoon.proofs.chains.vn_chain_letters.Goals as goal
 
 pub count-requires : goal.count-requires

@@ -2,7 +2,6 @@
 use mathlib.Core.Path.{ap, ◌∙◌}
 use Rattle.vetchnoon_codes.specs.Codes.{code_of}
 use Rattle.vetchnoon_codes.proofs.Coding.{coded}
-use borrow.Author.Rules.{rules}
 use Rattle.vetchnoon.proofs.chains.vn_start.Goals as goal
 
 pub returns : goal.returns

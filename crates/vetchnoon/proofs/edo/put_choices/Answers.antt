@@ -3,7 +3,6 @@ use mathlib.Core.Path.{ap}
 use Rattle.answer.specs.Outcome.{given}
 use Rattle.edo_tritaves.proofs.Choosing.{one_number, two_numbers}
 use Rattle.vetchnoon_codes.proofs.Coding.{fills_as}
-use borrow.Author.Rules.{rules}
 use Rattle.vetchnoon.proofs.edo.put_choices.Goals as goal
 
 pub returns-then-choices-eq0 : goal.returns-then-choices-eq0

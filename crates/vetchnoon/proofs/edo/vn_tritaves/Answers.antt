@@ -5,7 +5,6 @@ use Rattle.edo_tritaves.specs.declared.Choices.{Choices}
 use Rattle.edo_tritaves.specs.Tritaves.{choice_numbers, tritaves_outcome}
 use Rattle.vetchnoon_codes.specs.Numbers.{as_numbers}
 use Rattle.vetchnoon_codes.proofs.Coding.{coded, fills_as, fills_refused}
-use borrow.Author.Rules.{rules}
 use Rattle.vetchnoon.proofs.edo.vn_tritaves.Goals as goal
 
 pub returns-in-Refused : goal.returns-in-Refused

@@ -4,7 +4,6 @@ use Rattle.layout_explaining.specs.Answers.{explanation_outcome}
 use Rattle.vetchnoon.specs.TypedNames.{as_signed, explanation_numbers}
 use Rattle.vetchnoon_codes.proofs.Coding.{coded, fills_refused, fills_as}
 use Rattle.vetchnoon.proofs.Distances.{apart_small}
-use borrow.Author.Rules.{rules}
 use Rattle.vetchnoon.proofs.explaining.vn_explain.Goals as goal
 
 pub put_explanation-requires : goal.put_explanation-requires

@@ -3,7 +3,6 @@ use mathlib.Core.Path.{ap, ◌∙◌}
 use Rattle.vetchnoon_codes.specs.Codes.{code_of}
 use Rattle.vetchnoon_codes.proofs.Coding.{coded}
 use Rattle.vetchnoon.proofs.Distances.{words_small}
-use borrow.Author.Rules.{rules}
 use Rattle.vetchnoon.proofs.explaining.vn_explain_text_len.Goals as goal
 
 pub count-requires : goal.count-requires

@@ -1,6 +1,5 @@
 -- No child, no room for it, or a store: one law for each end.
 use mathlib.Core.Path.{refl, sym, ap, ◌∙◌}
-use borrow.Author.Rules.{rules}
 use mir.Syntax.{w64}
 use Rattle.math.proofs.Signed.{read_back_lem}
 use Rattle.mos_fractional.specs.Answers.{child_in}

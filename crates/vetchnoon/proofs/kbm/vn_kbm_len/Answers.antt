@@ -6,7 +6,6 @@ use Rattle.layout_kbm.proofs.Natural.{files_fit}
 use Rattle.vetchnoon_codes.specs.Codes.{code_of}
 use Rattle.vetchnoon.specs.Written.{layout}
 use Rattle.vetchnoon_codes.proofs.Coding.{coded, small_counted}
-use borrow.Author.Rules.{rules}
 use Rattle.vetchnoon.proofs.kbm.vn_kbm_len.Goals as goal
 
 pub count-requires : goal.count-requires

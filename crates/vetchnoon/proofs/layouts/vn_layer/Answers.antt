@@ -5,7 +5,6 @@ use Rattle.vetchnoon.specs.Written.{layout}
 use Rattle.vetchnoon.proofs.Outputs.{key_handed_on}
 use Rattle.vetchnoon_codes.specs.Codes.{code_of}
 use Rattle.vetchnoon_codes.proofs.Coding.{coded}
-use borrow.Author.Rules.{rules}
 use Rattle.vetchnoon.proofs.layouts.vn_layer.Goals as goal
 
 pub returns : goal.returns

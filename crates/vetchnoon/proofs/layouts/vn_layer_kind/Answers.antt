@@ -1,7 +1,6 @@
 -- The two numbers are `put`'s.
 use Rattle.vetchnoon_codes.proofs.Coding.{fills_as}
 use Rattle.vetchnoon.proofs.Outputs.{kind_given}
-use borrow.Author.Rules.{rules}
 use Rattle.vetchnoon.proofs.layouts.vn_layer_kind.Goals as goal
 
 pub returns : goal.returns

@@ -8,7 +8,6 @@ use Rattle.layout.specs.declared.prepared.Prepared.{Prepared}
 use Rattle.layout.proofs.Calls.{laid_of}
 use Rattle.vetchnoon_codes.proofs.Coding.{coded, fills_refused, fills_as}
 use Rattle.vetchnoon.proofs.Outputs.{layout_refused, layout_given}
-use borrow.Author.Rules.{rules}
 use Rattle.vetchnoon.proofs.layouts.vn_layout.Goals as goal
 
 solved-by : (p : Prepared) (f : Found) → Ready p × (p.found ≡ f) → p.solved ≡ solved_of f.octave f.generator

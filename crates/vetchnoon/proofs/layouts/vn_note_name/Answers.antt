@@ -8,7 +8,6 @@ use Rattle.layout.specs.Answers.{get_note_name}
 use Rattle.vetchnoon.specs.Written.{layout}
 use Rattle.vetchnoon.proofs.Outputs.{key_handed_on}
 use Rattle.vetchnoon_codes.proofs.Coding.{coded, fills_filled, small_filled}
-use borrow.Author.Rules.{rules}
 use Rattle.vetchnoon.proofs.layouts.vn_note_name.Goals as goal
 
 pub count-requires : goal.count-requires

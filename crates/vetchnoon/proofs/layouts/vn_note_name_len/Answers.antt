@@ -8,7 +8,6 @@ use Rattle.vetchnoon_codes.specs.Codes.{code_of}
 use Rattle.vetchnoon.specs.Written.{layout}
 use Rattle.vetchnoon_codes.proofs.Coding.{coded, small_counted}
 use Rattle.vetchnoon.proofs.Outputs.{names_fit, key_handed_on}
-use borrow.Author.Rules.{rules}
 use Rattle.vetchnoon.proofs.layouts.vn_note_name_len.Goals as goal
 
 pub count-requires : goal.count-requires

@@ -8,7 +8,6 @@ use Rattle.layout.specs.Answers.{get_sounded_key}
 use Rattle.vetchnoon_codes.specs.Codes.{code_of}
 use Rattle.vetchnoon_codes.proofs.Coding.{coded}
 use Rattle.vetchnoon.specs.Written.{layout}
-use borrow.Author.Rules.{rules}
 use Rattle.vetchnoon.proofs.layouts.vn_sounded_key.Goals as goal
 
 pub returns : goal.returns

@@ -5,7 +5,6 @@ use Rattle.vetchnoon.specs.Written.{pergen, format}
 use Rattle.vetchnoon.proofs.Outputs.{key_handed_on}
 use Rattle.vetchnoon_codes.specs.Numbers.{as_numbers, accidentals_numbers}
 use Rattle.vetchnoon_codes.proofs.Coding.{fills_as}
-use borrow.Author.Rules.{rules}
 use Rattle.vetchnoon.proofs.numbers.vn_accidentals.Goals as goal
 
 pub returns : goal.returns

@@ -5,7 +5,6 @@ use Rattle.vetchnoon_codes.specs.Numbers.{as_numbers}
 use Rattle.vetchnoon.specs.Written.{pergen, generation_numbers}
 use Rattle.vetchnoon_codes.proofs.Coding.{coded, fills_refused, fills_as}
 use Rattle.vetchnoon.proofs.Outputs.{generation_given, key_handed_on}
-use borrow.Author.Rules.{rules}
 use Rattle.vetchnoon.proofs.numbers.vn_generation.Goals as goal
 
 pub returns-in-Refused : goal.returns-in-Refused

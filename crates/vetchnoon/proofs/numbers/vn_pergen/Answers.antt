@@ -1,7 +1,6 @@
 -- Question 2, then the numbers that were solved.
 use Rattle.vetchnoon_codes.proofs.Coding.{coded, fills_refused, fills_as}
 use Rattle.vetchnoon.proofs.Outputs.{pergen_refused, pergen_given}
-use borrow.Author.Rules.{rules}
 use Rattle.vetchnoon.proofs.numbers.vn_pergen.Goals as goal
 
 pub returns-then-period-eq0 : goal.returns-then-period-eq0

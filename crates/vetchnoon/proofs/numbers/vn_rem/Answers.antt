@@ -6,7 +6,6 @@ use Rattle.math.specs.Answers.{rem_outcome}
 use Rattle.math.proofs.Signed.{read_back_lem}
 use Rattle.vetchnoon_codes.specs.Codes.{code_of}
 use Rattle.vetchnoon_codes.proofs.Coding.{coded}
-use borrow.Author.Rules.{rules}
 use Rattle.vetchnoon.proofs.numbers.vn_rem.Goals as goal
 
 pub returns : goal.returns

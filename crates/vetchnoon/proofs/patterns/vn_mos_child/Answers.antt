@@ -2,7 +2,6 @@
 use mathlib.Core.Path.{ap}
 use Rattle.vetchnoon_codes.specs.Numbers.{as_numbers, walk_numbers}
 use Rattle.vetchnoon_codes.proofs.Coding.{fills_as}
-use borrow.Author.Rules.{rules}
 use Rattle.vetchnoon.proofs.patterns.vn_mos_child.Goals as goal
 
 pub returns : goal.returns

@@ -4,7 +4,6 @@ use native.Mathlib.Omega.{arith}
 use Rattle.mos.specs.Answers.{mos_outcome}
 use Rattle.vetchnoon_codes.proofs.Coding.{coded, fills_refused, fills_as}
 use Rattle.vetchnoon.proofs.Outputs.{find_refused, find_given}
-use borrow.Author.Rules.{rules}
 use Rattle.vetchnoon.proofs.patterns.vn_mos_find.Goals as goal
 
 pub returns-in-Refused : goal.returns-in-Refused

@@ -3,7 +3,6 @@ use mathlib.Core.Path.{ap}
 use Rattle.mos.specs.Walks.{fields}
 use Rattle.vetchnoon_codes.specs.Numbers.{as_numbers}
 use Rattle.vetchnoon_codes.proofs.Coding.{fills_as}
-use borrow.Author.Rules.{rules}
 use Rattle.vetchnoon.proofs.patterns.vn_mos_genesis.Goals as goal
 
 pub returns : goal.returns

@@ -2,7 +2,6 @@
 use native.Mathlib.Omega.{arith}
 use Rattle.vetchnoon.proofs.Outputs.{listing_in_room}
 use Rattle.vetchnoon_codes.proofs.Coding.{coded, fills_filled, small_filled}
-use borrow.Author.Rules.{rules}
 use Rattle.vetchnoon.proofs.patterns.vn_mos_parents.Goals as goal
 
 pub count-requires : goal.count-requires

@@ -8,7 +8,6 @@ use Rattle.layout_reach.specs.Answers.{get_reach}
 use Rattle.vetchnoon.specs.Written.{layout}
 use Rattle.vetchnoon.proofs.Outputs.{key_handed_on}
 use Rattle.vetchnoon_codes.proofs.Coding.{coded, fills_filled, small_filled}
-use borrow.Author.Rules.{rules}
 use Rattle.vetchnoon.proofs.reach.vn_keys_in_reach.Goals as goal
 
 pub count-requires : goal.count-requires

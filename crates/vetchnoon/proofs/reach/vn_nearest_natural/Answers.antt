@@ -6,7 +6,6 @@ use Rattle.vetchnoon.specs.Written.{layout}
 use Rattle.vetchnoon.proofs.Outputs.{key_handed_on}
 use Rattle.vetchnoon_codes.specs.Codes.{code_of}
 use Rattle.vetchnoon_codes.proofs.Coding.{coded}
-use borrow.Author.Rules.{rules}
 use Rattle.vetchnoon.proofs.reach.vn_nearest_natural.Goals as goal
 
 pub returns : goal.returns

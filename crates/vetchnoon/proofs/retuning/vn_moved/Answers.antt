@@ -6,7 +6,6 @@ use Rattle.vetchnoon.specs.Written.{retuning, spelling}
 use Rattle.vetchnoon.proofs.Outputs.{key_handed_on}
 use Rattle.vetchnoon_codes.specs.Codes.{code_of}
 use Rattle.vetchnoon_codes.proofs.Coding.{coded}
-use borrow.Author.Rules.{rules}
 use Rattle.vetchnoon.proofs.retuning.vn_moved.Goals as goal
 
 pub returns : goal.returns
