@@ -25,7 +25,7 @@ fn put_place(stdout: Stdout, answer: FindAnswer) {
     }
 }
 
-// The two fields are handed on at once. Covered code cannot hold a struct with a reference, so this is proved by hand.
+// The two fields are handed on at once.
 fn put_name_of(stdout: Stdout, book: &[u8], key: i32) {
     let found = book::name(book, key);
     put_name(stdout, found.name, found.refusal)

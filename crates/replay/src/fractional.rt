@@ -81,7 +81,7 @@ fn lent() -> FractionalMos {
     }
 }
 
-// The array is lent for the call alone. Covered code cannot lend a list of structs, so this is proved by hand.
+// The array is lent for the call alone.
 fn list_page(generator: f64, patterns: [FractionalMos; 8]) -> Page
     ensures { Filled (listing_outcome generator (length patterns)) (count_outcome result.answer) patterns result.patterns }
 {

@@ -44,7 +44,7 @@ fn asked(key: i32) -> Record {
     }
 }
 
-// The array is lent for the call alone. Covered code cannot lend a list of records, so this is proved by hand.
+// The array is lent for the call alone.
 fn fill_page(layout: IsomorphicLayout, records: [Record; 4]) -> Page
     ensures { Filled (get_sheet layout records) (count_outcome result.answer) records result.records }
 {
