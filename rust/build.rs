@@ -1,7 +1,7 @@
-//! Links the proved static library, which `rt staticlib vetchnoon` writes.
+//! Links the proved static library, which `rt lib` in `crates/vetchnoon` writes.
 //!
 //! It is looked for in the folder that `VETCHNOON_LIB` names, or else in
-//! `target/staticlib` of this repository.
+//! `crates/vetchnoon/out` of this repository.
 
 use std::env;
 use std::path::Path;
@@ -13,14 +13,14 @@ fn main() {
     println!("cargo::rerun-if-env-changed=VETCHNOON_LIB");
 
     let folder = env::var_os("VETCHNOON_LIB").map_or_else(
-        || Path::new(env!("CARGO_MANIFEST_DIR")).join("../target/staticlib"),
+        || Path::new(env!("CARGO_MANIFEST_DIR")).join("../crates/vetchnoon/out"),
         PathBuf::from,
     );
     let library = folder.join("libvetchnoon.a");
     println!("cargo::rerun-if-changed={}", library.display());
     if !library.is_file() {
         println!(
-            "cargo::error={} is not there: run `rt staticlib vetchnoon` in the repository, or name its folder by VETCHNOON_LIB",
+            "cargo::error={} is not there: run `rt lib` in crates/vetchnoon, or name its folder by VETCHNOON_LIB",
             library.display()
         );
         process::exit(1);
