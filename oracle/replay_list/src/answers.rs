@@ -42,7 +42,6 @@ use crate::questions::OfPattern;
 use crate::questions::Question;
 use crate::retunings;
 use crate::sheets;
-use crate::typed;
 
 /// Why there is no answer.
 pub enum Absent {
@@ -72,7 +71,8 @@ pub fn answer(question: &Question) -> Option<String> {
     };
     match text_in_room(question, room.into()) {
         Ok(mut text) => {
-            if !ends_its_lines(question) {
+            // A table and a report end their own lines.
+            if !matches!(question, Question::Table(_) | Question::EdoReport) {
                 text.push('\n');
             }
             Some(text)
@@ -80,14 +80,6 @@ pub fn answer(question: &Question) -> Option<String> {
         Err(Absent::Refused(number)) => Some(format!("refused {number}\n")),
         Err(Absent::Overflow) => None,
     }
-}
-
-/// A table, a report and an explanation in sentences end their own lines.
-fn ends_its_lines(question: &Question) -> bool {
-    matches!(
-        question,
-        Question::Table(_) | Question::EdoReport | Question::ExplainText(..)
-    )
 }
 
 /// A question's line and its answer, which the original does not overflow at.
@@ -121,7 +113,7 @@ fn text_in_room(question: &Question, room: usize) -> Text {
 fn elements(question: &Question, text: &str) -> usize {
     match question {
         Question::Chain(_) | Question::Name(..) | Question::Table(_) => text.len(),
-        Question::EdoReport | Question::ExplainText(..) => text.len(),
+        Question::EdoReport => text.len(),
         Question::FindByEdo(_) if text != "-" => text.split(' ').count(),
         Question::OfPattern(..) | Question::OfLayout(..) | Question::Book(_) if text != "-" => {
             text.split(' ').count()
@@ -199,10 +191,6 @@ fn text(question: &Question) -> Text {
         Question::KbmLength(layout) => mappings::length(*layout),
         Question::Kbm(layout) => mappings::file(*layout),
         Question::ReadKbm(layout, text) => mappings::keys(*layout, text),
-        Question::ReadSpelling(layout, text) => typed::spelling(*layout, text),
-        Question::FindKey(layout, text) => typed::key(*layout, text),
-        Question::Explain(layout, first, second) => typed::explanation(*layout, first, second),
-        Question::ExplainText(layout, first, second) => typed::sentences(*layout, first, second),
         Question::Moved(retuning, letter, signs, stars) => {
             retunings::moved(*retuning, *letter, *signs, *stars)
         }

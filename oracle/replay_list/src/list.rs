@@ -1,7 +1,7 @@
 //! The list of questions: the bench examples of document 01, small numbers
 //! densely, limits, and numbers of every size at random; then keys below 0, other letters
 //! on key 0, strips of two octaves, stored strips, distances between keys, retunings, lists in
-//! the order of the chain, moves, Scala keyboard mappings, typed names, sheets of keys, and patterns from
+//! the order of the chain, moves, Scala keyboard mappings, sheets of keys, and patterns from
 //! fractional generators.
 
 use std::collections::HashSet;
@@ -31,7 +31,6 @@ use crate::retunings;
 use crate::sheets;
 use crate::starts;
 use crate::strips;
-use crate::typed;
 
 /// The numbers at which an answer is likely to change its form.
 const LIMITS: [u16; 9] = [0, 1, 2, 255, 256, 32_767, 32_768, 65_534, 65_535];
@@ -64,7 +63,6 @@ pub fn all() -> Vec<Question> {
     questions.extend(orders::all());
     questions.extend(moves::all());
     questions.extend(mappings::all());
-    questions.extend(typed::all());
     questions.extend(sheets::all());
     questions.extend(fractional::all());
 

@@ -19,7 +19,6 @@ mod retunings;
 mod sheets;
 mod starts;
 mod strips;
-mod typed;
 
 use std::env;
 use std::fs;

@@ -216,12 +216,6 @@ pub enum Question {
     KbmLength(Layout),
     Kbm(Layout),
     ReadKbm(Layout, Vec<u8>),
-    /// The spelling that any bytes are, and the key that they name; the layout has a start.
-    ReadSpelling(Layout, Vec<u8>),
-    FindKey(Layout, Vec<u8>),
-    /// Why two texts are one key or two, in numbers and in sentences; the layout has a start.
-    Explain(Layout, Vec<u8>, Vec<u8>),
-    ExplainText(Layout, Vec<u8>, Vec<u8>),
     /// A sheet of four keys; the layout has a start.
     Sheet(Layout, [i32; 4]),
     /// The child of a pattern with fractional steps; and of a fractional generator, by its bits,
@@ -343,16 +337,6 @@ impl Display for Question {
             Self::KbmLength(layout) => write!(f, "kbm_len {layout}"),
             Self::Kbm(layout) => write!(f, "kbm {layout}"),
             Self::ReadKbm(layout, text) => write!(f, "read_kbm {layout}{}", listed(text)),
-            Self::ReadSpelling(layout, text) => {
-                write!(f, "read_spelling {layout}{}", listed(text))
-            }
-            Self::FindKey(layout, text) => write!(f, "find_key {layout}{}", listed(text)),
-            Self::Explain(layout, first, second) => {
-                write!(f, "explain {layout} {}", two_listed(first, second))
-            }
-            Self::ExplainText(layout, first, second) => {
-                write!(f, "explain_text {layout} {}", two_listed(first, second))
-            }
             Self::Widen(strip) => write!(f, "widen{}", listed(strip)),
             Self::Narrow(strip) => write!(f, "narrow{}", listed(strip)),
             Self::Table(line) => write!(f, "table {line}"),
@@ -365,9 +349,4 @@ impl Display for Question {
 /// Numbers with a space before each.
 fn listed<T: Display>(numbers: &[T]) -> String {
     numbers.iter().map(|number| format!(" {number}")).collect()
-}
-
-/// How many bytes the first text has, then the bytes of both.
-fn two_listed(first: &[u8], second: &[u8]) -> String {
-    format!("{}{}{}", first.len(), listed(first), listed(second))
 }
