@@ -23,19 +23,13 @@ returns-then-keys-index c =
 
 pub read_u32-offset-requires : goal.read_u32-offset-requires
 read_u32-offset-requires c =
-    omega (
-      arith,
-      pair_held _ c.args.key _ _ (sym (ap keys_answered c.in-Given.is) ∙ c.count.ensures)
-          (by_cast w32 c.args.key c.ranges.key c.if-key-lt0.false) c.if-keys-index.false,
-    )
+    let first = by_cast w32 c.args.key c.ranges.key c.if-key-lt0.false in
+    omega (arith, pair_held _ c.args.key _ _ (sym (ap keys_answered c.in-Given.is) ∙ c.count.ensures) first c.if-keys-index.false)
 
 pub read_u32-length-requires : goal.read_u32-length-requires
 read_u32-length-requires c =
-    omega (
-      arith,
-      pair_held _ c.args.key _ _ (sym (ap keys_answered c.in-Given.is) ∙ c.count.ensures)
-          (by_cast w32 c.args.key c.ranges.key c.if-key-lt0.false) c.if-keys-index.false,
-    )
+    let second = by_cast w32 c.args.key c.ranges.key c.if-key-lt0.false in
+    omega (arith, pair_held _ c.args.key _ _ (sym (ap keys_answered c.in-Given.is) ∙ c.count.ensures) second c.if-keys-index.false)
 
 pub returns-else-keys-index : goal.returns-else-keys-index
 returns-else-keys-index c =
