@@ -4,6 +4,7 @@ pub mod Rounding
 pub mod Exact
 pub mod Products
 pub mod Remainders
+pub mod Whole
 pub mod Storing
 pub mod Theorems
 pub mod Examples

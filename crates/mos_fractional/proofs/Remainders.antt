@@ -14,7 +14,7 @@ use lib.Ieee.Fits.{and_l, and_r}
 use lib.Ieee.Digits.{back}
 use Rattle.mos_fractional.specs.Fractional.{one}
 
-rem_is : (s : Bool) (m : ℕ) (e : ℤ) → rem binary64 (fin s m e) one ≡ round binary64 s (m * up e % down e) (down e)
+pub rem_is : (s : Bool) (m : ℕ) (e : ℤ) → rem binary64 (fin s m e) one ≡ round binary64 s (m * up e % down e) (down e)
 unfolding rem
 rem_is s m e = simp (mul-one, one-mul)
 
@@ -36,7 +36,7 @@ small s r n h l =
     ∙ sym (mul_assoc r (2 ^ (1074 - n)) (2 ^ n)))
 
 -- the significand's bound, and the exponent's
-digits : (s : Bool) (m : ℕ) (e : ℤ) → T (fits binary64 (fin s m e)) → m < 2 ^ 53
+pub digits : (s : Bool) (m : ℕ) (e : ℤ) → T (fits binary64 (fin s m e)) → m < 2 ^ 53
 unfolding fits
 digits s zero e h = lit< tt
 digits s (suc m) e h =

@@ -10,10 +10,12 @@
 
 mod walks;
 
-ghost use Rattle.std.specs.Prelude.{◌≡◌, length};
+ghost use Rattle.std.specs.Prelude.{◌≡◌, true, length};
+ghost use Rattle.std.specs.Float.{binary64};
+ghost use Rattle.std.specs.Float.Ieee.{rem};
 ghost use Rattle.answer.specs.Lent.{Filled};
 ghost use Rattle.answer.specs.Refusals.{count_outcome};
-ghost use Rattle.mos_fractional.specs.Fractional.{child_of};
+ghost use Rattle.mos_fractional.specs.Fractional.{one, is_finite, child_of};
 ghost use Rattle.mos_fractional.specs.Answers.{genesis_outcome, nth_outcome, length_outcome, listing_outcome, fractional_outcome, child_in, walk_outcome};
 
 use answer::{CountAnswer, Refusal};
@@ -58,7 +60,7 @@ impl FractionalMos {
         let infinity = 1.0 / 0.0;
         if generator < infinity {
             if -infinity < generator {
-                let rest = generator % 1.0;
+                let rest = remainder_by_one(generator);
                 if rest < 0.0 {
                     let raised = rest + 1.0;
                     return FractionalAnswer::Given(FractionalMos {
@@ -115,6 +117,15 @@ impl FractionalMos {
         }
         ChildAnswer::Nothing
     }
+}
+
+// A finite number's remainder by 1, with its sign: what stands behind the point. The subtraction loses nothing. It stands for `x % 1.0`,
+// which is a call of the C library's `fmod`.
+fn remainder_by_one(x: f64) -> f64
+    requires { is_finite x ≡ true }
+    ensures { result ≡ rem binary64 x one }
+{
+    (x - x.trunc()).copysign(x)
 }
 
 // The k-th pattern of a generator's walk, the genesis for 0 (22).
