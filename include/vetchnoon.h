@@ -3,12 +3,11 @@
  * Link libvetchnoon.a. Nothing is allocated, kept between calls or shared: every call may be made from any thread.
  *
  * What the library runs on
- *   x86-64 Linux, C calling convention, size_t of 64 bits. It needs memset, memcpy and fmod, which a C library has (fmod often
- *   in a part of its own: link with -lm), and nothing else; it makes no system calls. Only
- *   vn_fractional_children and vn_fractional_children_len call fmod.
- *   Stack: at most 1.25 KiB for any call, measured (1,160 bytes for vn_explain_text, 1,128 for vn_explain_text_len, 1,080 for
- *   vn_edo_report, 920 for vn_find_by_edo, 856 for vn_tritaves, at most 536 for any other, with the memset and memcpy of glibc);
- *   examples/check measures it again.
+ *   x86-64 Linux on a processor of level x86-64-v2 (with SSE4.2), which the library does not ask; C calling convention, size_t of
+ *   64 bits. It needs memset, memcpy and memmove, which a C library has, and nothing else; it makes no system calls.
+ *   Stack: at most 1.25 KiB for any call, measured (1,176 bytes for vn_explain_text, 1,112 for vn_explain_text_len, 1,088 for
+ *   vn_edo_report, 960 for vn_find_by_edo, 896 for vn_tritaves, at most 520 for any other, with glibc's memset, memcpy and
+ *   memmove); examples/check measures it again.
  *
  * What a call returns
  *   0 or more: the answer, or how many elements were written to the front of the slice that was lent.

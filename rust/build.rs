@@ -27,5 +27,4 @@ fn main() {
     }
     println!("cargo::rustc-link-search=native={}", folder.display());
     println!("cargo::rustc-link-lib=static=vetchnoon");
-    println!("cargo::rustc-link-lib=m"); // fmod
 }
