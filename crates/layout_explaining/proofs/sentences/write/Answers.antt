@@ -28,14 +28,14 @@ slice_bounds-put_text-end c =
 pub put_text-told-requires : goal.put_text-told-requires
 put_text-told-requires c =
     let p = c.put_standing-one_end.ensures in
-    let i = c.if-out-bytes.false in
-    omega (arith, i, c.put_text-named.ensures.end, front_length p.0 (omega (arith, p.1)))
+    let room_told = c.if-out-bytes.false in
+    omega (arith, room_told, c.put_text-named.ensures.end, front_length p.0 (omega (arith, p.1)))
 
 pub put_text-next-requires : goal.put_text-next-requires
 put_text-next-requires c =
     let p = c.put_standing-one_end.ensures in
-    let i = c.if-out-bytes.false in
-    omega (arith, i, c.put_text-named.ensures.end, c.put_text-told.ensures.end, front_length p.0 (omega (arith, p.1)))
+    let room_next = c.if-out-bytes.false in
+    omega (arith, room_next, c.put_text-named.ensures.end, c.put_text-told.ensures.end, front_length p.0 (omega (arith, p.1)))
 
 pub slice_bounds-put_text-end-2 : goal.slice_bounds-put_text-end-2
 slice_bounds-put_text-end-2 c =
@@ -47,17 +47,17 @@ pub put_text-requires : goal.put_text-requires
 put_text-requires c =
     let p = c.put_standing-one_end.ensures in
     let q = c.put_rest-other_end.ensures in
-    let i = c.if-out-bytes.false in
-    omega (arith, i, c.put_text-named.ensures.end, c.put_text-told.ensures.end, c.put_text-next.ensures.end, front_length p.0 (omega (arith, p.1)), front_length q.0 (omega (arith, q.1)))
+    let room_rest = c.if-out-bytes.false in
+    omega (arith, room_rest, c.put_text-named.ensures.end, c.put_text-told.ensures.end, c.put_text-next.ensures.end, front_length p.0 (omega (arith, p.1)), front_length q.0 (omega (arith, q.1)))
 
 pub returns : goal.returns
 returns c =
     let p = c.put_standing-one_end.ensures in
     let q = c.put_rest-other_end.ensures in
-    let i = c.if-out-bytes.false in
+    let room_all = c.if-out-bytes.false in
     let one = front_there p.0 (omega (arith, p.1)) in
     let other = front_there q.0 (omega (arith, q.1)) in
     let bytes = length_in_parts (letter_text c.args.letter) c.args.generator c.args.octave c.args.first.now c.args.second.now c.args.explanation _ _ (p.0.end ∙ zero-add _) (q.0.end ∙ zero-add _) in
-    filled_given (held (length c.args.out.now) (sentences (letter_text c.args.letter) c.args.generator c.args.octave c.args.first.now c.args.second.now c.args.explanation) (omega (arith, bytes, i))) (ap given bytes) (omega (arith, bytes, i))
+    filled_given (held (length c.args.out.now) (sentences (letter_text c.args.letter) c.args.generator c.args.octave c.args.first.now c.args.second.now c.args.explanation) (omega (arith, bytes, room_all))) (ap given bytes) (omega (arith, bytes, room_all))
     (sentences_written (letter_text c.args.letter) c.args.generator c.args.octave c.args.first.now c.args.second.now c.args.explanation
     c.put_text-named.ensures c.put_text-told.ensures one.1 c.put_text-next.ensures c.put_text.ensures other.1)
