@@ -4,13 +4,16 @@ use native.Mathlib.Nat.{le_of_suc-le-suc, not-suc-le-zero}
 use native.Mathlib.Omega.{arith}
 use mathlib.Core.Bool.{Bool, true, false, ◌&&◌, false≢true}
 use mathlib.Core.List.{List, [], ◌∷◌}
-use mathlib.Core.Path.{◌≡◌, refl}
+use mathlib.Core.Path.{◌≡◌, refl, ap}
 use lib.ListN.{length, get_or}
-use Rattle.answer.specs.Outcome.{Outcome, given, ask, and_then}
+use Rattle.answer.specs.Outcome.{Outcome, given, refused, ask, and_then}
 use Rattle.answer.specs.Tests.{all_of}
 
 pub given_same : {A : Type 0} {a b : A} → given a ≡ given b → a ≡ b
 given_same e = cc
+
+pub refused_same : {A B : Type 0} {m n : ℕ} → ◌≡◌ {A = Outcome A} (refused m) (refused n) → ◌≡◌ {A = Outcome B} (refused m) (refused n)
+refused_same {m = m} {n = n} e = let z : m ≡ n = cc in ap refused z
 
 -- where there is an answer, the question was answered with yes
 pub asked_yes : {A : Type 0} {a : A} (n : ℕ) (test : Bool) (rest : Outcome A) → ask n test rest ≡ given a → test ≡ true

@@ -1,4 +1,5 @@
 pub mod Lent
+pub mod Passing
 pub mod Questions
 pub mod Asked
 pub mod Examples

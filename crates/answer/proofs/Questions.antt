@@ -14,6 +14,9 @@ ask_none n d rest e = simp (lt-leb 1 d (omega arith))
 pub ask_some : {A : Type 0} (n d : ℕ) (rest : Outcome A) → (d ≡ 0 → ⊥) → ask n (leb 1 d) rest ≡ rest
 ask_some n d rest h = simp (le-leb 1 d (pos_of_ne-zero h))
 
+pub ask_least : {A : Type 0} (n d : ℕ) (rest : Outcome A) → 0 < d → ask n (leb 1 d) rest ≡ rest
+ask_least n d rest h = simp (le-leb 1 d h)
+
 -- is a below b?
 pub ask_above : {A : Type 0} (n a b : ℕ) (rest : Outcome A) → b ≤ a → ask n (ltb a b) rest ≡ refused n
 ask_above n a b rest h = simp (le-ltb a b h)

@@ -1,5 +1,5 @@
 -- The number of each refusal, and what the shared answers mean (document 01, "Questions before an answer"; 15 to 22 of document 02; 23 to 25 of typed names and the board).
-use Rattle.std.specs.Prelude.{ℕ}
+use Rattle.std.specs.Prelude.{ℕ, Result, Ok, Err}
 use Rattle.answer.specs.Outcome.{Outcome, given, refused}
 use Rattle.answer.specs.declared.Refusal.{Refusal}
 use Rattle.answer.specs.declared.Refusal.TheVariants.{
@@ -28,10 +28,6 @@ use Rattle.answer.specs.declared.Refusal.TheVariants.{
   TwoKeys,
   BoardSize,
 }
-use Rattle.answer.specs.declared.NumberAnswer.{NumberAnswer}
-use Rattle.answer.specs.declared.NumberAnswer.TheVariants as Number
-use Rattle.answer.specs.declared.CountAnswer.{CountAnswer}
-use Rattle.answer.specs.declared.CountAnswer.TheVariants as Count
 
 -- The questions, by their numbers: document 01's, then those of document 02 that are asked. 9 is no question's any more: it always has the
 -- answer yes (document 02, W-207).
@@ -61,12 +57,7 @@ number_of NoteName = 23
 number_of TwoKeys = 24
 number_of BoardSize = 25
 
--- A number that was given, or the number of the question.
-abbrev pub number_outcome : NumberAnswer → Outcome ℕ
-number_outcome (Number.Given n) = given n
-number_outcome (Number.Refused q) = refused (number_of q)
-
--- How many elements were written, or the number of the question.
-abbrev pub count_outcome : CountAnswer → Outcome ℕ
-count_outcome (Count.Given n) = given n
-count_outcome (Count.Refused q) = refused (number_of q)
+-- What an answer means: the value that was given, or the number of the question that refused.
+abbrev pub outcome_of : {A : Type 0} → Result A Refusal → Outcome A
+outcome_of (Ok a) = given a
+outcome_of (Err q) = refused (number_of q)

@@ -7,60 +7,61 @@
 // after an answer (Lent). Nothing is assumed.
 #![tactic(auto)]
 
-ghost use Rattle.std.specs.Prelude.{◌≡◌};
+ghost use Rattle.std.specs.Prelude.{◌≡◌, ◌<◌, ◌≤◌, MatchResult};
 ghost use Rattle.answer.specs.Refusals.{number_of};
+ghost use Rattle.answer.specs.declared.Refusal.TheVariants.{Room};
 
-// The question that was answered with no.
-#[derive(Clone, Copy)]
+// The question that was answered with no, by its number.
+#[derive(Clone, Copy, Debug, PartialEq, Eq)]
 pub enum Refusal {
-    // 1: is the chain code 0 to 5?
-    Chain,
-    // 2: is the octave, the period or the denominator at least 1?
-    Period,
-    // 3: does the chain's generator come out whole and not negative?
-    Generator,
-    // 4: does the walk meet a pattern with as many steps as the chain has letters?
-    Pattern,
-    // 5: is a free format's symbol count at least 1?
-    Symbols,
-    // 6: is its origin below that count?
-    Origin,
-    // 7: are both products and the size of a given step pattern at most 65,535?
-    Size,
-    // 8: is the size after `coprime` at most 65,535?
-    CoprimeSize,
-    // 10: does the output slice hold the whole output?
-    Room,
-    // 11: does a book hold its count, at least 1, and that many pairs?
-    BookPairs,
-    // 12: do the pairs cover the text?
-    BookCover,
-    // 13: is the key below the book's count?
-    BookKey,
-    // 14: is the program's line well formed?
-    Line,
-    // 15: is the octave divided into 1 to 400 steps? (document 02)
-    Division,
-    // 16: is the letter's place below the number of letters? (document 02)
-    Letter,
-    // 17: has each lamp code of a strip a code of the other width that it is converted to? (document 02)
-    Code,
-    // 18: is the start below the number of letters? (document 02)
-    Start,
-    // 19: has a keyboard mapping the lines that are due, each of a form that is due? (document 02)
-    MappingLines,
-    // 20: are its numbers the ones that are due? (document 02)
-    MappingNumbers,
-    // 21: are the stars below the cycles? (document 02)
-    Stars,
-    // 22: is the fractional generator a number, and not infinite? (document 02)
-    FractionalGenerator,
-    // 23: is the text a spelling's, or that of two spellings as a name holds them?
-    NoteName,
-    // 24: do the two spellings in it sound one key?
-    TwoKeys,
-    // 25: are a board's columns and rows 1 to 64?
-    BoardSize,
+    // Is the chain code 0 to 5?
+    Chain = 1,
+    // Is the octave, the period or the denominator at least 1?
+    Period = 2,
+    // Does the chain's generator come out whole and not negative?
+    Generator = 3,
+    // Does the walk meet a pattern with as many steps as the chain has letters?
+    Pattern = 4,
+    // Is a free format's symbol count at least 1?
+    Symbols = 5,
+    // Is its origin below that count?
+    Origin = 6,
+    // Are both products and the size of a given step pattern at most 65,535?
+    Size = 7,
+    // Is the size after `coprime` at most 65,535?
+    CoprimeSize = 8,
+    // Does the output slice hold the whole output?
+    Room = 10,
+    // Does a book hold its count, at least 1, and that many pairs?
+    BookPairs = 11,
+    // Do the pairs cover the text?
+    BookCover = 12,
+    // Is the key below the book's count?
+    BookKey = 13,
+    // Is the program's line well formed?
+    Line = 14,
+    // Is the octave divided into 1 to 400 steps? (document 02)
+    Division = 15,
+    // Is the letter's place below the number of letters? (document 02)
+    Letter = 16,
+    // Has each lamp code of a strip a code of the other width that it is converted to? (document 02)
+    Code = 17,
+    // Is the start below the number of letters? (document 02)
+    Start = 18,
+    // Has a keyboard mapping the lines that are due, each of a form that is due? (document 02)
+    MappingLines = 19,
+    // Are its numbers the ones that are due? (document 02)
+    MappingNumbers = 20,
+    // Are the stars below the cycles? (document 02)
+    Stars = 21,
+    // Is the fractional generator a number, and not infinite? (document 02)
+    FractionalGenerator = 22,
+    // Is the text a spelling's, or that of two spellings as a name holds them?
+    NoteName = 23,
+    // Do the two spellings in it sound one key?
+    TwoKeys = 24,
+    // Are a board's columns and rows 1 to 64?
+    BoardSize = 25,
 }
 
 impl Refusal {
@@ -68,45 +69,16 @@ impl Refusal {
     pub fn number(self) -> u8
         ensures { result ≡ number_of self }
     {
-        match self {
-            Refusal::Chain => 1,
-            Refusal::Period => 2,
-            Refusal::Generator => 3,
-            Refusal::Pattern => 4,
-            Refusal::Symbols => 5,
-            Refusal::Origin => 6,
-            Refusal::Size => 7,
-            Refusal::CoprimeSize => 8,
-            Refusal::Room => 10,
-            Refusal::BookPairs => 11,
-            Refusal::BookCover => 12,
-            Refusal::BookKey => 13,
-            Refusal::Line => 14,
-            Refusal::Division => 15,
-            Refusal::Letter => 16,
-            Refusal::Code => 17,
-            Refusal::Start => 18,
-            Refusal::MappingLines => 19,
-            Refusal::MappingNumbers => 20,
-            Refusal::Stars => 21,
-            Refusal::FractionalGenerator => 22,
-            Refusal::NoteName => 23,
-            Refusal::TwoKeys => 24,
-            Refusal::BoardSize => 25,
-        }
+        self as u8
     }
 }
 
-// A number, or a refusal.
-#[derive(Clone, Copy)]
-pub enum NumberAnswer {
-    Given(u16),
-    Refused(Refusal),
-}
-
-// How many elements were written to the front of a lent slice, or a refusal.
-#[derive(Clone, Copy)]
-pub enum CountAnswer {
-    Given(usize),
-    Refused(Refusal),
+// Question 10, of a slice with room for so many elements.
+pub fn asked_room(room: usize, output: usize) -> Result<(), Refusal>
+    ensures { MatchResult result (λ _. output ≤ room) (λ q. (q ≡ Room) × (room < output)) }
+{
+    if room < output {
+        return Err(Refusal::Room);
+    }
+    Ok(())
 }

@@ -1,9 +1,10 @@
 -- What a lookup hands back: the name's bytes as a part of the lent book slice at the key's offset and length, and a number.
-use Rattle.std.specs.Prelude.{ℕ, ◌+◌, List, ◌≡◌, ℤ, take, drop}
+use Rattle.std.specs.Prelude.{ℕ, ◌+◌, List, ◌≡◌, ℤ, take, drop, Result, Ok, Err, IfOk}
 use Rattle.std.specs.Borrow.{Bor}
 use Rattle.answer.specs.Outcome.{Outcome, given, refused}
+use Rattle.answer.specs.Refusals.{number_of}
+use Rattle.answer.specs.declared.Refusal.{Refusal}
 use Rattle.book.specs.declared.Place.{Place}
-use Rattle.book.specs.declared.Extent.{Extent}
 use Rattle.book.specs.Books.{find_outcome}
 
 -- Which bytes of the caller's memory a slice is, and what they hold: their block, where in it the first one stands, and the bytes.
@@ -39,12 +40,12 @@ unfoldable pub name_refusal : List ℕ → ℤ → ℕ
 unfolding find_outcome
 name_refusal book key = refusal_number (find_outcome book key)
 
--- Where that part starts and ends in the book, and the number beside it: what a lookup puts together.
-abbrev pub extent_at : Outcome Place → Extent
-extent_at (given place) = record { start = place.offset; end = place.offset + place.length; refusal = 0 }
-extent_at (refused n) = record { start = 0; end = 0; refusal = n }
+-- The number that a lookup's answer tells: 0 where it hands back a part, else that of the question.
+abbrev pub number_told : Result (Bor (List ℕ)) Refusal → ℕ
+number_told (Ok name) = 0
+number_told (Err question) = number_of question
 
--- The promise of a lookup: the part that it hands back, and the number beside it.
-pub record LookedUp (book : Slice) (key : ℤ) (name : Slice) (refusal : ℕ) : Type 0 where
-  pub is_part : name ≡ name_part book key
-  pub is_number_lem : refusal ≡ name_refusal book.bytes key
+-- The promise of a lookup: the part that it hands back, and which question refused.
+pub record LookedUp (book : Slice) (key : ℤ) (answer : Result (Bor (List ℕ)) Refusal) : Type 0 where
+  pub is_part : IfOk answer (λ name. slice name ≡ name_part book key)
+  pub is_number_lem : number_told answer ≡ name_refusal book.bytes key

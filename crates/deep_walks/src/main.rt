@@ -3,8 +3,8 @@
 // Each line is what one entry point of `mos_walks` or `mos_listings` answers: the four numbers of a pattern, a count, `nothing`, or `refused`.
 #![tactic(auto)]
 
-use answer::CountAnswer;
-use mos::{Mos, MosAnswer, WalkAnswer};
+use answer::Refusal;
+use mos::Mos;
 use std::io::{Stdout, Write};
 
 // Writes a text; where that fails, nobody is left to be told.
@@ -34,38 +34,38 @@ fn put_pattern(stdout: Stdout, m: Mos) {
     put(stdout, b"\n");
 }
 
-fn put_walked(stdout: Stdout, answer: WalkAnswer) {
+fn put_walked(stdout: Stdout, answer: Result<Option<Mos>, Refusal>) {
     match answer {
-        WalkAnswer::Found(m) => put_pattern(stdout, m),
-        WalkAnswer::Nothing => {
+        Ok(Some(m)) => put_pattern(stdout, m),
+        Ok(None) => {
             put(stdout, b"nothing\n");
         }
-        WalkAnswer::Refused(_) => {
+        Err(_) => {
             put(stdout, b"refused\n");
         }
     }
 }
 
-fn put_made(stdout: Stdout, answer: MosAnswer) {
+fn put_made(stdout: Stdout, answer: Result<Mos, Refusal>) {
     match answer {
-        MosAnswer::Given(m) => put_pattern(stdout, m),
-        MosAnswer::Refused(_) => {
+        Ok(m) => put_pattern(stdout, m),
+        Err(_) => {
             put(stdout, b"refused\n");
         }
     }
 }
 
 // A count of numbers, four to a pattern, as the count of patterns.
-fn put_count(stdout: Stdout, answer: CountAnswer) {
+fn put_count(stdout: Stdout, answer: Result<usize, Refusal>) {
     match answer {
-        CountAnswer::Given(n) => {
+        Ok(n) => {
             let patterns = n / 4;
             if patterns <= 65535 {
                 put_number(stdout, patterns as u16);
                 put(stdout, b"patterns\n");
             }
         }
-        CountAnswer::Refused(_) => {
+        Err(_) => {
             put(stdout, b"refused\n");
         }
     }
@@ -102,8 +102,8 @@ fn walk_up(stdout: Stdout, m: Mos, out: &mut [u16]) {
 
 fn down(stdout: Stdout, out: &mut [u16]) {
     match Mos::new_genesis(65535, 1) {
-        MosAnswer::Given(m) => walk_down(stdout, m, out),
-        MosAnswer::Refused(_) => {
+        Ok(m) => walk_down(stdout, m, out),
+        Err(_) => {
             put(stdout, b"refused\n");
         }
     }
@@ -111,8 +111,8 @@ fn down(stdout: Stdout, out: &mut [u16]) {
 
 fn up(stdout: Stdout, out: &mut [u16]) {
     match Mos::new(1, 65535, 4, 0) {
-        MosAnswer::Given(m) => walk_up(stdout, m, out),
-        MosAnswer::Refused(_) => {
+        Ok(m) => walk_up(stdout, m, out),
+        Err(_) => {
             put(stdout, b"refused\n");
         }
     }

@@ -1,18 +1,14 @@
--- The output for what is kept of a line is the output for the line.
+-- 18 bytes of a line, and its first line, are enough; the output stands at the front of the buffer.
 use Prim.Native.Nat.{ℕ, ◌≤◌}
 use native.Mathlib.Nat.{zero-add}
 use native.Mathlib.Omega.{arith}
-use mathlib.Core.Path.{◌≡◌, ◌∙◌, subst}
-use mathlib.Core.List.{List, []}
+use mathlib.Core.Path.{◌≡◌, ◌∙◌}
+use mathlib.Core.List.{List}
 use lib.ListN.{length, take}
 use Rattle.text.specs.Writing.{Wrote}
 use Rattle.text.proofs.Writing.{put_there}
-use Rattle.streams.specs.declared.input.Input.{Input}
-use Rattle.streams.specs.declared.output.Output.{Output}
-use Rattle.streams.specs.Streams.{Handed, Written}
-use Rattle.streams.specs.Reading.{LineRead, LineIsEnough}
-use Rattle.streams.specs.Printing.{Printed}
-use Rattle.streams.proofs.Enough.{first_line_is_enough, kept_output}
+use Rattle.streams.specs.Reading.{LineIsEnough}
+use Rattle.streams.proofs.Enough.{first_line_is_enough}
 use Rattle.edo_lines.specs.Lines.{output}
 use Rattle.edo_lines.proofs.Outputs.{later_bytes_change_nothing}
 
@@ -33,14 +29,3 @@ module _ (line : List ℕ) {xs ys : List ℕ} {next : ℕ} (long : length xs ≡
 
   pub front : (next ≤ length ys) × (take next ys ≡ output line)
   front = put_there fits w
-
-pub printed : (buffer : List ℕ) (input : Input) (kept : ℕ) (read : LineRead buffer input) → kept ≡ input.kept
-    → (text : List ℕ) → text ≡ output (take kept buffer)
-    → (start done : Output) → Handed [] start → Written start text done → Printed output buffer input done
-printed buffer input kept read few text is start done none w =
-    record {
-      read = read;
-      whole =
-          λ taken.
-          subst (λ (l : List ℕ). Handed l done) (is ∙ kept_output buffer input kept read few output line_is_enough.eighteen) (w.next [] none);
-    }

@@ -7,13 +7,13 @@
 #![tactic(auto)]
 
 ghost use Rattle.edo_lines.specs.Lines.{output};
-ghost use Rattle.streams.specs.Reading.{LineRead, LineIsEnough};
+ghost use Rattle.streams.specs.Reading.{LineIsEnough};
 ghost use Rattle.streams.specs.Printing.{Printed};
 
 use std::io::{Stderr, Stdout};
-use streams::input::Input;
+use streams::lines::KeptLine;
 use streams::output::Output;
-use streams::{input, lines, output, words};
+use streams::{lines, output, words};
 
 // Says that a text is a refusal's line, where it is: no layout's line begins with a letter.
 fn say_if_refusal(stderr: Stderr, first: u8) {
@@ -23,12 +23,11 @@ fn say_if_refusal(stderr: Stderr, first: u8) {
 }
 
 // Prints the output for the line that was read.
-fn print(stdout: Stdout, stderr: Stderr, line: &[u8], input: Input) -> Output
-    requires { LineRead line.now input }
-    ensures { Printed output line.now input result }
+fn print(stdout: Stdout, stderr: Stderr, line: &KeptLine) -> Output
+    ensures { Printed output line.now result }
 {
     let mut out = [0u8; 264];
-    let bytes = edo_lines::put_output(&line[..input::kept(input)], &mut out);
+    let bytes = edo_lines::put_output(line.kept(), &mut out);
     let done = output::write_front(output::begin(stdout), &out, bytes);
     say_if_refusal(stderr, out[0]);
     done
@@ -43,8 +42,7 @@ pub fn line_is_enough()
 }
 
 fn main(rt: HostRuntime) {
-    let mut line = [0u8; 18];
-    let input = lines::read_line(rt.stdin(), &mut line);
-    let done = print(rt.stdout(), rt.stderr(), &line, input);
+    let line = lines::read_line(rt.stdin());
+    let done = print(rt.stdout(), rt.stderr(), &line);
     words::say_if_not_written(rt.stderr(), b"edo", done);
 }

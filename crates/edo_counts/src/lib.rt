@@ -9,22 +9,22 @@
 pub mod parts;
 
 ghost use Rattle.std.specs.Prelude.{length};
+ghost use Rattle.answer.specs.Refusals.{outcome_of};
 ghost use Rattle.answer.specs.Lent.{held_in, Filled};
-ghost use Rattle.answer.specs.Refusals.{count_outcome};
 ghost use Rattle.edo_counts.specs.Counts.{report};
 
-use answer::{CountAnswer, Refusal};
+use answer::Refusal;
 use text::writer;
 
 // The report at the front of a slice that holds it (10). It is short, so it is made first and measured.
-pub fn report(out: &mut [u8]) -> CountAnswer
-    ensures { Filled (held_in (length out.old) report) (count_outcome result) out.old out.new }
+pub fn report(out: &mut [u8]) -> Result<usize, Refusal>
+    ensures { Filled (held_in (length out.old) report) (outcome_of result) out.old out.new }
 {
     let mut text = [0u8; 144];
     let count = parts::put_report(&mut text);
     if out.len() < count {
-        return CountAnswer::Refused(Refusal::Room);
+        return Err(Refusal::Room);
     }
     writer::put_text(out, 0, &text[..count]);
-    CountAnswer::Given(count)
+    Ok(count)
 }

@@ -6,7 +6,6 @@ ghost use Rattle.edo_layouts.specs.Layouts.{chain_outcome, given_of};
 ghost use Rattle.edo_counts.specs.Counts.{all_layouts, tally_of, report_line, report};
 ghost use Rattle.edo_counts.specs.Parts.{plus, side, Small};
 
-use edo_layouts::EdoAnswer;
 use mos::Mos;
 use text::decimal;
 
@@ -18,42 +17,38 @@ pub(crate) struct Tally {
     pub equal: u16,
 }
 
-// One layout more, by its pattern: sharpness is the primary less the secondary step.
-fn count_pattern(past: Tally, pattern: Mos) -> Tally
-    requires { Small past }
-    ensures { result ≡ plus past (side pattern) }
-{
-    if pattern.secondary_step < pattern.primary_step {
-        return Tally {
-            above: past.above + 1,
-            below: past.below,
-            equal: past.equal,
-        };
+impl Tally {
+    // One layout more, by its pattern: sharpness is the primary less the secondary step.
+    fn with_pattern(self, pattern: Mos) -> Tally
+        requires { Small self }
+        ensures { result ≡ plus self (side pattern) }
+    {
+        if pattern.secondary_step < pattern.primary_step {
+            return Tally {
+                above: self.above + 1,
+                ..self
+            };
+        }
+        if pattern.primary_step < pattern.secondary_step {
+            return Tally {
+                below: self.below + 1,
+                ..self
+            };
+        }
+        Tally {
+            equal: self.equal + 1,
+            ..self
+        }
     }
-    if pattern.primary_step < pattern.secondary_step {
-        return Tally {
-            above: past.above,
-            below: past.below + 1,
-            equal: past.equal,
-        };
-    }
-    Tally {
-        above: past.above,
-        below: past.below,
-        equal: past.equal + 1,
-    }
-}
 
-// The layout of a chain where n steps make an octave, if there is one.
-fn count_chain(past: Tally, n: u16, genchain: u16) -> Tally
-    requires { Small past }
-    ensures { result ≡ plus past (tally_of genchain (given_of (chain_outcome n genchain))) }
-{
-    match edo_layouts::find_chain_by_edo(n, genchain) {
-        EdoAnswer::Refused(_) => past,
-        EdoAnswer::Given(found) => {
-            let pattern = found.pattern;
-            count_pattern(past, pattern)
+    // The layout of a chain where n steps make an octave, if there is one.
+    fn with_chain(self, n: u16, genchain: u16) -> Tally
+        requires { Small self }
+        ensures { result ≡ plus self (tally_of genchain (given_of (chain_outcome n genchain))) }
+    {
+        match edo_layouts::find_chain_by_edo(n, genchain) {
+            Err(_) => self,
+            Ok(found) => self.with_pattern(found.pattern),
         }
     }
 }
@@ -68,24 +63,21 @@ fn tally_chain(genchain: u16) -> Tally
         below: 0,
         equal: 0,
     };
-    let mut before: u16 = 0;
-    while before < 400 {
-        let next = count_chain(tally, before + 1, genchain);
-        tally = next;
-        before += 1;
+    for before in 0..400 {
+        tally = tally.with_chain(before + 1, genchain);
     }
     tally
 }
 
 // A chain's line; the place after it. No number has more than five digits.
-fn put_line(out: &mut [u8], at: usize, genchain: u16, above: u16, below: u16, equal: u16) -> usize
+fn put_line(out: &mut [u8], at: usize, genchain: u16, tally: Tally) -> usize
     requires { at + 24 ≤ length out.old }
-    ensures { Wrote out.old at (report_line genchain above below equal) out.new result }
+    ensures { Wrote out.old at (report_line genchain tally.above tally.below tally.equal) out.new result }
 {
     let first = decimal::put_number_then(out, at, genchain, b' ');
-    let second = decimal::put_number_then(out, first, above, b' ');
-    let third = decimal::put_number_then(out, second, below, b' ');
-    decimal::put_number_then(out, third, equal, b'\n')
+    let second = decimal::put_number_then(out, first, tally.above, b' ');
+    let third = decimal::put_number_then(out, second, tally.below, b' ');
+    decimal::put_number_then(out, third, tally.equal, b'\n')
 }
 
 // The lines of all chains at the front of a slice; the place after them.
@@ -94,11 +86,9 @@ pub fn put_report(out: &mut [u8]) -> usize
     ensures { Wrote out.old 0 report out.new result }
 {
     let mut place: usize = 0;
-    let mut genchain: u16 = 0;
-    while genchain < 6 {
+    for genchain in 0..6 {
         let tally = tally_chain(genchain);
-        place = put_line(out, place, genchain, tally.above, tally.below, tally.equal);
-        genchain += 1;
+        place = put_line(out, place, genchain, tally);
     }
     place
 }

@@ -4,8 +4,9 @@ use native.Mathlib.Omega.{arith}
 use mathlib.Core.Bool.{Bool, true, false}
 use mathlib.Core.Logic.{◌⊎◌, inl, inr}
 use mathlib.Core.Path.{◌≡◌, refl, sym, ◌∙◌, subst}
-use lib.Dec.{eqb, leb}
-use borrow.Author.Tests.{eqb-true, eqb-false, leb-true, leb-false}
+use lib.Dec.{leb}
+use Rattle.std.specs.Prelude.{Option, Some, None}
+use borrow.Author.Tests.{leb-true, leb-false}
 use Rattle.answer.specs.Outcome.{Outcome, given, refused}
 use Rattle.answer.proofs.Asked.{given_same}
 use Rattle.layout.specs.Layouts.{Layout, layout_outcome, Accepted, default_layout}
@@ -26,9 +27,6 @@ module _ (n code : ℕ) (t : Choices) where
   abbrev first : ℕ
   first = t.first
 
-  abbrev second : ℕ
-  second = t.second
-
   gives : (k : ℕ) (marked : Bool) (l : Layout) → Accepted (default_layout code n k) l
       → given (edo_layout (default_layout code n k) marked l.pattern) ≡ tried n code k marked
   gives k marked l e = tried_given n code k marked (default_layout code n k) refl l (sym e)
@@ -41,28 +39,16 @@ module _ (n code : ℕ) (t : Choices) where
   by_first l e = served_first n code t _ (gives first false l e)
 
   module _ (q : ℕ) (no : layout_outcome (default_layout code n first) ≡ refused q) where
-    by_second : (l : Layout) → (second ≡ 0 → ⊥) → Accepted (default_layout code n second) l
-        → given (edo_layout (default_layout code n second) true l.pattern) ≡ chain_served n code t
-    by_second l some e =
-        served_second n code t q _ (gives_none first false q no) some (else_given q (tried n code second true) _ (gives second true l e))
+    by_second : (m : ℕ) (l : Layout) → t.second ≡ Some m → Accepted (default_layout code n m) l
+        → given (edo_layout (default_layout code n m) true l.pattern) ≡ chain_served n code t
+    by_second m l some e =
+        served_second n code t q m _ (gives_none first false q no) some (else_given q (tried n code m true) _ (gives m true l e))
 
-    by_none : second ≡ 0 → refused q ≡ chain_served n code t
-    by_none none = no_second n code t q (gives_none first false q no) none
-
-    by_neither : (second ≡ 0 → ⊥) → (p : ℕ) → layout_outcome (default_layout code n second) ≡ refused p → refused q ≡ chain_served n code t
-    by_neither some p e =
-        served_second n code t q _ (gives_none first false q no) some
-        (else_refused q (tried n code second true) p (gives_none second true p e))
-
-    -- a refused second that is no choice is none
-    by_refused : (p : ℕ) → layout_outcome (default_layout code n second) ≡ refused p → (test : Bool) → eqb second 0 ≡ test
+    by_either : (t.second ≡ None) ⊎ ((m : ℕ) × (t.second ≡ Some m) × ((p : ℕ) × (layout_outcome (default_layout code n m) ≡ refused p)))
         → refused q ≡ chain_served n code t
-    by_refused p e true z = by_none (eqb-true second 0 z)
-    by_refused p e false z = by_neither (eqb-false second 0 z) p e
-
-    by_either : (second ≡ 0) ⊎ ((p : ℕ) × (layout_outcome (default_layout code n second) ≡ refused p)) → refused q ≡ chain_served n code t
-    by_either (inl none) = by_none none
-    by_either (inr e) = by_refused e.0 e.1 (eqb second 0) refl
+    by_either (inl none) = no_second n code t q (gives_none first false q no) none
+    by_either (inr (m, some, (p, e))) =
+        served_second n code t q m _ (gives_none first false q no) some (else_refused q (tried n code m true) p (gives_none m true p e))
 
 -- ---- 1 to 400
 
@@ -75,7 +61,7 @@ module _ (n code : ℕ) where
   all_served l h =
       record {
         first = λ m e. sym (by_first n code (choices_of n) m e ∙ in_division l h);
-        second = λ q m no some e. sym (by_second n code (choices_of n) q no m some e ∙ in_division l h);
+        second = λ q m o no some e. sym (by_second n code (choices_of n) q no m o some e ∙ in_division l h);
         neither = λ q no none. sym (by_either n code (choices_of n) q no none ∙ in_division l h);
       }
 
@@ -89,7 +75,7 @@ module _ (n code : ℕ) (c : EdoLayout) (is : chain_outcome n code ≡ given c) 
   abbrev k : ℕ
   k = tritave n
 
-  abbrev s : ℕ
+  abbrev s : Option ℕ
   s = second_choice n (tritave n)
 
   chosen : (x : EdoLayout) → chain_outcome n code ≡ given x → Chosen n code x → Chosen n code c
@@ -100,27 +86,27 @@ module _ (n code : ℕ) (c : EdoLayout) (is : chain_outcome n code ≡ given c) 
 
   module _ (v : Served n code k s) where
     module _ (q : ℕ) (no : layout_outcome (default_layout code n k) ≡ refused q) where
-      second_found : (s ≡ 0 → ⊥) → (o : Outcome Layout) → layout_outcome (default_layout code n s) ≡ o → Chosen n code c
-      second_found some (given m) e =
-          chosen _ (v.second q m no some e)
+      second_found : (m : ℕ) → s ≡ Some m → (o : Outcome Layout) → layout_outcome (default_layout code n m) ≡ o → Chosen n code c
+      second_found m some (given l) e =
+          chosen _ (v.second q m l no some e)
           (record {
             is_default = refl;
-            found = m;
+            found = l;
             accepted = e;
             pattern_is = refl;
-            choice = inr (refl, refl, record { question = q; says_no = no });
+            choice = inr (refl, some, record { question = q; says_no = no });
           })
-      second_found some (refused p) e = not_refused q (v.neither q no (inr (p, e)))
+      second_found m some (refused p) e = not_refused q (v.neither q no (inr (m, some, (p, e))))
 
-      by_test : (test : Bool) → eqb s 0 ≡ test → Chosen n code c
-      by_test true z = not_refused q (v.neither q no (inl (eqb-true s 0 z)))
-      by_test false z = second_found (eqb-false s 0 z) (layout_outcome (default_layout code n s)) refl
+      by_choice : (second : Option ℕ) → s ≡ second → Chosen n code c
+      by_choice None e = not_refused q (v.neither q no (inl e))
+      by_choice (Some m) e = second_found m e (layout_outcome (default_layout code n m)) refl
 
     by_outcome : (o : Outcome Layout) → layout_outcome (default_layout code n k) ≡ o → Chosen n code c
     by_outcome (given m) e =
         chosen _ (v.first m e)
         (record { is_default = refl; found = m; accepted = e; pattern_is = refl; choice = inl (refl, refl) })
-    by_outcome (refused q) e = by_test q e (eqb s 0) refl
+    by_outcome (refused q) e = by_choice q e s refl
 
   by_division : (low high : Bool) → leb 1 n ≡ low → leb n 400 ≡ high → Chosen n code c
   by_division false high e f = not_refused 15 (all_outside n code (inl (let z = leb-false 1 n e in omega arith)))

@@ -7,6 +7,7 @@ use mathlib.Core.Bool.{Bool, true, false}
 use mathlib.Core.List.{List, [], ◌∷◌, ◌++◌, append_assoc, append-nil}
 use lib.ListN.{length, set, take, drop, length-append}
 use lib.Seq.{take-append_seam}
+use Rattle.std.specs.Int.{from_bool}
 use Rattle.answer.specs.Outcome.{Outcome, given, refused, ask, and_then}
 use Rattle.answer.specs.Lent.{held_in, in_room}
 use Rattle.answer.proofs.Asked.{asked_yes}
@@ -61,6 +62,11 @@ module _ (n : ℕ) (t : Choices) (code : ℕ) where
   pub few_numbers : length (chain_numbers n t code) ≤ 3
   unfolding chain_numbers
   few_numbers = at_most (chain_served n code t)
+
+-- 1 for a yes
+pub as_one : (b : Bool) → from_bool b ≡ one b
+as_one true = refl
+as_one false = refl
 
 -- three numbers, stored one by one
 pub three_stored : (xs : List ℕ) (at : ℕ) (c : EdoLayout) (second : ℕ) → second ≡ one c.second

@@ -3,17 +3,18 @@ use Prim.Native.Nat.{ℕ}
 use mathlib.Core.Path.{◌≡◌, refl, sym, ap, ◌∙◌}
 use mathlib.Core.Bool.{Bool, true, false}
 use native.Mathlib.Omega.{arith}
-use lib.Dec.{eqb}
-use borrow.Author.Tests.{eq-eqb, ne_eqb}
+use Rattle.std.specs.Prelude.{Option, Some, None, Result, Ok, Err}
+use Rattle.std.specs.Result.{result_or}
+use Rattle.answer.specs.Refusals.{number_of, outcome_of}
+use Rattle.answer.specs.declared.Refusal.{Refusal}
 use Rattle.answer.specs.Outcome.{Outcome, given, refused, and_then}
-use Rattle.answer.specs.Choice.{pick}
 use Rattle.answer.proofs.Asked.{given_same}
 use Rattle.layout.specs.Layouts.{Layout, layout_outcome, default_layout}
 use Rattle.layout.specs.declared.IsomorphicLayout.{IsomorphicLayout}
 use Rattle.edo_tritaves.specs.declared.Choices.{Choices}
 use Rattle.edo_tritaves.specs.Tritaves.{tritaves_of}
 use Rattle.edo_layouts.specs.declared.EdoLayout.{EdoLayout}
-use Rattle.edo_layouts.specs.Layouts.{edo_layout, tried, or_else, chain_served, chain_outcome}
+use Rattle.edo_layouts.specs.Layouts.{edo_layout, tried, or_else, with_second, chain_served, chain_outcome}
 
 -- ---- one tritave
 
@@ -41,32 +42,35 @@ module _ (q : ℕ) (o : Outcome EdoLayout) where
   pub else_given : (c : EdoLayout) → given c ≡ o → given c ≡ or_else (refused q) o
   else_given c e = ap (or_else (refused q)) e
 
+-- .. as the code says it
+pub or_refusal : (r : Result EdoLayout Refusal) (refusal : Refusal)
+    → outcome_of (result_or r (Err refusal)) ≡ or_else (refused (number_of refusal)) (outcome_of r)
+or_refusal (Ok c) refusal = refl
+or_refusal (Err q) refusal = refl
+
 -- ---- both
 
 module _ (n code : ℕ) (t : Choices) where
   abbrev first : Outcome EdoLayout
   first = tried n code t.first false
 
-  abbrev next : Outcome EdoLayout
-  next = tried n code t.second true
-
-  by_test : (test : Bool) → eqb t.second 0 ≡ test → pick test first (or_else first next) ≡ chain_served n code t
-  unfolding chain_served
-  by_test test e = ap (λ (x : Bool). pick x first (or_else first next)) (sym e)
-
-  either : (test : Bool) (c : EdoLayout) → given c ≡ first → given c ≡ pick test first (or_else first next)
-  either true c e = e
-  either false c e = ap (λ (o : Outcome EdoLayout). or_else o next) e
+  either : (second : Option ℕ) (c : EdoLayout) → given c ≡ first → given c ≡ with_second n code first second
+  unfolding with_second
+  either None c e = e
+  either (Some m) c e = ap (λ (o : Outcome EdoLayout). or_else o (tried n code m true)) e
 
   pub served_first : (c : EdoLayout) → given c ≡ first → given c ≡ chain_served n code t
-  served_first c e = either (eqb t.second 0) c e ∙ by_test (eqb t.second 0) refl
+  unfolding chain_served
+  served_first c e = either t.second c e
 
-  pub no_second : (q : ℕ) → refused q ≡ first → t.second ≡ 0 → refused q ≡ chain_served n code t
-  no_second q e z = e ∙ by_test true (eq-eqb t.second 0 z)
+  pub no_second : (q : ℕ) → refused q ≡ first → t.second ≡ None → refused q ≡ chain_served n code t
+  unfolding chain_served with_second
+  no_second q e z = e ∙ sym (ap (with_second n code first) z)
 
-  pub served_second : (q : ℕ) (x : Outcome EdoLayout) → refused q ≡ first → (t.second ≡ 0 → ⊥) → x ≡ or_else (refused q) next
+  pub served_second : (q m : ℕ) (x : Outcome EdoLayout) → refused q ≡ first → t.second ≡ Some m → x ≡ or_else (refused q) (tried n code m true)
       → x ≡ chain_served n code t
-  served_second q x e z f = f ∙ ap (λ (o : Outcome EdoLayout). or_else o next) e ∙ by_test false (ne_eqb t.second 0 z)
+  unfolding chain_served with_second
+  served_second q m x e z f = f ∙ ap (λ (o : Outcome EdoLayout). or_else o (tried n code m true)) e ∙ sym (ap (with_second n code first) z)
 
 -- ---- from question 15
 
@@ -99,13 +103,13 @@ module _ (n code : ℕ) (c : EdoLayout) where
   else_chain (refused q) (refused p) f g e = absurd (let z : ◌≡◌ {A = ℕ} 0 1 = cc in omega arith)
 
   pub served_chain : (t : Choices) → given c ≡ chain_served n code t → c.layout.genchain ≡ code
-  unfolding chain_served
-  served_chain t e = by (eqb t.second 0) e
+  unfolding chain_served with_second
+  served_chain t e = by t.second e
     where
-      by : (test : Bool) → given c ≡ pick test (first n code t) (or_else (first n code t) (next n code t)) → c.layout.genchain ≡ code
-      by true f = tried_chain n code t.first false c f
-      by false f =
-          else_chain (first n code t) (next n code t) (tried_chain n code t.first false c) (tried_chain n code t.second true c) f
+      by : (second : Option ℕ) → given c ≡ with_second n code (first n code t) second → c.layout.genchain ≡ code
+      by None f = tried_chain n code t.first false c f
+      by (Some m) f =
+          else_chain (first n code t) (tried n code m true) (tried_chain n code t.first false c) (tried_chain n code m true c) f
 
   pub chain_is : given c ≡ chain_outcome n code → c.layout.genchain ≡ code
   unfolding chain_outcome

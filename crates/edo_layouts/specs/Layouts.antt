@@ -1,7 +1,6 @@
 -- The layouts of an octave division (document 02, W-202): "the layouts that `IsomorphicLayout::find_by_edo` lists, in its order of chains".
-use Rattle.std.specs.Prelude.{ℕ, zero, suc, Bool, true, false, List, [], ◌∷◌, ◌++◌, eqb}
+use Rattle.std.specs.Prelude.{ℕ, zero, suc, Bool, true, false, List, [], ◌∷◌, ◌++◌, Option, Some, None}
 use Rattle.answer.specs.Outcome.{Outcome, given, refused, ask, and_then}
-use Rattle.answer.specs.Refusals.{number_of}
 use Rattle.answer.specs.Choice.{pick}
 use Rattle.layout.specs.declared.IsomorphicLayout.{IsomorphicLayout}
 use Rattle.layout.specs.Layouts.{Layout, layout_outcome, default_layout}
@@ -9,8 +8,6 @@ use Rattle.mos.specs.declared.Mos.{Mos}
 use Rattle.edo_tritaves.specs.declared.Choices.{Choices}
 use Rattle.edo_tritaves.specs.Tritaves.{is_division, tritaves_of}
 use Rattle.edo_layouts.specs.declared.EdoLayout.{EdoLayout}
-use Rattle.edo_layouts.specs.declared.EdoAnswer.{EdoAnswer}
-use Rattle.edo_layouts.specs.declared.EdoAnswer.TheVariants as Answer
 
 -- ---- one chain
 
@@ -32,11 +29,16 @@ or_else (given c) other = given c
 or_else (refused q) (given c) = given c
 or_else (refused q) (refused p) = refused q
 
--- What a chain gets of both choices; 0 is no second choice, and then there is the first alone.
-unfoldable pub chain_served : (n code : ℕ) → Choices → Outcome EdoLayout
+-- What a chain gets where the first choice gave this: a second choice, if there is one, is looked at too.
+unfoldable pub with_second : (n code : ℕ) → Outcome EdoLayout → Option ℕ → Outcome EdoLayout
 unfolding tried
-chain_served n code t =
-    pick (eqb t.second 0) (tried n code t.first false) (or_else (tried n code t.first false) (tried n code t.second true))
+with_second n code first None = first
+with_second n code first (Some tritave) = or_else first (tried n code tritave true)
+
+-- What a chain gets of both choices.
+unfoldable pub chain_served : (n code : ℕ) → Choices → Outcome EdoLayout
+unfolding tried with_second
+chain_served n code t = with_second n code (tried n code t.first false) t.second
 
 -- "15 when n is outside 1 to 400, before every other question": then 1 to 4 of the layout.
 unfoldable pub chain_outcome : (n code : ℕ) → Outcome EdoLayout
@@ -79,8 +81,3 @@ joined_over said (c ∷ rest) = said c ++ joined_over said rest
 unfoldable pub find_by_edo : ℕ → Outcome (List ℕ)
 unfolding joined_over layouts_of
 find_by_edo n = ask 15 (is_division n) (given (joined_over numbers_of (layouts_of n)))
-
--- What an answer means.
-abbrev pub edo_outcome : EdoAnswer → Outcome EdoLayout
-edo_outcome (Answer.Given c) = given c
-edo_outcome (Answer.Refused q) = refused (number_of q)

@@ -1,23 +1,23 @@
 -- What holds of the layouts that are found: statements; their proofs stand in proofs/.
-use Rattle.std.specs.Prelude.{ℕ, ◌≤◌, ◌<◌, true, false, ◌⊎◌, ◌≡◌}
+use Rattle.std.specs.Prelude.{ℕ, ◌≤◌, ◌<◌, true, false, ◌⊎◌, ◌≡◌, Option, Some, None}
 use Rattle.answer.specs.Outcome.{given, refused}
 use Rattle.layout.specs.Layouts.{Layout, layout_outcome, Accepted, default_layout}
 use Rattle.edo_tritaves.specs.Tritaves.{tritave, second_choice}
 use Rattle.edo_layouts.specs.declared.EdoLayout.{EdoLayout}
 use Rattle.edo_layouts.specs.Layouts.{chain_outcome}
 
--- What the call answers for a chain of an octave of n steps. k is the first choice for the tritave and s the second, 0 where there is none;
+-- What the call answers for a chain of an octave of n steps. k is the first choice for the tritave and s the second, if there is one;
 -- both are tried at the chain's own start. Each case says the whole answer, and one of them always holds.
-pub record Served (n code k s : ℕ) : Type 0 where
+pub record Served (n code k : ℕ) (s : Option ℕ) : Type 0 where
   -- the first choice wherever it is accepted, not marked
   pub first : (l : Layout) → Accepted (default_layout code n k) l
       → chain_outcome n code ≡ given (record { layout = default_layout code n k; second = false; pattern = l.pattern })
   -- where it is refused, the second choice, marked, if there is one and it is accepted
-  pub second : (q : ℕ) (l : Layout) → layout_outcome (default_layout code n k) ≡ refused q → (s ≡ 0 → ⊥) → Accepted (default_layout code n s) l
-      → chain_outcome n code ≡ given (record { layout = default_layout code n s; second = true; pattern = l.pattern })
+  pub second : (q m : ℕ) (l : Layout) → layout_outcome (default_layout code n k) ≡ refused q → s ≡ Some m → Accepted (default_layout code n m) l
+      → chain_outcome n code ≡ given (record { layout = default_layout code n m; second = true; pattern = l.pattern })
   -- where there is no second choice, or it is refused too, the first's refusal
   pub neither : (q : ℕ) → layout_outcome (default_layout code n k) ≡ refused q
-      → (s ≡ 0) ⊎ ((p : ℕ) × (layout_outcome (default_layout code n s) ≡ refused p))
+      → (s ≡ None) ⊎ ((m : ℕ) × (s ≡ Some m) × ((p : ℕ) × (layout_outcome (default_layout code n m) ≡ refused p)))
       → chain_outcome n code ≡ refused q
 
 -- The first choice gives no layout.
@@ -33,7 +33,7 @@ pub record Chosen (n code : ℕ) (c : EdoLayout) : Type 0 where
   pub pattern_is : c.pattern ≡ found.pattern
   -- its tritave is the first choice, or it is the second, and then the first gives no layout
   pub choice : ((c.second ≡ false) × (c.layout.tritave ≡ tritave n))
-      ⊎ ((c.second ≡ true) × (c.layout.tritave ≡ second_choice n (tritave n)) × NoFirst n code)
+      ⊎ ((c.second ≡ true) × (second_choice n (tritave n) ≡ Some c.layout.tritave) × NoFirst n code)
 
 -- Theorem: for 1 to 400 steps every chain is so served, whatever its code; else the answer is 15. So each layout that is found is so chosen.
 pub record LayoutsAreChosen : Type 0 where

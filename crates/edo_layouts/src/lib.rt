@@ -9,12 +9,11 @@
 pub mod parts;
 
 ghost use Rattle.std.specs.Prelude.{◌≡◌, length};
+ghost use Rattle.answer.specs.Refusals.{outcome_of};
 ghost use Rattle.answer.specs.Lent.{in_room, Filled};
-ghost use Rattle.answer.specs.Refusals.{count_outcome};
-ghost use Rattle.edo_layouts.specs.Layouts.{chain_outcome, find_by_edo, edo_outcome};
+ghost use Rattle.edo_layouts.specs.Layouts.{chain_outcome, find_by_edo};
 
-use answer::{CountAnswer, Refusal};
-use edo_tritaves::TritavesAnswer;
+use answer::Refusal;
 use layout::IsomorphicLayout;
 use mos::Mos;
 
@@ -26,30 +25,20 @@ pub struct EdoLayout {
     pub pattern: Mos,
 }
 
-#[derive(Clone, Copy)]
-pub enum EdoAnswer {
-    Given(EdoLayout),
-    Refused(Refusal),
-}
-
 // The layout of one chain where n steps make an octave: with the first choice for the tritave, or else with the second. Where neither gives
 // one, the refusal is the first's (15, 1, 2, 3, 4).
-pub fn find_chain_by_edo(n: u16, genchain: u16) -> EdoAnswer
-    ensures { edo_outcome result ≡ chain_outcome n genchain }
+pub fn find_chain_by_edo(n: u16, genchain: u16) -> Result<EdoLayout, Refusal>
+    ensures { outcome_of result ≡ chain_outcome n genchain }
 {
-    match edo_tritaves::tritaves(n) {
-        TritavesAnswer::Refused(q) => EdoAnswer::Refused(q),
-        TritavesAnswer::Given(choices) => parts::serve(n, genchain, choices),
-    }
+    let choices = edo_tritaves::tritaves(n)?;
+    parts::serve(n, genchain, choices)
 }
 
 // The layouts of all chains that have one, by rising chain code: of each the code, the tritave, and 1 for the second choice, else 0
 // (15, 10).
-pub fn find_by_edo(n: u16, out: &mut [u16]) -> CountAnswer
-    ensures { Filled (in_room (length out.old) (find_by_edo n)) (count_outcome result) out.old out.new }
+pub fn find_by_edo(n: u16, out: &mut [u16]) -> Result<usize, Refusal>
+    ensures { Filled (in_room (length out.old) (find_by_edo n)) (outcome_of result) out.old out.new }
 {
-    match edo_tritaves::tritaves(n) {
-        TritavesAnswer::Refused(q) => CountAnswer::Refused(q),
-        TritavesAnswer::Given(choices) => parts::write_layouts(n, choices, out),
-    }
+    let choices = edo_tritaves::tritaves(n)?;
+    parts::write_layouts(n, choices, out)
 }

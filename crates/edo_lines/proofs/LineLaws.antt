@@ -5,7 +5,6 @@ use mathlib.Core.Path.{◌≡◌, sym, ap, ap₂, ◌∙◌}
 use mathlib.Core.List.{List, [], ◌∷◌, ◌++◌}
 use lib.ListN.{length, length-append}
 use Rattle.answer.specs.Outcome.{Outcome, given, refused}
-use Rattle.genchain.specs.Chains.{chain_of}
 use Rattle.genchain.specs.Texts.{text_at, PlaceOf}
 use Rattle.genchain.proofs.TextTable.{texts_at, text_small}
 use Rattle.layout.specs.ScaleNames.{scale_name}
@@ -31,16 +30,18 @@ module _ (n : ℕ) (t : Choices) (code : ℕ) where
   unfolding served_line
   no_line_lem q e = sym (joined_over_none layout_line) ∙ ap (λ (o : Outcome EdoLayout). joined_over layout_line (given_of o)) e
 
-  module _ (h : code < 6) (c : EdoLayout) (e : given c ≡ chain_served n code t) (scale : ℕ)
-      (p : PlaceOf (scale_name code c.pattern) scale)
-    where
-      line_of : line_with code c.layout.octave c.layout.tritave (text_at (1 + 3 * code)) (text_at scale) ≡ layout_line c
-      unfolding layout_line
-      line_of =
-          ap₂ (λ (x y : List ℕ). line_with code c.layout.octave c.layout.tritave x y) (texts_at code h).name p.is
-          ∙ ap (λ (k : ℕ). line_with k c.layout.octave c.layout.tritave (chain_of k).name (scale_name k c.pattern))
-          (sym (served_chain n code c t e))
+  module _ (c : EdoLayout) (e : given c ≡ chain_served n code t) where
+    -- a layout that was found is one of its chain
+    pub of_known_chain : code < 6 → c.layout.genchain < 6
+    of_known_chain h = omega (arith, served_chain n code c t e)
 
-      pub line_is : line_with code c.layout.octave c.layout.tritave (text_at (1 + 3 * code)) (text_at scale) ≡ served_line n t code
-      unfolding served_line
-      line_is = line_of ∙ sym (joined_over_one layout_line c) ∙ ap (λ (o : Outcome EdoLayout). joined_over layout_line (given_of o)) e
+    pub line_is : layout_line c ≡ served_line n t code
+    unfolding served_line
+    line_is = sym (joined_over_one layout_line c) ∙ ap (λ (o : Outcome EdoLayout). joined_over layout_line (given_of o)) e
+
+-- a layout's line, by the places of its names
+pub line_of : (c : EdoLayout) → c.layout.genchain < 6 → (scale : ℕ) → PlaceOf (scale_name c.layout.genchain c.pattern) scale
+    → line_with c.layout.genchain c.layout.octave c.layout.tritave (text_at (1 + 3 * c.layout.genchain)) (text_at scale) ≡ layout_line c
+unfolding layout_line
+line_of c h scale p =
+    ap₂ (λ (x y : List ℕ). line_with c.layout.genchain c.layout.octave c.layout.tritave x y) (texts_at c.layout.genchain h).name p.is

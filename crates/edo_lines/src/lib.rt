@@ -7,28 +7,28 @@
 // Nothing is assumed.
 #![tactic(auto)]
 
-ghost use Rattle.std.specs.Prelude.{◌+◌, ◌*◌, ◌≤◌, ◌<◌, length};
+ghost use Rattle.std.specs.Prelude.{◌+◌, ◌≤◌, ◌<◌, length};
 ghost use Rattle.genchain.specs.Texts.{text_at};
 ghost use Rattle.line.specs.Refusals.{output_of};
 ghost use Rattle.text.specs.Writing.{Wrote, joined};
-ghost use Rattle.edo_lines.specs.Lines.{numbers_part, names_part, line_with, division_lines, output};
+ghost use Rattle.edo_lines.specs.Lines.{numbers_part, names_part, layout_line, division_lines, output};
 ghost use Rattle.edo_lines.specs.Parts.{served_line};
 
-use answer::NumberAnswer;
-use edo_layouts::EdoAnswer;
-use edo_tritaves::{Choices, TritavesAnswer};
+use edo_layouts::EdoLayout;
+use edo_tritaves::Choices;
 use genchain::names;
+use layout::IsomorphicLayout;
 use text::decimal;
 use text::writer::put_byte;
 
-// Three numbers, with a space behind each; the place after them.
-fn put_numbers(out: &mut [u8], at: usize, genchain: u16, octave: u16, tritave: u16) -> usize
+// A layout's chain code, octave and tritave, with a space behind each; the place after them.
+fn put_numbers(out: &mut [u8], at: usize, layout: IsomorphicLayout) -> usize
     requires { at + 18 ≤ length out.old }
-    ensures { Wrote out.old at (numbers_part genchain octave tritave) out.new result × (result ≤ at + 18) }
+    ensures { Wrote out.old at (numbers_part layout.genchain layout.octave layout.tritave) out.new result × (result ≤ at + 18) }
 {
-    let first = decimal::put_number_then(out, at, genchain, b' ');
-    let second = decimal::put_number_then(out, first, octave, b' ');
-    decimal::put_number_then(out, second, tritave, b' ')
+    let first = decimal::put_number_then(out, at, layout.genchain, b' ');
+    let second = decimal::put_number_then(out, first, layout.octave, b' ');
+    decimal::put_number_then(out, second, layout.tritave, b' ')
 }
 
 // Two names by their places in the table, a space between and a line feed behind; the place after it.
@@ -42,19 +42,15 @@ fn put_names(out: &mut [u8], at: usize, chain: u16, scale: u16) -> usize
     put_byte(out, scaled, b'\n')
 }
 
-// A layout's line, with its scale's name by its place in the table; the place after it.
-fn put_line(
-    out: &mut [u8],
-    at: usize,
-    genchain: u16,
-    octave: u16,
-    tritave: u16,
-    scale: u16,
-) -> usize
-    requires { (genchain < 6) × (scale < 19) × (at + 44 ≤ length out.old) }
-    ensures { Wrote out.old at (line_with genchain octave tritave (text_at (1 + 3 * genchain)) (text_at scale)) out.new result × (result ≤ at + 44) }
+// A layout's line; the place after it.
+fn put_line(out: &mut [u8], at: usize, found: EdoLayout) -> usize
+    requires { (found.layout.genchain < 6) × (at + 44 ≤ length out.old) }
+    ensures { Wrote out.old at (layout_line found) out.new result × (result ≤ at + 44) }
 {
-    let next = put_numbers(out, at, genchain, octave, tritave);
+    let layout = found.layout;
+    let genchain = layout.genchain;
+    let scale = layout_scale_names::parts::place_of(genchain, found.pattern);
+    let next = put_numbers(out, at, layout);
     put_names(out, next, 1 + 3 * genchain, scale)
 }
 
@@ -64,13 +60,8 @@ fn put_chain(out: &mut [u8], at: usize, n: u16, genchain: u16, choices: Choices)
     ensures { Wrote out.old at (served_line n choices genchain) out.new result × (result ≤ at + 44) }
 {
     match edo_layouts::parts::serve(n, genchain, choices) {
-        EdoAnswer::Refused(_) => at,
-        EdoAnswer::Given(found) => {
-            let layout = found.layout;
-            let pattern = found.pattern;
-            let scale = layout_scale_names::parts::place_of(genchain, pattern);
-            put_line(out, at, genchain, layout.octave, layout.tritave, scale)
-        }
+        Err(_) => at,
+        Ok(found) => put_line(out, at, found),
     }
 }
 
@@ -80,10 +71,8 @@ fn put_chains(out: &mut [u8], n: u16, choices: Choices) -> usize
     ensures { Wrote out.old 0 (joined (served_line n choices) 6) out.new result × (result ≤ 264) }
 {
     let mut place: usize = 0;
-    let mut genchain: u16 = 0;
-    while genchain < 6 {
+    for genchain in 0..6 {
         place = put_chain(out, place, n, genchain, choices);
-        genchain += 1;
     }
     place
 }
@@ -94,8 +83,8 @@ fn put_division(out: &mut [u8], n: u16) -> usize
     ensures { Wrote out.old 0 (output_of (division_lines n)) out.new result × (result ≤ 264) }
 {
     match edo_tritaves::tritaves(n) {
-        TritavesAnswer::Refused(q) => line::refusals::put_refusal(out, q.number() as u16),
-        TritavesAnswer::Given(choices) => put_chains(out, n, choices),
+        Err(q) => line::refusals::put_refusal(out, q.number() as u16),
+        Ok(choices) => put_chains(out, n, choices),
     }
 }
 
@@ -105,7 +94,7 @@ pub fn put_output(line: &[u8], out: &mut [u8]) -> usize
     ensures { Wrote out.old 0 (output line.now) out.new result × (result ≤ 264) }
 {
     match line::parse_number(line) {
-        NumberAnswer::Refused(q) => line::refusals::put_refusal(out, q.number() as u16),
-        NumberAnswer::Given(n) => put_division(out, n),
+        Err(q) => line::refusals::put_refusal(out, q.number() as u16),
+        Ok(n) => put_division(out, n),
     }
 }

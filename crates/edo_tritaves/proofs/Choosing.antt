@@ -6,7 +6,9 @@ use Prim.Native.Nat.{ℕ, ◌+◌, ◌*◌, ◌-◌, ◌≤◌, ◌<◌, ◌^◌
 use native.Mathlib.Nat.{pow-le-pow_right}
 use native.Mathlib.Omega.{arith}
 use lib.Dec.{ltb}
-use borrow.Author.Tests.{lt-ltb, le-ltb, le-leb, lt-leb, ltb-true, eq-eqb, ne_eqb}
+use Rattle.std.specs.Prelude.{Option, Some, None}
+use Rattle.std.specs.Option.{option_to_list}
+use borrow.Author.Tests.{lt-ltb, le-ltb, le-leb, lt-leb, ltb-true}
 use Rattle.answer.specs.Outcome.{given, refused, ask}
 use Rattle.answer.specs.Choice.{pick}
 use Rattle.answer.proofs.Asked.{and_left, and_right}
@@ -54,27 +56,26 @@ tritave_is n k h r =
 
 -- ---- the three ways in which the choices end
 
-module _ (n k : ℕ) (s : Sides n k) (is : k ≡ tritave n) where
-  chosen : (second : ℕ) → second ≡ second_choice n k → record { first = k; second = second } ≡ choices_of n
-  unfolding choices_of
-  chosen second e =
-      ap (λ (x : ℕ). record { first = k; second = x }) e
-      ∙ ap (λ (x : ℕ). record { first = x; second = second_choice n x }) is
-
-  by_tests : (u d : Bool) → goes_up n k ≡ u → goes_down n k ≡ d → pick u (k + 1) (pick d (k - 1) 0) ≡ second_choice n k
+module _ (n k : ℕ) (s : Sides n k) where
+  by_tests : (u d : Bool) → goes_up n k ≡ u → goes_down n k ≡ d → pick u (Some (k + 1)) (pick d (Some (k - 1)) None) ≡ second_choice n k
   unfolding second_choice
-  by_tests u d e f =
-      ap (λ (x : Bool). pick x (k + 1) (pick d (k - 1) 0)) (sym e) ∙ ap (λ (x : Bool). pick (goes_up n k) (k + 1) (pick x (k - 1) 0)) (sym f)
+  by_tests u d e f = sym (simp (e, f))
 
-  pub chosen_up : 665 * (3 * k + 1) < 3162 * n → record { first = k; second = k + 1 } ≡ choices_of n
-  chosen_up h = chosen (k + 1) (by_tests true (goes_down n k) (s.up ∙ lt-ltb _ _ h) refl)
+  pub chosen_up : 665 * (3 * k + 1) < 3162 * n → Some (k + 1) ≡ second_choice n k
+  chosen_up h = by_tests true (goes_down n k) (s.up ∙ lt-ltb _ _ h) refl
 
   module _ (h : 3162 * n ≤ 665 * (3 * k + 1)) where
-    pub chosen_down : 3162 * n < 665 * (3 * k - 1) → record { first = k; second = k - 1 } ≡ choices_of n
-    chosen_down d = chosen (k - 1) (by_tests false true (s.up ∙ le-ltb _ _ h) (s.down ∙ lt-ltb _ _ d))
+    pub chosen_down : 3162 * n < 665 * (3 * k - 1) → Some (k - 1) ≡ second_choice n k
+    chosen_down d = by_tests false true (s.up ∙ le-ltb _ _ h) (s.down ∙ lt-ltb _ _ d)
 
-    pub chosen_first : 665 * (3 * k - 1) ≤ 3162 * n → record { first = k; second = 0 } ≡ choices_of n
-    chosen_first d = chosen 0 (by_tests false false (s.up ∙ le-ltb _ _ h) (s.down ∙ le-ltb _ _ d))
+    pub chosen_first : 665 * (3 * k - 1) ≤ 3162 * n → None ≡ second_choice n k
+    chosen_first d = by_tests false false (s.up ∙ le-ltb _ _ h) (s.down ∙ le-ltb _ _ d)
+
+pub chosen : (n k : ℕ) (second : Option ℕ) → k ≡ tritave n → second ≡ second_choice n k → record { first = k; second = second } ≡ choices_of n
+unfolding choices_of
+chosen n k second is e =
+    ap (λ (x : Option ℕ). record { first = k; second = x }) e
+    ∙ ap (λ (x : ℕ). record { first = x; second = second_choice n x }) is
 
 -- ---- question 15
 
@@ -98,8 +99,8 @@ module _ (n : ℕ) where
 -- ---- as a list
 
 module _ (t : Choices) where
-  pub one_number : t.second ≡ 0 → t.first ∷ [] ≡ choice_numbers t
-  one_number e = ap (λ (test : Bool). t.first ∷ pick test [] (t.second ∷ [])) (sym (eq-eqb t.second 0 e))
+  pub one_number : t.second ≡ None → t.first ∷ [] ≡ choice_numbers t
+  one_number e = ap (λ (second : Option ℕ). t.first ∷ option_to_list second) (sym e)
 
-  pub two_numbers : (t.second ≡ 0 → ⊥) → t.first ∷ t.second ∷ [] ≡ choice_numbers t
-  two_numbers e = ap (λ (test : Bool). t.first ∷ pick test [] (t.second ∷ [])) (sym (ne_eqb t.second 0 e))
+  pub two_numbers : (second : ℕ) → t.second ≡ Some second → t.first ∷ second ∷ [] ≡ choice_numbers t
+  two_numbers second e = ap (λ (s : Option ℕ). t.first ∷ option_to_list s) (sym e)

@@ -1,11 +1,12 @@
 -- Some number meets the rule, whatever n from 1 on is: 3 to the power 2n is odd, so it is no power of 2, and going up by two powers at a
 -- time one passes it.
-use mathlib.Core.Path.{◌≡◌, refl, ap, ◌∙◌, subst}
+use mathlib.Core.Path.{◌≡◌, refl, ap, subst}
 use mathlib.Core.Bool.{Bool, true, false}
 use Prim.Native.Nat.{ℕ, zero, suc, ◌+◌, ◌*◌, ◌-◌, ◌≤◌, ◌<◌, ◌^◌}
 use native.Mathlib.Nat.{pow-suc, pow-zero}
 use native.Mathlib.Omega.{arith}
 use lib.Dec.{leb}
+use Rattle.std.specs.Prelude.{Some, None}
 use lib.ListN.{get_or}
 use borrow.Author.Tests.{leb-true, leb-false}
 use Rattle.answer.specs.Choice.{pick}
@@ -83,22 +84,21 @@ module _ (n : ℕ) (h : 1 ≤ n) where
 -- ---- the second choice
 
 module _ (n k : ℕ) where
-  second_by : (u d : Bool) → goes_up n k ≡ u → goes_down n k ≡ d → second_choice n k ≡ pick u (k + 1) (pick d (k - 1) 0)
+  second_by : (u d : Bool) → goes_up n k ≡ u → goes_down n k ≡ d → second_choice n k ≡ pick u (Some (k + 1)) (pick d (Some (k - 1)) None)
   unfolding second_choice
-  second_by u d e f =
-      ap (λ (x : Bool). pick x (k + 1) (pick (goes_down n k) (k - 1) 0)) e ∙ ap (λ (x : Bool). pick u (k + 1) (pick x (k - 1) 0)) f
+  second_by u d e f = simp (e, f)
 
   not_up : goes_down n k ≡ true → (u : Bool) → goes_up n k ≡ u → u ≡ false
   not_up d true e = absurd (never_both n k e d)
   not_up d false e = refl
 
-  pub second_up : goes_up n k ≡ true → second_choice n k ≡ k + 1
+  pub second_up : goes_up n k ≡ true → second_choice n k ≡ Some (k + 1)
   second_up e = second_by true (goes_down n k) e refl
 
-  pub second_down : 2 ≤ k → goes_down n k ≡ true → second_choice n k + 1 ≡ k
-  second_down h d = omega (arith, second_by false true (not_up d (goes_up n k) refl) d)
+  pub second_down : 2 ≤ k → goes_down n k ≡ true → (l : ℕ) × (second_choice n k ≡ Some l) × (l + 1 ≡ k)
+  second_down h d = (k - 1, second_by false true (not_up d (goes_up n k) refl) d, omega arith)
 
-  pub second_none : goes_up n k ≡ false → goes_down n k ≡ false → second_choice n k ≡ 0
+  pub second_none : goes_up n k ≡ false → goes_down n k ≡ false → second_choice n k ≡ None
   second_none e d = second_by false false e d
 
 -- ---- the theorems

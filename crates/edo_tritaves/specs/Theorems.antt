@@ -1,5 +1,5 @@
 -- What holds of the table and of the choices: statements; their proofs stand in proofs/.
-use Rattle.std.specs.Prelude.{ℕ, ◌+◌, ◌≤◌, ◌<◌, true, false, ◌≡◌, length, get_or}
+use Rattle.std.specs.Prelude.{ℕ, ◌+◌, ◌≤◌, ◌<◌, true, false, ◌≡◌, length, get_or, Some, None}
 use Rattle.edo_tritaves.specs.Tritaves.{TritaveRule, tritave, goes_up, goes_down, second_choice}
 use Rattle.edo_tritaves.specs.Table.{tritave_table}
 
@@ -14,14 +14,14 @@ pub record TableMeetsTheRule : Type 0 where
   pub meets : (i : ℕ) → i < 400 → TritaveRule (i + 1) (get_or tritave_table i 0)
   pub only : (i k : ℕ) → i < 400 → TritaveRule (i + 1) k → k ≡ get_or tritave_table i 0
 
--- The tritave count meets the rule, and no other number does. The second choice is its neighbour by the two inequalities, or there is none;
--- 0 is no neighbour of a tritave count, so it says that there is none.
+-- The tritave count meets the rule, and no other number does. The second choice is its neighbour by the two inequalities, or there is none.
 pub record ChoicesByTheRule (n : ℕ) : Type 0 where
   pub meets : TritaveRule n (tritave n)
   pub only : (k : ℕ) → TritaveRule n k → k ≡ tritave n
-  pub up : goes_up n (tritave n) ≡ true → second_choice n (tritave n) ≡ tritave n + 1
-  pub down : goes_down n (tritave n) ≡ true → second_choice n (tritave n) + 1 ≡ tritave n
-  pub neither : goes_up n (tritave n) ≡ false → goes_down n (tritave n) ≡ false → second_choice n (tritave n) ≡ 0
+  pub up : goes_up n (tritave n) ≡ true → second_choice n (tritave n) ≡ Some (tritave n + 1)
+  pub down : goes_down n (tritave n) ≡ true → (k : ℕ) × (second_choice n (tritave n) ≡ Some k) × (k + 1 ≡ tritave n)
+  pub neither : goes_up n (tritave n) ≡ false → goes_down n (tritave n) ≡ false → second_choice n (tritave n) ≡ None
+  -- so neither neighbour is 0
   pub no_zero : 2 ≤ tritave n
 
 -- Theorem: so it is for every n from 1 on.

@@ -1,12 +1,10 @@
 -- The tritave counts of an octave division (document 02, W-202), in exact whole numbers.
-use Rattle.std.specs.Prelude.{ℕ, ◌+◌, ◌*◌, ◌-◌, ◌<◌, ◌^◌, Bool, ◌&&◌, List, [], ◌∷◌, eqb, ltb, leb}
-use Rattle.answer.specs.Outcome.{Outcome, given, refused, ask}
-use Rattle.answer.specs.Refusals.{number_of}
+use Rattle.std.specs.Prelude.{ℕ, ◌+◌, ◌*◌, ◌-◌, ◌<◌, ◌^◌, Bool, ◌&&◌, List, ◌∷◌, ltb, leb, Option, Some, None}
+use Rattle.std.specs.Option.{option_to_list}
+use Rattle.answer.specs.Outcome.{Outcome, given, ask}
 use Rattle.answer.specs.Choice.{pick}
 use Rattle.math.specs.Passing.{first}
 use Rattle.edo_tritaves.specs.declared.Choices.{Choices}
-use Rattle.edo_tritaves.specs.declared.TritavesAnswer.{TritavesAnswer}
-use Rattle.edo_tritaves.specs.declared.TritavesAnswer.TheVariants as Answer
 
 -- ---- "The tritave count k"
 
@@ -34,9 +32,9 @@ goes_up n k = ltb (2 ^ (3 * k + 1)) (3 ^ (3 * n))
 abbrev pub goes_down : ℕ → ℕ → Bool
 goes_down n k = ltb (3 ^ (3 * n)) (2 ^ (3 * k - 1))
 
--- "Otherwise there is no second choice": 0, which is no count.
-unfoldable pub second_choice : ℕ → ℕ → ℕ
-second_choice n k = pick (goes_up n k) (k + 1) (pick (goes_down n k) (k - 1) 0)
+-- "Otherwise there is no second choice".
+unfoldable pub second_choice : ℕ → ℕ → Option ℕ
+second_choice n k = pick (goes_up n k) (Some (k + 1)) (pick (goes_down n k) (Some (k - 1)) None)
 
 -- Both choices, in their order.
 unfoldable pub choices_of : ℕ → Choices
@@ -45,7 +43,7 @@ choices_of n = record { first = tritave n; second = second_choice n (tritave n) 
 
 -- As a list: one number, or two.
 abbrev pub choice_numbers : Choices → List ℕ
-choice_numbers t = t.first ∷ pick (eqb t.second 0) [] (t.second ∷ [])
+choice_numbers t = t.first ∷ option_to_list t.second
 
 -- ---- what the call answers
 
@@ -57,7 +55,3 @@ is_division n = leb 1 n && leb n 400
 unfoldable pub tritaves_of : ℕ → Outcome Choices
 unfolding choices_of
 tritaves_of n = ask 15 (is_division n) (given (choices_of n))
-
-abbrev pub tritaves_outcome : TritavesAnswer → Outcome Choices
-tritaves_outcome (Answer.Given t) = given t
-tritaves_outcome (Answer.Refused q) = refused (number_of q)

@@ -10,23 +10,18 @@
 mod numbers;
 
 ghost use Rattle.std.specs.Prelude.{◌≡◌, ◌≤◌};
-ghost use Rattle.edo_tritaves.specs.Tritaves.{choices_of, tritaves_of, tritaves_outcome};
+ghost use Rattle.answer.specs.Refusals.{outcome_of};
+ghost use Rattle.edo_tritaves.specs.Tritaves.{choices_of, tritaves_of};
 ghost use Rattle.edo_tritaves.specs.Table.{tritave_table};
 
 use crate::numbers::TRITAVES;
 use answer::Refusal;
 
-// The choices for the tritave, in steps: the first, and the second, 0 where there is none.
+// The choices for the tritave, in steps: the first, and the second, where there is one.
 #[derive(Clone, Copy)]
 pub struct Choices {
     pub first: u16,
-    pub second: u16,
-}
-
-#[derive(Clone, Copy)]
-pub enum TritavesAnswer {
-    Given(Choices),
-    Refused(Refusal),
+    pub second: Option<u16>,
 }
 
 // The whole table.
@@ -46,33 +41,25 @@ fn choose(n: u16) -> Choices
     let k = all[n as usize - 1];
     let thirds = 3 * (k as u32);
     let steps = 3162 * (n as u32);
-    if 665 * (thirds + 1) < steps {
-        return Choices {
-            first: k,
-            second: k + 1,
-        };
-    }
-    if steps < 665 * (thirds - 1) {
-        return Choices {
-            first: k,
-            second: k - 1,
-        };
-    }
-    Choices {
-        first: k,
-        second: 0,
-    }
+    let second = if 665 * (thirds + 1) < steps {
+        Some(k + 1)
+    } else if steps < 665 * (thirds - 1) {
+        Some(k - 1)
+    } else {
+        None
+    };
+    Choices { first: k, second }
 }
 
 // How many steps make a tritave where n make an octave: the first choice, and the second where there is one (15).
-pub fn tritaves(n: u16) -> TritavesAnswer
-    ensures { tritaves_outcome result ≡ tritaves_of n }
+pub fn tritaves(n: u16) -> Result<Choices, Refusal>
+    ensures { outcome_of result ≡ tritaves_of n }
 {
     if n == 0 {
-        return TritavesAnswer::Refused(Refusal::Division);
+        return Err(Refusal::Division);
     }
     if 400 < n {
-        return TritavesAnswer::Refused(Refusal::Division);
+        return Err(Refusal::Division);
     }
-    TritavesAnswer::Given(choose(n))
+    Ok(choose(n))
 }

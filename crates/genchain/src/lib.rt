@@ -13,7 +13,7 @@ pub mod names;
 pub mod rows;
 
 ghost use Rattle.std.specs.Prelude.{◌≡◌, length};
-ghost use Rattle.answer.specs.Refusals.{number_outcome, count_outcome};
+ghost use Rattle.answer.specs.Refusals.{outcome_of};
 ghost use Rattle.answer.specs.Lent.{Filled};
 ghost use Rattle.genchain.specs.Answers.{
   num_letters_outcome,
@@ -24,55 +24,41 @@ ghost use Rattle.genchain.specs.Answers.{
   name_outcome,
 };
 
-use answer::{CountAnswer, NumberAnswer, Refusal};
+use answer::Refusal;
 
 // How many letters the chain has (1).
-pub fn num_letters(code: u16) -> NumberAnswer
-    ensures { number_outcome result ≡ num_letters_outcome code }
+pub fn num_letters(code: u16) -> Result<u16, Refusal>
+    ensures { outcome_of result ≡ num_letters_outcome code }
 {
-    if rows::is_chain(code) {
-        let row = rows::row(code);
-        return NumberAnswer::Given(row.num_letters);
-    }
-    NumberAnswer::Refused(Refusal::Chain)
+    let row = rows::read(code)?;
+    Ok(row.num_letters)
 }
 
 // The place of key 0's letter on the chain, counted from 0 (1).
-pub fn start(code: u16) -> NumberAnswer
-    ensures { number_outcome result ≡ start_outcome code }
+pub fn start(code: u16) -> Result<u16, Refusal>
+    ensures { outcome_of result ≡ start_outcome code }
 {
-    if rows::is_chain(code) {
-        let row = rows::row(code);
-        return NumberAnswer::Given(row.start);
-    }
-    NumberAnswer::Refused(Refusal::Chain)
+    let row = rows::read(code)?;
+    Ok(row.start)
 }
 
 // The chain's letters in order, as code points (1, 10).
-pub fn letters(code: u16, out: &mut [u16]) -> CountAnswer
-    ensures { Filled (letters_outcome code (length out.old)) (count_outcome result) out.old out.new }
+pub fn letters(code: u16, out: &mut [u16]) -> Result<usize, Refusal>
+    ensures { Filled (letters_outcome code (length out.old)) (outcome_of result) out.old out.new }
 {
-    if rows::is_chain(code) {
-        let row = rows::row(code);
-        let count = row.num_letters as usize;
-        if out.len() < count {
-            return CountAnswer::Refused(Refusal::Room);
-        }
-        rows::put_letters(out, row);
-        return CountAnswer::Given(count);
-    }
-    CountAnswer::Refused(Refusal::Chain)
+    let row = rows::read(code)?;
+    let count = row.num_letters as usize;
+    answer::asked_room(out.len(), count)?;
+    Ok(rows::put_letters(out, row))
 }
 
 // The chain's generator in steps of a tuning with so many steps to the octave and to the tritave (1, 2, 3).
-pub fn generator(code: u16, octave: u16, tritave: u16) -> NumberAnswer
-    ensures { number_outcome result ≡ generator_outcome code octave tritave }
+pub fn generator(code: u16, octave: u16, tritave: u16) -> Result<u16, Refusal>
+    ensures { outcome_of result ≡ generator_outcome code octave tritave }
 {
-    if !rows::is_chain(code) {
-        return NumberAnswer::Refused(Refusal::Chain);
-    }
+    rows::asked(code)?;
     if octave == 0 {
-        return NumberAnswer::Refused(Refusal::Period);
+        return Err(Refusal::Period);
     }
     match code {
         3 => generators::third_of_fourth(octave, tritave),
@@ -83,21 +69,17 @@ pub fn generator(code: u16, octave: u16, tritave: u16) -> NumberAnswer
 }
 
 // How many bytes the chain's name has (1).
-pub fn name_len(code: u16) -> CountAnswer
-    ensures { count_outcome result ≡ name_length_outcome code }
+pub fn name_len(code: u16) -> Result<usize, Refusal>
+    ensures { outcome_of result ≡ name_length_outcome code }
 {
-    if !rows::is_chain(code) {
-        return CountAnswer::Refused(Refusal::Chain);
-    }
-    CountAnswer::Given(names::text_len(1 + 3 * code))
+    rows::asked(code)?;
+    Ok(names::text_len(1 + 3 * code))
 }
 
 // The chain's name, as "Meantone[7]", in UTF-8 (1, 10).
-pub fn name(code: u16, out: &mut [u8]) -> CountAnswer
-    ensures { Filled (name_outcome code (length out.old)) (count_outcome result) out.old out.new }
+pub fn name(code: u16, out: &mut [u8]) -> Result<usize, Refusal>
+    ensures { Filled (name_outcome code (length out.old)) (outcome_of result) out.old out.new }
 {
-    if !rows::is_chain(code) {
-        return CountAnswer::Refused(Refusal::Chain);
-    }
+    rows::asked(code)?;
     names::fill(1 + 3 * code, out)
 }

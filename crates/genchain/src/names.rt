@@ -1,14 +1,14 @@
 // The names of the chains and of their scales in one constant table: parts, and no entry points. Callers have asked question 1.
 ghost use Rattle.std.specs.Prelude.{◌≡◌, ◌<◌, length};
+ghost use Rattle.answer.specs.Refusals.{outcome_of};
 ghost use Rattle.answer.specs.Lent.{held_in, Filled};
-ghost use Rattle.answer.specs.Refusals.{count_outcome};
 ghost use Rattle.text.specs.Writing.{Room, Wrote};
 ghost use Rattle.genchain.specs.Texts.{text_at, text_row_of};
 
-use answer::{CountAnswer, Refusal};
+use answer::Refusal;
 use text::writer;
 
-// A text in ASCII, 0 past its end, and its length.
+// A text in ASCII, 0 past its end, and its length beside it, as `text_row_of` of specs/ has it.
 #[derive(Clone, Copy)]
 struct TextRow {
     text: [u8; 12],
@@ -95,7 +95,7 @@ const TEXTS: [TextRow; 19] = [
     },
 ];
 
-// The row at a place.
+// The row at a place. That a place is below 19 stays a `requires` of the four functions: a number with that fact would be unpacked in each.
 fn row(place: u16) -> TextRow
     requires { place < 19 }
     ensures { result ≡ text_row_of (text_at place) }
@@ -124,16 +124,14 @@ pub fn put(out: &mut [u8], at: usize, place: u16) -> usize
 }
 
 // The text at a place of the table, at the front of a slice that holds it (10).
-pub fn fill(place: u16, out: &mut [u8]) -> CountAnswer
+pub fn fill(place: u16, out: &mut [u8]) -> Result<usize, Refusal>
     requires { place < 19 }
-    ensures { Filled (held_in (length out.old) (text_at place)) (count_outcome result) out.old out.new }
+    ensures { Filled (held_in (length out.old) (text_at place)) (outcome_of result) out.old out.new }
 {
     let found = row(place);
     let text = found.text;
     let count = found.length as usize;
-    if out.len() < count {
-        return CountAnswer::Refused(Refusal::Room);
-    }
+    answer::asked_room(out.len(), count)?;
     writer::put_text(out, 0, &text[..count]);
-    CountAnswer::Given(count)
+    Ok(count)
 }

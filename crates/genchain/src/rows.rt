@@ -1,9 +1,14 @@
 // The table of the chains: parts, and no entry points. Callers have asked question 10 before they write.
 //
 // The table is put into memory where it is read by a code, so read a chain's row once for a call, and hand the row on.
-ghost use Rattle.std.specs.Prelude.{◌≡◌, ltb, length};
+//
+// That a row is a `TableRow` is asked and is no ghost field: `row_of` of specs/ makes a row of any chain.
+ghost use Rattle.std.specs.Prelude.{◌≡◌, ◌<◌, ◌≤◌, ltb, length, MatchResult};
+ghost use Rattle.answer.specs.declared.Refusal.TheVariants.{Chain};
 ghost use Rattle.text.specs.Writing.{Room, Wrote};
 ghost use Rattle.genchain.specs.Chains.{chain_of, row_of, TableRow, letters_in};
+
+use answer::Refusal;
 
 // A chain's letters as code points, 0 past the last; how many there are; the place of key 0's letter.
 #[derive(Clone, Copy)]
@@ -54,7 +59,26 @@ pub fn is_chain(code: u16) -> bool
     code < 6
 }
 
-// The row of a chain, read by its code; one without letters for a code from 6 on.
+// Question 1, where an answer needs the yes.
+pub fn asked(code: u16) -> Result<(), Refusal>
+    ensures { MatchResult result (λ _. code < 6) (λ q. (q ≡ Chain) × (6 ≤ code)) }
+{
+    if is_chain(code) {
+        return Ok(());
+    }
+    Err(Refusal::Chain)
+}
+
+// The row of a chain, read by its code (1).
+pub fn read(code: u16) -> Result<ChainRow, Refusal>
+    ensures { MatchResult result (λ found. (code < 6) × (found ≡ row_of (chain_of code))) (λ q. (q ≡ Chain) × (6 ≤ code)) }
+{
+    asked(code)?;
+    Ok(row(code))
+}
+
+// The row of a chain, read by its code; one without letters for a code from 6 on. It is total and no Option, as `row_of` is, since callers
+// that asked no question yet go by it.
 pub fn row(code: u16) -> ChainRow
     ensures { result ≡ row_of (chain_of code) }
 {
@@ -110,10 +134,7 @@ pub(crate) fn put_letters(out: &mut [u16], row: ChainRow) -> usize
     ensures { Wrote out.old 0 (letters_in row) out.new result }
 {
     let count = row.num_letters as usize;
-    let mut place: usize = 0;
-    while place < count {
-        out[place] = row.letters[place];
-        place += 1;
-    }
-    place
+    let letters = row.letters;
+    out[..count].copy_from_slice(&letters[..count]);
+    count
 }

@@ -8,34 +8,26 @@
 // library.
 #![tactic(auto)]
 
-ghost use Rattle.streams.specs.Reading.{LineRead, LineIsEnough};
+ghost use Rattle.std.specs.Prelude.{◌≤◌};
+ghost use Rattle.layout.specs.Parts.{layout_in, Ready};
+ghost use Rattle.layout_kbm.specs.Mappings.{mapping_in};
+ghost use Rattle.streams.specs.Streams.{Handed};
+ghost use Rattle.streams.specs.Reading.{LineIsEnough};
 ghost use Rattle.streams.specs.Printing.{Printed};
-ghost use Rattle.kbm.specs.Printing.{kbm_output, Refusing, Mapping};
+ghost use Rattle.kbm.specs.Printing.{kbm_output};
 
-use layout::parts::FoundAnswer;
 use layout::prepared;
 use layout::prepared::Prepared;
 use std::io::{Stderr, Stdout};
-use streams::input::Input;
+use streams::lines::KeptLine;
 use streams::output::Output;
-use streams::{input, lines, output, words};
+use streams::{lines, output, refusals, words};
 
-// Writes the line of a refusal, and says that it is one.
-fn print_refusal(stdout: Stdout, stderr: Stderr, line: &[u8], input: Input, number: u16) -> Output
-    requires { Refusing line.now input number }
-    ensures { Printed kbm_output line.now input result }
-{
-    let mut out = [0u8; 16];
-    let bytes = line::refusals::put_refusal(&mut out, number);
-    let done = output::write_front(output::begin(stdout), &out, bytes);
-    words::say_refused(stderr);
-    done
-}
-
-// Writes a mapping.
-fn print_mapping(stdout: Stdout, line: &[u8], input: Input, prepared: Prepared) -> Output
-    requires { Mapping line.now input prepared }
-    ensures { Printed kbm_output line.now input result }
+// Writes a mapping, of no more keys than question 14 lets through.
+fn print_mapping(stdout: Stdout, prepared: Prepared) -> Output
+    requires ready { Ready prepared }
+    requires few { prepared.found.octave ≤ 4096 }
+    ensures { Handed (mapping_in (layout_in prepared)) result }
 {
     let mut out = [0u8; 24611];
     let bytes = layout_kbm::parts::put_file(&mut out, prepared);
@@ -43,13 +35,12 @@ fn print_mapping(stdout: Stdout, line: &[u8], input: Input, prepared: Prepared) 
 }
 
 // Prints the output for the line that was read.
-fn print(stdout: Stdout, stderr: Stderr, line: &[u8], input: Input) -> Output
-    requires { LineRead line.now input }
-    ensures { Printed kbm_output line.now input result }
+fn print(stdout: Stdout, stderr: Stderr, line: &KeptLine) -> Output
+    ensures { Printed kbm_output line.now result }
 {
-    match line::layouts::ask_line(&line[..input::kept(input)]) {
-        FoundAnswer::Refused(q) => print_refusal(stdout, stderr, line, input, q.number() as u16),
-        FoundAnswer::Given(found) => print_mapping(stdout, line, input, prepared::prepare(found)),
+    match line::layouts::ask_line(line.kept()) {
+        Err(refusal) => refusals::print_refusal(stdout, stderr, refusal),
+        Ok(found) => print_mapping(stdout, prepared::prepare(found)),
     }
 }
 
@@ -62,8 +53,7 @@ pub fn line_is_enough()
 }
 
 fn main(rt: HostRuntime) {
-    let mut line = [0u8; 18];
-    let input = lines::read_line(rt.stdin(), &mut line);
-    let done = print(rt.stdout(), rt.stderr(), &line, input);
+    let line = lines::read_line(rt.stdin());
+    let done = print(rt.stdout(), rt.stderr(), &line);
     words::say_if_not_written(rt.stderr(), b"kbm", done);
 }

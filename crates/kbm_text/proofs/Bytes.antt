@@ -3,16 +3,19 @@ use Prim.Native.Nat.{ℕ, zero, suc, ◌+◌, ◌-◌, ◌*◌, ◌^◌, ◌<◌
 use native.Mathlib.Numerals.{add-one}
 use native.Mathlib.Nat.{pow-le-pow_right, pow-succ'}
 use native.Mathlib.Omega.{arith}
-use mathlib.Core.Bool.{true, false, ◌&&◌, and-false, true≢false}
-use mathlib.Core.Path.{◌≡◌, refl, sym, ap, ap₂, ◌∙◌}
+use mathlib.Core.Bool.{Bool, true, false, ◌&&◌, and-false, true≢false}
+use mathlib.Core.Path.{◌≡◌, refl, sym, ap, ◌∙◌}
 use mathlib.Core.List.{List, [], ◌∷◌}
 use lib.ListN.{length, get_or, drop, drop_of_length-le}
 use lib.Seq.{drop-cons}
 use lib.Dec.{eqb}
-use borrow.Author.Tests.{eq-eqb, ne_eqb, le-leb, lt-leb}
+use Rattle.std.specs.Prelude.{nat_eq}
+use Rattle.std.specs.Cmp.Lexicographic.{pointwise}
+use borrow.Author.Tests.{le-leb, lt-leb}
 use Rattle.text.specs.Decimal.{is_digit, value, value_from}
 use Rattle.kbm_text.specs.Kinds.{same_bytes, all_digits, says_number}
 use Rattle.kbm_text.specs.Parts.{NumberRead}
+use Rattle.std.specs.Prelude.{Some, None}
 
 cut : (s : List ℕ) (i : ℕ) → i < length s → drop i s ≡ get_or s i 0 ∷ drop (i + 1) s
 cut s i h = drop-cons s i 0 h ∙ ap (λ (n : ℕ). get_or s i 0 ∷ drop n s) (sym (add-one i))
@@ -29,20 +32,18 @@ other_length [] (b ∷ t) h = refl
 other_length (a ∷ s) [] h = refl
 other_length (a ∷ s) (b ∷ t) h = simp (other_length s t (λ e. h (ap suc e)), and-false)
 
-module _ (a b : List ℕ) (i : ℕ) (h : i < length a) (k : i < length b) where
-  same_split : same_bytes (drop i a) (drop i b) ≡ (eqb (get_or a i 0) (get_or b i 0) && same_bytes (drop (i + 1) a) (drop (i + 1) b))
-  unfolding same_bytes
-  same_split = ap₂ same_bytes (cut a i h) (cut b i k)
-
-  pub same_more : get_or a i 0 ≡ get_or b i 0 → same_bytes (drop i a) (drop i b) ≡ same_bytes (drop (i + 1) a) (drop (i + 1) b)
-  same_more e = same_split ∙ simp (eq-eqb (get_or a i 0) (get_or b i 0) e)
-
-  pub same_differs : (get_or a i 0 ≡ get_or b i 0 → ⊥) → same_bytes (drop i a) (drop i b) ≡ false
-  same_differs e = same_split ∙ simp (ne_eqb (get_or a i 0) (get_or b i 0) e)
-
-pub same_all : (a b : List ℕ) (i : ℕ) → length a ≤ i → length b ≤ i → same_bytes (drop i a) (drop i b) ≡ true
+-- `==` of two slices of bytes
+compared : (a b : List ℕ) → pointwise nat_eq a b ≡ same_bytes a b
 unfolding same_bytes
-same_all a b i h k = ap₂ same_bytes (drop_of_length-le a h) (drop_of_length-le b k)
+compared [] [] = refl
+compared [] (b ∷ t) = refl
+compared (a ∷ s) [] = refl
+compared (a ∷ s) (b ∷ t) = ap (λ (r : Bool). eqb a b && r) (compared s t)
+
+-- `==` of two slices of bytes, the second of them known
+pub compared_with : (line known : List ℕ) {bytes : List ℕ} {r test : Bool} → r ≡ pointwise nat_eq line bytes → bytes ≡ known → r ≡ test
+    → same_bytes line known ≡ test
+compared_with line known e is t = sym (compared line known) ∙ ap (pointwise nat_eq line) (sym is) ∙ sym e ∙ t
 
 -- ---- a number
 
@@ -54,19 +55,19 @@ pub record Read (line : List ℕ) (sofar i : ℕ) : Type 0 where
 pub read_none : (line : List ℕ) → Read line 0 0
 read_none line = record { same_digits = refl; same_value = refl; small = omega arith }
 
-is_none : (line : List ℕ) → says_number line ≡ false → NumberRead line 100000
+is_none : (line : List ℕ) → says_number line ≡ false → NumberRead line None
 is_none line e = record { yes = λ f. absurd (true≢false (sym f ∙ e)); no = λ f. refl }
 
 module _ (line : List ℕ) where
-  pub none_short : length line < 1 → NumberRead line 100000
+  pub none_short : length line < 1 → NumberRead line None
   unfolding says_number
   none_short h = is_none line (simp (lt-leb 1 (length line) h))
 
-  pub none_long : 5 < length line → NumberRead line 100000
+  pub none_long : 5 < length line → NumberRead line None
   unfolding says_number
   none_long h = is_none line (simp (lt-leb (length line) 5 h, and-false))
 
-  none_other : all_digits line ≡ false → NumberRead line 100000
+  none_other : all_digits line ≡ false → NumberRead line None
   unfolding says_number
   none_other e = is_none line (simp (e, and-false))
 
@@ -74,14 +75,14 @@ module _ (line : List ℕ) where
     pub small_enough : i ≤ 4 → sofar < 10000
     small_enough h = omega (arith, r.small, pow-le-pow_right {n = 10} (omega arith) {i = i} {j = 4} h)
 
-    pub read_all : 1 ≤ length line → length line ≤ 5 → length line ≤ i → i ≤ length line → NumberRead line sofar
+    pub read_all : 1 ≤ length line → length line ≤ 5 → length line ≤ i → i ≤ length line → NumberRead line (Some sofar)
     unfolding says_number all_digits value_from
     read_all h k l m =
         let rest : drop i line ≡ [] = drop_of_length-le line l in
         let yes : all_digits line ≡ true = r.same_digits ∙ ap all_digits rest in
         let is : value line ≡ sofar = r.same_value ∙ ap (value_from sofar) rest in
         record {
-          yes = λ e. (sym is, omega (arith, r.small, pow-le-pow_right {n = 10} (omega arith) {i = i} {j = 5} (omega arith)));
+          yes = λ e. ap Some (sym is);
           no = λ e. absurd (true≢false (sym (simp (le-leb 1 (length line) h, le-leb (length line) 5 k, yes)) ∙ e));
         }
 
@@ -90,10 +91,10 @@ module _ (line : List ℕ) where
       unfolding all_digits
       digits_split = ap all_digits (cut line i h)
 
-      pub low_byte : get_or line i 0 < 48 → NumberRead line 100000
+      pub low_byte : get_or line i 0 < 48 → NumberRead line None
       low_byte l = none_other (r.same_digits ∙ digits_split ∙ simp (lt-leb 48 (get_or line i 0) l))
 
-      pub high_byte : 57 < get_or line i 0 → NumberRead line 100000
+      pub high_byte : 57 < get_or line i 0 → NumberRead line None
       high_byte l = none_other (r.same_digits ∙ digits_split ∙ simp (lt-leb (get_or line i 0) 57 l, and-false))
 
       value_split : value_from sofar (drop i line) ≡ value_from (10 * sofar + (get_or line i 0 - 48)) (drop (i + 1) line)

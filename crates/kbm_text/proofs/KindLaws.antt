@@ -1,5 +1,5 @@
 -- What a line says, by the tests in turn.
-use Prim.Native.Nat.{ℕ, ◌<◌, ◌≤◌}
+use Prim.Native.Nat.{ℕ, ◌<◌}
 use native.Mathlib.Omega.{arith}
 use mathlib.Core.Bool.{Bool, true, false}
 use mathlib.Core.Path.{◌≡◌, refl, sym, ap, ◌∙◌}
@@ -10,6 +10,7 @@ use Rattle.text.specs.Decimal.{value}
 use Rattle.answer.specs.Choice.{pick}
 use Rattle.kbm_text.specs.Kinds.{same_bytes, says_number, mark, frequency, kind_of}
 use Rattle.kbm_text.specs.Parts.{NumberRead}
+use Rattle.std.specs.Prelude.{Option, Some, None}
 use Rattle.kbm_text.specs.declared.kinds.Kind.TheVariants.{Number, Frequency, Mark, Comment, Other}
 
 pub kind_short : (line : List ℕ) → length line < 1 → Other ≡ kind_of line
@@ -37,16 +38,16 @@ module _ (line : List ℕ) where
         unfolding kind_of
         number_or_other = simp (ne_eqb (get_or line 0 0) 33 n₁, n₂, n₃)
 
-        by_number : (r : ℕ) → NumberRead line r → r < 100000 → (test : Bool) → says_number line ≡ test → Number r ≡ kind_of line
-        by_number r n h true e = ap Number (n.yes e).0 ∙ sym (number_or_other ∙ ap (λ (t : Bool). pick t (Number (value line)) Other) e)
-        by_number r n h false e = absurd (omega (arith, n.no e))
+        by_number : (r : ℕ) → NumberRead line (Some r) → (test : Bool) → says_number line ≡ test → Number r ≡ kind_of line
+        by_number r n true e = let same : r ≡ value line = cc (n.yes e) in ap Number same ∙ sym (number_or_other ∙ ap (λ (t : Bool). pick t (Number (value line)) Other) e)
+        by_number r n false e = let none : ◌≡◌ {A = Option ℕ} (Some r) None = n.no e in absurd (cc)
 
-        by_other : (r : ℕ) → NumberRead line r → 100000 ≤ r → (test : Bool) → says_number line ≡ test → Other ≡ kind_of line
-        by_other r n h true e = absurd (omega (arith, (n.yes e).1))
-        by_other r n h false e = sym (number_or_other ∙ ap (λ (t : Bool). pick t (Number (value line)) Other) e)
+        by_other : NumberRead line None → (test : Bool) → says_number line ≡ test → Other ≡ kind_of line
+        by_other n true e = let some : None ≡ Some (value line) = n.yes e in absurd (cc)
+        by_other n false e = sym (number_or_other ∙ ap (λ (t : Bool). pick t (Number (value line)) Other) e)
 
-        pub kind_number_lem : (r : ℕ) → NumberRead line r → r < 100000 → Number r ≡ kind_of line
-        kind_number_lem r n h = by_number r n h (says_number line) refl
+        pub kind_number_lem : (r : ℕ) → NumberRead line (Some r) → Number r ≡ kind_of line
+        kind_number_lem r n = by_number r n (says_number line) refl
 
-        pub kind_other : (r : ℕ) → NumberRead line r → 100000 ≤ r → Other ≡ kind_of line
-        kind_other r n h = by_other r n h (says_number line) refl
+        pub kind_other : NumberRead line None → Other ≡ kind_of line
+        kind_other n = by_other n (says_number line) refl

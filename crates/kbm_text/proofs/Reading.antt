@@ -1,7 +1,7 @@
 -- The questions of the reader in turn, by what the code tests.
 use Prim.Native.Nat.{ℕ, ◌+◌, ◌-◌, ◌<◌, ◌≤◌}
 use native.Mathlib.Omega.{arith}
-use mathlib.Core.Bool.{Bool, true, false, ◌&&◌, and-false}
+use mathlib.Core.Bool.{Bool, true, false, not, ◌&&◌, and-false, true≢false}
 use mathlib.Core.Path.{◌≡◌, refl, sym, ap, ◌∙◌}
 use mathlib.Core.List.{List, [], ◌∷◌}
 use lib.ListN.{length, get_or}
@@ -15,6 +15,15 @@ use Rattle.kbm_text.specs.Reading.{said, all_fit, all_agree, keys_from, read_out
 use Rattle.kbm_text.specs.Parts.{Closed, Scanned}
 use Rattle.kbm_text.specs.declared.scan.Scan.{Scan}
 use Rattle.kbm_text.proofs.Bytes.{in_list}
+
+-- a flag, by the test of its contrary
+pub set : (flag : Bool) → not flag ≡ false → flag ≡ true
+set true e = refl
+set false e = absurd (true≢false e)
+
+pub unset : (flag : Bool) → not flag ≡ true → flag ≡ false
+unset true e = absurd (true≢false (sym e))
+unset false e = refl
 
 none_said : (text : List ℕ) → length text < 1 → length (said (lines text)) ≡ 0
 unfolding lines said

@@ -1,12 +1,12 @@
 -- One line more: what each kind of line does to the counts.
-use Prim.Native.Nat.{ℕ, ◌+◌, ◌-◌, ◌<◌, ◌≤◌}
+use Prim.Native.Nat.{ℕ, ◌+◌, ◌-◌, ◌≤◌}
 use native.Mathlib.Omega.{arith}
 use mathlib.Core.Bool.{Bool, true, false, ◌&&◌, true≢false}
 use mathlib.Core.Path.{◌≡◌, refl, sym, ap, ◌∙◌}
 use mathlib.Core.List.{List, [], ◌∷◌}
 use lib.ListN.{length, set, get_or-eq_default}
 use lib.Dec.{leb}
-use borrow.Author.Tests.{le-leb, lt-leb, leb-true}
+use borrow.Author.Tests.{leb-true}
 use Rattle.text.proofs.Writing.{wrote_none, wrote_one, wrote_as}
 use Rattle.answer.specs.Choice.{pick}
 use Rattle.kbm_text.specs.Kinds.{is_comment_kind}
@@ -18,12 +18,6 @@ use Rattle.kbm_text.specs.declared.scan.Scan.{Scan}
 use Rattle.kbm_text.specs.declared.scan.Spot.{Spot}
 
 -- ---- the key of one line
-
-pub one_key : (k : ℕ) (kind : Kind) (n : ℕ) → kind ≡ Number n → 7 ≤ k → 1 ≡ key_count k kind
-one_key k kind n e h = sym (ap (key_count k) e ∙ ap (λ (t : Bool). length (pick t ((k - 7) ∷ []) [])) (le-leb 7 k h))
-
-pub no_key : (k : ℕ) (kind : Kind) (n : ℕ) → kind ≡ Number n → k < 7 → 0 ≡ key_count k kind
-no_key k kind n e h = sym (ap (key_count k) e ∙ ap (λ (t : Bool). length (pick t ((k - 7) ∷ []) [])) (lt-leb 7 k h))
 
 -- a line has no key, or the key of its place
 key_by : (k : ℕ) (test : Bool) → leb 7 k ≡ test → (length (pick test ((k - 7) ∷ []) []) ≡ 0 → ⊥) → (7 ≤ k) × (pick test ((k - 7) ∷ []) [] ≡ (k - 7) ∷ [])
@@ -98,12 +92,12 @@ module _ (octave : ℕ) (s : Scan) (kind : Kind) where
   unfolding next_scan
   next_other e = sym (ap (λ (t : Bool). unless t s (with_line octave s kind)) e)
 
-  pub next_with_line : is_comment_kind kind ≡ false → (fits agrees : Bool) (keys : ℕ) {f a : Bool} → fits ≡ (s.fits && f) → f ≡ fits_at s.line kind
-      → agrees ≡ (s.agrees && a) → a ≡ agrees_at octave s.line kind → keys ≡ key_count s.line kind
+  pub next_with_line : is_comment_kind kind ≡ false → (fits agrees : Bool) (keys : ℕ) → fits ≡ (s.fits && fits_at s.line kind)
+      → agrees ≡ (s.agrees && agrees_at octave s.line kind) → keys ≡ key_count s.line kind
       → record { line = s.line + 1; fits = fits; agrees = agrees; keys = s.keys + keys } ≡ next_scan octave s kind
-  next_with_line e fits agrees keys p f q a k =
-      ap (λ (x : Bool). record { line = s.line + 1; fits = x; agrees = agrees; keys = s.keys + keys }) (p ∙ ap (λ (y : Bool). s.fits && y) f)
-      ∙ ap (λ (x : Bool). record { line = s.line + 1; fits = s.fits && fits_at s.line kind; agrees = x; keys = s.keys + keys }) (q ∙ ap (λ (y : Bool). s.agrees && y) a)
+  next_with_line e fits agrees keys p q k =
+      ap (λ (x : Bool). record { line = s.line + 1; fits = x; agrees = agrees; keys = s.keys + keys }) p
+      ∙ ap (λ (x : Bool). record { line = s.line + 1; fits = s.fits && fits_at s.line kind; agrees = x; keys = s.keys + keys }) q
       ∙ ap (λ (x : ℕ). record { line = s.line + 1; fits = s.fits && fits_at s.line kind; agrees = s.agrees && agrees_at octave s.line kind; keys = s.keys + x }) k
       ∙ next_other e
 
@@ -112,6 +106,3 @@ module _ (octave : ℕ) (s : Scan) (kind : Kind) where
 pub due_entry : (octave k : ℕ) → 7 ≤ k → due octave k ≡ k - 7
 unfolding due
 due_entry octave k h = get_or-eq_default (octave ∷ 0 ∷ 127 ∷ 60 ∷ 69 ∷ 0 ∷ octave ∷ []) (k - 7) h
-
-pub is_six : (k : ℕ) → k < 7 → (k ≡ 0 → ⊥) → (k ≡ 1 → ⊥) → (k ≡ 2 → ⊥) → (k ≡ 3 → ⊥) → (k ≡ 4 → ⊥) → (k ≡ 5 → ⊥) → k ≡ 6
-is_six k h a b c d e f = omega arith

@@ -1,5 +1,5 @@
 -- What the parts behind the calls promise, line by line.
-use Rattle.std.specs.Prelude.{ℕ, ◌+◌, ◌-◌, ◌<◌, ◌≤◌, Bool, true, false, ◌&&◌, List, ◌∷◌, ◌≡◌, length, get_or, take, drop}
+use Rattle.std.specs.Prelude.{ℕ, ◌+◌, ◌-◌, ◌<◌, ◌≤◌, Bool, true, false, ◌&&◌, List, ◌∷◌, ◌≡◌, length, get_or, take, drop, Option, Some, None}
 use Rattle.text.specs.Decimal.{value}
 use Rattle.text.specs.Writing.{Wrote}
 use Rattle.kbm_text.specs.Lines.{lines}
@@ -13,9 +13,9 @@ use Rattle.kbm_text.specs.declared.scan.Spot.{Spot}
 -- ---- one line
 
 -- What `number_in` promises.
-pub record NumberRead (line : List ℕ) (r : ℕ) : Type 0 where
-  pub yes : says_number line ≡ true → (r ≡ value line) × (r < 100000)
-  pub no : says_number line ≡ false → r ≡ 100000
+pub record NumberRead (line : List ℕ) (r : Option ℕ) : Type 0 where
+  pub yes : says_number line ≡ true → r ≡ Some (value line)
+  pub no : says_number line ≡ false → r ≡ None
 
 -- A text whose last byte is a line feed.
 pub record Closed (text : List ℕ) : Type 0 where

@@ -12,37 +12,35 @@ mod scan;
 pub mod writer;
 
 ghost use Rattle.std.specs.Prelude.{length};
+ghost use Rattle.answer.specs.Refusals.{outcome_of};
 ghost use Rattle.answer.specs.Lent.{Filled};
-ghost use Rattle.answer.specs.Refusals.{count_outcome};
 ghost use Rattle.kbm_text.specs.Reading.{read_in};
 
-use answer::{CountAnswer, Refusal};
+use answer::Refusal;
 
 // The keys that a mapping of so many entries maps, rising (19, 20, 10).
-pub fn read_keys(octave: u16, text: &[u8], out: &mut [u16]) -> CountAnswer
-    ensures { Filled (read_in octave text.now (length out.old)) (count_outcome result) out.old out.new }
+pub fn read_keys(octave: u16, text: &[u8], out: &mut [u16]) -> Result<usize, Refusal>
+    ensures { Filled (read_in octave text.now (length out.old)) (outcome_of result) out.old out.new }
 {
     let len = text.len();
     if len < 1 {
-        return CountAnswer::Refused(Refusal::MappingLines);
+        return Err(Refusal::MappingLines);
     }
     if text[len - 1] != b'\n' {
-        return CountAnswer::Refused(Refusal::MappingLines);
+        return Err(Refusal::MappingLines);
     }
     let s = scan::scan_all(octave, text);
     if s.line != 7 + octave as usize {
-        return CountAnswer::Refused(Refusal::MappingLines);
+        return Err(Refusal::MappingLines);
     }
-    if s.fits {
-        if s.agrees {
-            let keys = s.keys;
-            if out.len() < keys {
-                return CountAnswer::Refused(Refusal::Room);
-            }
-            scan::put_keys(text, out);
-            return CountAnswer::Given(keys);
-        }
-        return CountAnswer::Refused(Refusal::MappingNumbers);
+    if !s.fits {
+        return Err(Refusal::MappingLines);
     }
-    CountAnswer::Refused(Refusal::MappingLines)
+    if !s.agrees {
+        return Err(Refusal::MappingNumbers);
+    }
+    if out.len() < s.keys {
+        return Err(Refusal::Room);
+    }
+    Ok(scan::put_keys(text, out))
 }

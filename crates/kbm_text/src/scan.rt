@@ -1,16 +1,17 @@
 // The lines of a text in turn: parts, and no entry points. The text's last byte is known to be a line feed, so that every line has an end.
 //
 // One pass counts the lines and asks each of them 19 and 20, and one writes the keys; both go by the same kinds.
-ghost use Rattle.std.specs.Prelude.{◌≡◌, ◌&&◌, ◌+◌, ◌<◌, ◌≤◌, length};
+ghost use Rattle.std.specs.Prelude.{◌≡◌, ◌+◌, ◌-◌, ◌<◌, ◌≤◌, length, take, drop};
 ghost use Rattle.text.specs.Writing.{Room, Wrote};
 ghost use Rattle.kbm_text.specs.Lines.{lines};
+ghost use Rattle.kbm_text.specs.Kinds.{kind_of};
 ghost use Rattle.kbm_text.specs.Reading.{due, fits_at, agrees_at, key_at, said, keys_from};
 ghost use Rattle.kbm_text.specs.Parts.{Closed, Cut, key_count, next_scan, Scanned, PutKey};
 
 use crate::kinds::{Kind, is_comment, kind_of};
 
 // What the lines so far say: how many there are without comments, whether each fits (19), whether each agrees (20), how many keys are
-// mapped.
+// mapped. Both flags are kept, since a 19 of a later line goes before a 20 of an earlier one.
 #[derive(Clone, Copy)]
 pub struct Scan {
     pub line: usize,
@@ -31,6 +32,7 @@ fn line_end(text: &[u8], at: usize) -> usize
     requires { Closed text.now × (at < length text.now) }
     ensures { Cut text.now at result }
 {
+    // `position` would answer an Option, whose None cannot come here and would have to be answered all the same.
     let mut end = at;
     while text[end] != b'\n' {
         end += 1;
@@ -38,41 +40,34 @@ fn line_end(text: &[u8], at: usize) -> usize
     end
 }
 
-fn both(a: bool, b: bool) -> bool
-    ensures { result ≡ (a && b) }
+// The line from a place on: what it says, and the place of its line feed.
+#[derive(Clone, Copy)]
+struct Line {
+    kind: Kind,
+    end: usize,
+}
+
+fn line_from(text: &[u8], at: usize) -> Line
+    requires { Closed text.now × (at < length text.now) }
+    ensures { Cut text.now at result.end × (result.kind ≡ kind_of (take (result.end - at) (drop at text.now))) }
 {
-    if a {
-        return b;
-    }
-    false
+    let end = line_end(text, at);
+    let kind = kind_of(&text[at..end]);
+    Line { kind, end }
 }
 
 // The number that is due on a line: the head's, then the entry's own place.
 fn due_at(octave: u16, line: usize) -> usize
     ensures { result ≡ due octave line }
 {
-    if 7 <= line {
-        return line - 7;
+    match line {
+        0 | 6 => octave as usize,
+        1 | 5 => 0,
+        2 => 127,
+        3 => 60,
+        4 => 69,
+        _ => line - 7,
     }
-    if line == 0 {
-        return octave as usize;
-    }
-    if line == 1 {
-        return 0;
-    }
-    if line == 2 {
-        return 127;
-    }
-    if line == 3 {
-        return 60;
-    }
-    if line == 4 {
-        return 69;
-    }
-    if line == 5 {
-        return 0;
-    }
-    octave as usize
 }
 
 // 19, of one line.
@@ -83,8 +78,7 @@ fn fits_at(line: usize, kind: Kind) -> bool
         Kind::Number(_) => line != 5,
         Kind::Frequency => line == 5,
         Kind::Mark => 7 <= line,
-        Kind::Comment => false,
-        Kind::Other => false,
+        Kind::Comment | Kind::Other => false,
     }
 }
 
@@ -94,10 +88,7 @@ fn agrees_at(octave: u16, line: usize, kind: Kind) -> bool
 {
     match kind {
         Kind::Number(n) => (n as usize) == due_at(octave, line),
-        Kind::Frequency => true,
-        Kind::Mark => true,
-        Kind::Comment => true,
-        Kind::Other => true,
+        _ => true,
     }
 }
 
@@ -106,16 +97,8 @@ fn key_count(line: usize, kind: Kind) -> usize
     ensures { (result ≡ key_count line kind) × (result ≤ 1) }
 {
     match kind {
-        Kind::Number(_) => {
-            if 7 <= line {
-                return 1;
-            }
-            0
-        }
-        Kind::Frequency => 0,
-        Kind::Mark => 0,
-        Kind::Comment => 0,
-        Kind::Other => 0,
+        Kind::Number(_) if 7 <= line => 1,
+        _ => 0,
     }
 }
 
@@ -128,8 +111,8 @@ fn step(s: Scan, octave: u16, kind: Kind) -> Scan
         return s;
     }
     let line = s.line;
-    let fits = both(s.fits, fits_at(line, kind));
-    let agrees = both(s.agrees, agrees_at(octave, line, kind));
+    let fits = s.fits && fits_at(line, kind);
+    let agrees = s.agrees && agrees_at(octave, line, kind);
     let keys = s.keys + key_count(line, kind);
     Scan {
         line: line + 1,
@@ -144,6 +127,7 @@ pub(crate) fn scan_all(octave: u16, text: &[u8]) -> Scan
     requires { Closed text.now }
     ensures { Scanned octave text.now result }
 {
+    // no range: a turn goes on by a line, whose end says where the next begins
     let mut at: usize = 0;
     let mut s = Scan {
         line: 0,
@@ -152,10 +136,9 @@ pub(crate) fn scan_all(octave: u16, text: &[u8]) -> Scan
         keys: 0,
     };
     while at < text.len() {
-        let end = line_end(text, at);
-        let kind = kind_of(&text[at..end]);
-        s = step(s, octave, kind);
-        at = end + 1;
+        let line = line_from(text, at);
+        s = step(s, octave, line.kind);
+        at = line.end + 1;
     }
     s
 }
@@ -188,13 +171,13 @@ pub(crate) fn put_keys(text: &[u8], out: &mut [u16]) -> usize
     requires { Closed text.now × Room out.old 0 (keys_from 0 (said (lines text.now))) × (length (said (lines text.now)) ≤ 65542) }
     ensures { Wrote out.old 0 (keys_from 0 (said (lines text.now))) out.new result }
 {
+    // no range: as in `scan_all`, by lines
     let mut at: usize = 0;
     let mut spot = Spot { line: 0, put: 0 };
     while at < text.len() {
-        let end = line_end(text, at);
-        let kind = kind_of(&text[at..end]);
-        spot = put_key(out, spot, kind);
-        at = end + 1;
+        let line = line_from(text, at);
+        spot = put_key(out, spot, line.kind);
+        at = line.end + 1;
     }
     spot.put
 }

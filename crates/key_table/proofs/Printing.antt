@@ -1,10 +1,9 @@
--- The output for what is kept of a line is the output for the line; its parts, one after the other, are all of it.
+-- The output for a line, as a refusal or as a table; its parts, one after the other, are all of it.
 use Prim.Native.Nat.{ℕ, ◌+◌, ◌≤◌}
 use native.Mathlib.Omega.{arith}
-use mathlib.Core.Bool.{false, false≢true}
-use mathlib.Core.Path.{◌≡◌, sym, ap, ◌∙◌, subst}
+use mathlib.Core.Path.{◌≡◌, refl, sym, ap, ◌∙◌, subst}
 use mathlib.Core.List.{List, []}
-use lib.ListN.{length, take, replicate, length-replicate}
+use lib.ListN.{length, replicate, length-replicate}
 use Rattle.text.specs.Writing.{joined}
 use Rattle.text.proofs.Joined.{joined_none, joined_add}
 use Rattle.layout.specs.Layouts.{Layout}
@@ -12,7 +11,7 @@ use Rattle.layout.specs.Parts.{layout_of, layout_in, Ready}
 use Rattle.layout.specs.declared.parts.Found.{Found}
 use Rattle.layout.specs.declared.prepared.Prepared.{Prepared}
 use Rattle.layout_book.proofs.Rounds.{short_texts}
-use Rattle.layout_table.specs.Tables.{line_in, output}
+use Rattle.layout_table.specs.Tables.{line_in, table_in, output}
 use Rattle.line.specs.LineLayouts.{line_layout}
 use Rattle.line.specs.Refusals.{refusal_line}
 use Rattle.layout_table.specs.Parts.{line_from}
@@ -21,46 +20,32 @@ use Rattle.line.proofs.AskedLayouts.{line_laid}
 use Rattle.layout_table.proofs.Fitting.{tables_fit, line_room_few}
 use Rattle.answer.specs.Outcome.{given, refused}
 use Rattle.streams.specs.Streams.{Handed, Written}
-use Rattle.streams.specs.Reading.{LineRead}
-use Rattle.streams.specs.Printing.{Printed}
-use Rattle.streams.specs.declared.input.Input.{Input}
 use Rattle.streams.specs.declared.output.Output.{Output}
-use Rattle.streams.proofs.Enough.{kept_output}
-use Rattle.key_table.specs.Printing.{Refusing, Tabling, Lines}
-use Rattle.key_table.proofs.OneLine.{line_is_enough}
+use Rattle.key_table.specs.Printing.{Short, Lines}
 
--- ---- what is kept of a line
+-- ---- what was handed over, for a refusal or for a table
 
-module _ (buffer : List ℕ) (input : Input) (kept : ℕ) (read : LineRead buffer input) (few : kept ≡ input.kept) where
-  same_output : output (take kept buffer) ≡ output read.line
-  same_output = kept_output buffer input kept read few output line_is_enough.eighteen
+module _ (line : List ℕ) (done : Output) where
+  pub refusal_handed : (n : ℕ) → refused n ≡ line_layout line → Handed (refusal_line n) done → Handed (output line) done
+  refusal_handed n e = subst (λ (text : List ℕ). Handed text done) (output_refused line n n refl e)
 
-  pub refusing : (k n : ℕ) → k ≡ n → refused n ≡ line_layout (take kept buffer) → Refusing buffer input k
-  refusing k n i e = record { read = read; is_output = output_refused (take kept buffer) k n i e ∙ same_output }
+  pub table_handed : (l : Layout) → given l ≡ line_layout line → Handed (table_in l) done → Handed (output line) done
+  table_handed l e = subst (λ (text : List ℕ). Handed text done) (output_given line l e)
 
-  pub tabling : (f : Found) → given (layout_of f) ≡ line_layout (take kept buffer) → (p : Prepared) → Ready p → p.found ≡ f → Tabling buffer input p
-  tabling f e p ready is =
-      let same : given (layout_in p) ≡ line_layout (take kept buffer) = ap (λ (x : Found). given (layout_of x)) is ∙ e in
-      let few = (line_laid (take kept buffer) (layout_in p) same).few_keys in
-      let laid = ready.laid in
-      record {
-        read = read;
-        ready = ready;
-        is_output = output_given (take kept buffer) (layout_in p) same ∙ same_output;
-        short =
-            λ key h. omega (
-              arith,
-              tables_fit.line laid.caller (layout_in p) laid.accepted (omega (arith, few)) key h,
-              line_room_few p.found.octave few,
-            );
-      }
+-- the layout of a line, made ready: its lines are short
+pub same_layout : (f : Found) (line : List ℕ) → given (layout_of f) ≡ line_layout line → (p : Prepared) → p.found ≡ f
+    → given (layout_in p) ≡ line_layout line
+same_layout f line e p is = ap (λ (x : Found). given (layout_of x)) is ∙ e
 
--- ---- a refusal, in one part
-
-pub refusal_printed : (buffer : List ℕ) (input : Input) (number : ℕ) → Refusing buffer input number → (text : List ℕ) → text ≡ refusal_line number
-    → (start done : Output) → Handed [] start → Written start text done → Printed output buffer input done
-refusal_printed buffer input number r text is start done none w =
-    record { read = r.read; whole = λ t. subst (λ (l : List ℕ). Handed l done) (is ∙ r.is_output) (w.next [] none) }
+pub short_lines : (line : List ℕ) (p : Prepared) → given (layout_in p) ≡ line_layout line → Ready p → Short (layout_in p)
+short_lines line p e ready key h =
+    let few = (line_laid line (layout_in p) e).few_keys in
+    let laid = ready.laid in
+    omega (
+      arith,
+      tables_fit.line laid.caller (layout_in p) laid.accepted (omega (arith, few)) key h,
+      line_room_few p.found.octave few,
+    )
 
 -- ---- a table, part after part
 
@@ -76,14 +61,8 @@ pub lines_onward : (l : Layout) (from count : ℕ) (past done : Output) → Hand
 lines_onward l from count past done h w =
     subst (λ (t : List ℕ). Handed t done) (sym (joined_add (line_in l) from count)) (w.next (joined (line_in l) from) h)
 
-pub table_printed : (buffer : List ℕ) (input : Input) (p : Prepared) → Tabling buffer input p
-    → (done : Output) → Handed (joined (line_in (layout_in p)) p.found.octave) done → Printed output buffer input done
-table_printed buffer input p r done h =
-    record { read = r.read; whole = λ taken. subst (λ (t : List ℕ). Handed t done) (table_lines (layout_in p) ∙ r.is_output) h }
-
--- a part that was not taken ends it
-pub not_taken : (buffer : List ℕ) (input : Input) → LineRead buffer input → (done : Output) → done.taken ≡ false → Printed output buffer input done
-not_taken buffer input read done untaken = record { read = read; whole = λ taken. absurd (false≢true (sym untaken ∙ taken)) }
+pub whole_table : (l : Layout) (done : Output) → Handed (joined (line_in l) l.octave) done → Handed (table_in l) done
+whole_table l done = subst (λ (t : List ℕ). Handed t done) (table_lines l)
 
 -- a buffer of n zeros has room for n bytes
 pub zeros_hold : (n k : ℕ) → k ≤ n → k ≤ length (replicate {A = ℕ} n 0)

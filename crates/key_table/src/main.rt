@@ -6,35 +6,22 @@
 // read hands over, and where written bytes go, rests on the kit's library.
 #![tactic(auto)]
 
-ghost use Rattle.std.specs.Prelude.{◌≤◌, ◌<◌, length};
+ghost use Rattle.std.specs.Prelude.{◌≡◌, true, ◌≤◌, ◌<◌, length};
 ghost use Rattle.text.specs.Writing.{joined};
-ghost use Rattle.layout.specs.Parts.{layout_in};
-ghost use Rattle.layout_table.specs.Tables.{output};
+ghost use Rattle.layout.specs.Parts.{layout_in, Ready};
+ghost use Rattle.layout_table.specs.Tables.{table_in, output};
 ghost use Rattle.layout_table.specs.Parts.{line_from};
-ghost use Rattle.streams.specs.Streams.{Written};
-ghost use Rattle.streams.specs.Reading.{LineRead, LineIsEnough};
+ghost use Rattle.streams.specs.Streams.{Handed, Written};
+ghost use Rattle.streams.specs.Reading.{LineIsEnough};
 ghost use Rattle.streams.specs.Printing.{Printed};
-ghost use Rattle.key_table.specs.Printing.{Refusing, Tabling, Lines};
+ghost use Rattle.key_table.specs.Printing.{Short, Lines};
 
-use layout::parts::FoundAnswer;
 use layout::prepared;
 use layout::prepared::Prepared;
 use std::io::{Stderr, Stdout};
-use streams::input::Input;
+use streams::lines::KeptLine;
 use streams::output::Output;
-use streams::{input, lines, output, words};
-
-// Writes the line of a refusal, and says that it is one.
-fn print_refusal(stdout: Stdout, stderr: Stderr, line: &[u8], input: Input, number: u16) -> Output
-    requires { Refusing line.now input number }
-    ensures { Printed output line.now input result }
-{
-    let mut out = [0u8; 16];
-    let bytes = line::refusals::put_refusal(&mut out, number);
-    let done = output::write_front(output::begin(stdout), &out, bytes);
-    words::say_refused(stderr);
-    done
-}
+use streams::{lines, output, refusals, words};
 
 // How many lines are put into the buffer at once: 78 of 840 bytes fit.
 fn at_once(left: u16) -> u16
@@ -53,18 +40,15 @@ fn print_lines(prepared: Prepared, from: u16, count: u16, past: Output, out: &mu
 }
 
 // Writes a table, so many lines at a time; it stops where a part is not taken.
-fn print_table(
-    stdout: Stdout,
-    line: &[u8],
-    input: Input,
-    prepared: Prepared,
-    out: &mut [u8],
-) -> Output
-    requires { Tabling line.now input prepared × (65536 ≤ length out.old) }
-    ensures { Printed output line.now input result }
+fn print_table(stdout: Stdout, prepared: Prepared, out: &mut [u8]) -> Output
+    requires ready { Ready prepared }
+    requires short { Short (layout_in prepared) }
+    requires room { 65536 ≤ length out.old }
+    ensures { result.taken ≡ true → Handed (table_in (layout_in prepared)) result }
 {
     let octave = prepared.found.octave;
     let mut done = output::begin(stdout);
+    // no range: the table comes in parts, of which the last is as short as what is left, and a part that is not taken ends it
     let mut from: u16 = 0;
     while from < octave {
         let count = at_once(octave - from);
@@ -79,15 +63,14 @@ fn print_table(
 
 // Prints the output for the line that was read. The buffer is small beside the largest table, of 1.7 million bytes, so that a small stack
 // is enough.
-fn print(stdout: Stdout, stderr: Stderr, line: &[u8], input: Input) -> Output
-    requires { LineRead line.now input }
-    ensures { Printed output line.now input result }
+fn print(stdout: Stdout, stderr: Stderr, line: &KeptLine) -> Output
+    ensures { Printed output line.now result }
 {
-    match line::layouts::ask_line(&line[..input::kept(input)]) {
-        FoundAnswer::Refused(q) => print_refusal(stdout, stderr, line, input, q.number() as u16),
-        FoundAnswer::Given(found) => {
+    match line::layouts::ask_line(line.kept()) {
+        Err(refusal) => refusals::print_refusal(stdout, stderr, refusal),
+        Ok(found) => {
             let mut out = [0u8; 65536];
-            print_table(stdout, line, input, prepared::prepare(found), &mut out)
+            print_table(stdout, prepared::prepare(found), &mut out)
         }
     }
 }
@@ -101,8 +84,7 @@ pub fn line_is_enough()
 }
 
 fn main(rt: HostRuntime) {
-    let mut line = [0u8; 18];
-    let input = lines::read_line(rt.stdin(), &mut line);
-    let done = print(rt.stdout(), rt.stderr(), &line, input);
+    let line = lines::read_line(rt.stdin());
+    let done = print(rt.stdout(), rt.stderr(), &line);
     words::say_if_not_written(rt.stderr(), b"key_table", done);
 }

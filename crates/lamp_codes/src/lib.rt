@@ -5,148 +5,118 @@
 // Every entry point answers every input; a refusal changes no element that was lent. Nothing is assumed.
 #![tactic(auto)]
 
-ghost use Rattle.std.specs.Prelude.{◌≡◌, map, ◌≤◌, length};
+ghost use Rattle.std.specs.Prelude.{◌≡◌, Bool, length};
+ghost use Rattle.answer.specs.Refusals.{outcome_of};
 ghost use Rattle.answer.specs.Outcome.{and_then};
 ghost use Rattle.answer.specs.Lent.{held_in, Filled};
 ghost use Rattle.answer.specs.Tests.{all_of};
-ghost use Rattle.answer.specs.Refusals.{count_outcome};
-ghost use Rattle.text.specs.Writing.{Wrote};
 ghost use Rattle.lamp_codes.specs.Codes.{is_old, wide_code, is_converted, old_code};
-ghost use Rattle.lamp_codes.specs.Answers.{get_widened, get_narrowed};
+ghost use Rattle.lamp_codes.specs.Answers.{converting, get_widened, get_narrowed};
 
-use answer::{CountAnswer, Refusal};
+use answer::Refusal;
+
+// A code of one width. Some of them have a partner of the other width.
+trait Code: Copy {
+    type Partner: Copy;
+
+    ghost has_partner: { Self → Bool };
+
+    ghost partner: { Self → Self.Partner };
+
+    fn has_partner(self) -> bool
+        ensures { result ≡ has_partner self };
+
+    // The partner of a code that has one; of another any code.
+    fn partner(self) -> Self::Partner
+        ensures { result ≡ partner self };
+}
 
 // ---- from one byte to two
 
-// The two-byte code of a one-byte one.
-fn wide_code(code: u8) -> u16
-    ensures { result ≡ wide_code code }
-{
-    let number = code as u16;
-    if number < 2 {
-        return number;
-    }
-    if number < 102 {
-        return 2 + 2 * (number - 2);
-    }
-    if number < 202 {
-        return 3 + 2 * (number - 102);
-    }
-    65535
-}
+impl Code for u8 {
+    type Partner = u16;
 
-fn is_old(code: u8) -> bool
-    ensures { result ≡ is_old code }
-{
-    if code < 202 {
-        return true;
-    }
-    code == 255
-}
+    ghost has_partner = { is_old };
 
-// Is each of these a one-byte code?
-fn all_old(strip: &[u8]) -> bool
-    ensures { result ≡ all_of is_old strip.now }
-{
-    let mut place: usize = 0;
-    while place < strip.len() {
-        if !is_old(strip[place]) {
-            return false;
+    ghost partner = { wide_code };
+
+    // Below 202, or the last byte.
+    fn has_partner(self) -> bool {
+        self < 202 || self == 255
+    }
+
+    fn partner(self) -> u16 {
+        let number = self as u16;
+        match number {
+            0..=1 => number,
+            2..=101 => 2 + 2 * (number - 2),
+            102..=201 => 3 + 2 * (number - 102),
+            _ => 65535,
         }
-        place += 1;
     }
-    true
-}
-
-// The two-byte codes at the front of a slice that holds them; how many there are.
-fn put_wide(strip: &[u8], out: &mut [u16]) -> usize
-    requires { length strip.now ≤ length out.old }
-    ensures { Wrote out.old 0 (map wide_code strip.now) out.new result }
-{
-    let mut place: usize = 0;
-    while place < strip.len() {
-        out[place] = wide_code(strip[place]);
-        place += 1;
-    }
-    place
-}
-
-// A stored strip of one-byte codes, in codes of two bytes (17, 10).
-pub fn widen_strip(strip: &[u8], out: &mut [u16]) -> CountAnswer
-    ensures { Filled (and_then (get_widened strip.now) (held_in (length out.old))) (count_outcome result) out.old out.new }
-{
-    if !all_old(strip) {
-        return CountAnswer::Refused(Refusal::Code);
-    }
-    if out.len() < strip.len() {
-        return CountAnswer::Refused(Refusal::Room);
-    }
-    CountAnswer::Given(put_wide(strip, out))
 }
 
 // ---- and back
 
-// The one-byte code that a two-byte one was converted from.
-fn old_code(code: u16) -> u8
-    ensures { result ≡ old_code code }
-{
-    if code < 2 {
-        return code as u8;
+impl Code for u16 {
+    type Partner = u8;
+
+    ghost has_partner = { is_converted };
+
+    ghost partner = { old_code };
+
+    // Below 202, or the last number.
+    fn has_partner(self) -> bool {
+        self < 202 || self == 65535
     }
-    if code < 202 {
-        if code % 2 == 0 {
-            return (2 + (code - 2) / 2) as u8;
+
+    fn partner(self) -> u8 {
+        match self {
+            0..=1 => self as u8,
+            2..=201 if self % 2 == 0 => (2 + (self - 2) / 2) as u8,
+            2..=201 => (102 + (self - 3) / 2) as u8,
+            _ => 255,
         }
-        return (102 + (code - 3) / 2) as u8;
     }
-    255
 }
 
-fn is_converted(code: u16) -> bool
-    ensures { result ≡ is_converted code }
+// ---- either way
+
+// Has each of these a partner?
+fn all_have_partners<C: Code>(strip: &[C]) -> bool
+    ensures { result ≡ all_of C.has_partner strip.now }
 {
-    if code < 202 {
-        return true;
-    }
-    code == 65535
+    strip.iter().all(|code| code.has_partner())
 }
 
-// Was each of these converted from a one-byte code?
-fn all_converted(strip: &[u16]) -> bool
-    ensures { result ≡ all_of is_converted strip.now }
+// The partners of a strip, at the front of a slice that holds them (17, 10).
+fn convert<C: Code>(strip: &[C], out: &mut [C::Partner]) -> Result<usize, Refusal>
+    ensures { Filled
+        (and_then (converting C.has_partner C.partner strip.now) (held_in (length out.old)))
+        (outcome_of result) out.old out.new }
 {
-    let mut place: usize = 0;
-    while place < strip.len() {
-        if !is_converted(strip[place]) {
-            return false;
-        }
-        place += 1;
+    if !all_have_partners(strip) {
+        return Err(Refusal::Code);
     }
-    true
+    if out.len() < strip.len() {
+        return Err(Refusal::Room);
+    }
+    for (place, code) in strip.iter().enumerate() {
+        out[place] = code.partner();
+    }
+    Ok(strip.len())
 }
 
-// The one-byte codes at the front of a slice that holds them; how many there are.
-fn put_old(strip: &[u16], out: &mut [u8]) -> usize
-    requires { length strip.now ≤ length out.old }
-    ensures { Wrote out.old 0 (map old_code strip.now) out.new result }
+// A stored strip of one-byte codes, in codes of two bytes (17, 10).
+pub fn widen_strip(strip: &[u8], out: &mut [u16]) -> Result<usize, Refusal>
+    ensures { Filled (and_then (get_widened strip.now) (held_in (length out.old))) (outcome_of result) out.old out.new }
 {
-    let mut place: usize = 0;
-    while place < strip.len() {
-        out[place] = old_code(strip[place]);
-        place += 1;
-    }
-    place
+    convert(strip, out)
 }
 
 // A converted strip, in the one-byte codes that it was stored with (17, 10).
-pub fn narrow_strip(strip: &[u16], out: &mut [u8]) -> CountAnswer
-    ensures { Filled (and_then (get_narrowed strip.now) (held_in (length out.old))) (count_outcome result) out.old out.new }
+pub fn narrow_strip(strip: &[u16], out: &mut [u8]) -> Result<usize, Refusal>
+    ensures { Filled (and_then (get_narrowed strip.now) (held_in (length out.old))) (outcome_of result) out.old out.new }
 {
-    if !all_converted(strip) {
-        return CountAnswer::Refused(Refusal::Code);
-    }
-    if out.len() < strip.len() {
-        return CountAnswer::Refused(Refusal::Room);
-    }
-    CountAnswer::Given(put_old(strip, out))
+    convert(strip, out)
 }

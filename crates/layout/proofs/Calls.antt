@@ -1,4 +1,6 @@
 -- From the search to what the calls answer: one law for each way in which a call ends.
+use Rattle.std.specs.Prelude.{Result}
+use Rattle.answer.specs.declared.Refusal.{Refusal}
 use Prim.Native.Nat.{ℕ}
 use mathlib.Core.Path.{◌≡◌, sym, ap, ◌∙◌, subst}
 use mathlib.Core.List.{List}
@@ -13,15 +15,14 @@ use Rattle.notes.specs.Names.{name_text}
 use Rattle.notes.specs.Parts.{plan_text}
 use Rattle.notes.specs.declared.plans.NamePlan.{NamePlan}
 use Rattle.pergen.specs.declared.Accidentals.{Accidentals}
-use Rattle.pergen.specs.declared.stepping.Key.{Key}
-use Rattle.pergen.specs.Parts.{At}
 use Rattle.pergen.proofs.Keys.{key_round}
 use Rattle.layout.specs.Layouts.{Layout, layout_outcome, accidentals_in, sharp_first}
 use Rattle.layout.specs.ScaleNames.{scale_name}
 use Rattle.layout.specs.Names.{name_in}
 use Rattle.layout.specs.Answers.{of_layout, create_outcome, get_genchain, get_pergen, get_mos, get_accidentals, get_scale_name, get_note_name}
-use Rattle.layout.specs.Parts.{layout_of, Laid, layout_in, Ready, PlannedIn}
+use Rattle.layout.specs.Parts.{layout_of, Laid, layout_in, PlannedIn, KeyFound}
 use Rattle.layout.specs.declared.IsomorphicLayout.{IsomorphicLayout}
+use Rattle.layout.specs.declared.one_key.OneKey.{OneKey}
 use Rattle.layout.specs.declared.parts.Found.{Found}
 use Rattle.layout.specs.declared.prepared.Prepared.{Prepared}
 use Rattle.layout.proofs.Finding.{Parts, accepted, chain_is}
@@ -55,10 +56,9 @@ module _ (r : IsomorphicLayout) (f : Found) (e : given (layout_of f) ≡ layout_
   pub ready_given : p.found ≡ f → given (layout_in p) ≡ layout_outcome r
   ready_given is = ap (λ (x : Found). given (layout_of x)) is ∙ e
 
-  -- what the plan of a key's name asks
-  pub plan_asks : (row : ChainRow) → row ≡ row_of (chain_of r.genchain) → Ready p × (p.found ≡ f) → (k : Key) → At p.solved k
-      → (row ≡ row_of (chain_of p.found.chain)) × Ready p × At p.solved k
-  plan_asks row is made k at = (row_found r (layout_in p) (ready_given made.1) row is, made.0, at)
+-- one key that was asked for, as the caller has its number
+pub asked_back : (r : IsomorphicLayout) (k key : ℤ) → k ≡ key → (x y : Result OneKey Refusal) → x ≡ y → KeyFound r k x → KeyFound r key y
+asked_back r k key e x y f h = subst (λ (i : ℤ). KeyFound r i y) e (subst (KeyFound r k) f h)
 
 -- ---- each call
 

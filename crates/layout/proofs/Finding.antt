@@ -1,7 +1,7 @@
 -- What it takes for a layout to be accepted, and what the questions answer: by cases on the generator's outcome.
+use Rattle.std.specs.Prelude.{Option, None, Some}
 use Prim.Native.Nat.{ℕ, ◌-◌, ◌%◌, ◌≤◌, ◌<◌}
 use mathlib.Core.Path.{◌≡◌, refl, sym, ap, ap₂, ◌∙◌, subst}
-use mathlib.Core.Option.{Option, none, some}
 use native.Mathlib.Omega.{arith}
 use lib.Dec.{ltb, leb}
 use borrow.Author.Tests.{ltb-true, leb-true}
@@ -62,16 +62,16 @@ module _ (r : IsomorphicLayout) where
     same_walk : walked_from ≡ walked r G
     same_walk = ap₂ (λ (n k : ℕ). first_with n (children (mos 1 1 k (r.octave - k)))) count within
 
-    met : (m : Mos) → some m ≡ walked_from → ask 18 (ltb r.start N) (given (made_of m N)) ≡ with_pattern r G (walked r G)
+    met : (m : Mos) → Some m ≡ walked_from → ask 18 (ltb r.start N) (given (made_of m N)) ≡ with_pattern r G (walked r G)
     met m e = ap (λ (n : ℕ). ask 18 (ltb r.start n) (given (made_of m n))) count ∙ ap (with_pattern r G) (e ∙ same_walk)
 
-    pub walk_met : (m : Mos) → some m ≡ walked_from → r.start < N → given (made_of m N) ≡ with_pattern r G (walked r G)
+    pub walk_met : (m : Mos) → Some m ≡ walked_from → r.start < N → given (made_of m N) ≡ with_pattern r G (walked r G)
     walk_met m e h = sym (ask_below 18 r.start N _ h) ∙ met m e
 
-    pub no_start : (m : Mos) → some m ≡ walked_from → N ≤ r.start → refused 18 ≡ with_pattern r G (walked r G)
+    pub no_start : (m : Mos) → Some m ≡ walked_from → N ≤ r.start → refused 18 ≡ with_pattern r G (walked r G)
     no_start m e h = sym (ask_above 18 r.start N _ h) ∙ met m e
 
-    pub walk_without : none ≡ walked_from → refused 4 ≡ with_pattern r G (walked r G)
+    pub walk_without : None ≡ walked_from → refused 4 ≡ with_pattern r G (walked r G)
     walk_without e = ap (with_pattern r G) (e ∙ same_walk)
 
 -- ---- what an accepted layout is
@@ -81,18 +81,18 @@ pub record Parts (l : Layout) : Type 0 where
   pub positive : 0 < l.octave
   pub letters_are : l.letters ≡ letters_of l.chain
   pub start_below : l.start < l.letters
-  pub pattern : first_with l.letters (children (genesis l.octave l.generator)) ≡ some l.pattern
+  pub pattern : first_with l.letters (children (genesis l.octave l.generator)) ≡ Some l.pattern
 
 -- what holds of all layouts that the questions make holds of the accepted one
 made : (r : IsomorphicLayout) (l : Layout) (Q : Layout → Type 0)
-    → ((G : ℕ) (m : Mos) → generator_of r ≡ given G → walked r G ≡ some m → r.start < letters_of r.genchain → Q (layout_with r G m))
+    → ((G : ℕ) (m : Mos) → generator_of r ≡ given G → walked r G ≡ Some m → r.start < letters_of r.genchain → Q (layout_with r G m))
     → Accepted r l → Q l
 unfolding layout_outcome
 made r l Q f e = by (generator_of r) refl e
   where
     of : (G : ℕ) (o : Option Mos) → generator_of r ≡ given G → walked r G ≡ o → with_pattern r G o ≡ given l → Q l
-    of G none g w q = absurd (let z : ◌≡◌ {A = ℕ} 0 1 = cc in omega arith)
-    of G (some m) g w q =
+    of G None g w q = absurd (let z : ◌≡◌ {A = ℕ} 0 1 = cc in omega arith)
+    of G (Some m) g w q =
         let N = letters_of r.genchain in
         subst Q (given_same (asked_rest 18 (ltb r.start N) _ q))
         (f G m g w (ltb-true r.start N (asked_yes 18 (ltb r.start N) _ q)))
@@ -137,8 +137,8 @@ default_start_stays code octave tritave = by (generator_outcome code octave trit
     r = default_layout code octave tritave
 
     of : (G : ℕ) → code < 6 → (o : Option Mos) → with_pattern r G o ≡ first_with_pattern r G o
-    of G h none = refl
-    of G h (some m) = ask_below 18 (chain_of code).start (letters_of code) _ (chains_are_good code h).start_below
+    of G h None = refl
+    of G h (Some m) = ask_below 18 (chain_of code).start (letters_of code) _ (chains_are_good code h).start_below
 
     by : (o : Outcome ℕ) → generator_outcome code octave tritave ≡ o
         → and_then o (λ (G : ℕ). with_pattern r G (walked r G)) ≡ and_then o (λ (G : ℕ). first_with_pattern r G (walked r G))

@@ -1,4 +1,5 @@
 -- Key 0 is the letter at the start: its degree is 0, so both coordinates stay among the letters, and both spellings are that letter.
+use Rattle.std.specs.Prelude.{Option}
 use Prim.Native.Nat.{ℕ, ◌*◌, ◌-◌, ◌/◌, ◌%◌, ◌≤◌, ◌<◌}
 use mathlib.Core.Path.{◌≡◌, refl, sym, ap, ap₂, ◌∙◌}
 use mathlib.Core.Bool.{Bool}
@@ -12,7 +13,6 @@ use Rattle.answer.specs.Outcome.{given}
 use Rattle.genchain.specs.Chains.{chain_of}
 use Rattle.notes.specs.Names.{letter_text, letter_at, spelling_text, letter_alone, printed_text, name_text}
 use Rattle.notes.proofs.Printing.{printed_alone}
-use Rattle.pergen.specs.declared.Cycle.{Cycle}
 use Rattle.pergen.specs.declared.Accidentals.{Accidentals}
 use Rattle.pergen.specs.Pergen.{cycles, reduced, inverse, degree, cycle, key_degree, key_cycle}
 use Rattle.pergen.specs.Spelling.{sharp_coordinate, flat_coordinate, by_coordinates, accidentals_of, key_accidentals, stars_of, sharp_spelling}
@@ -28,10 +28,10 @@ use Rattle.layout.proofs.PatternShape.{pattern_shape}
 use Rattle.layout.proofs.Calls.{name_given}
 
 -- a letter without signs, from both sides
-abbrev bare : Cycle → ℕ → Accidentals
+abbrev bare : Option ℕ → ℕ → Accidentals
 bare c s = record { cycle = c; sharp_index = s; sharp_count = 0; flat_index = s; flat_count = 0 }
 
-bare_name : (letters : List ℕ) (sf : Bool) (c : Cycle) (s : ℕ) → stars_of c ≡ 0 → name_text letters sf (bare c s) ≡ letter_text (letter_at letters s)
+bare_name : (letters : List ℕ) (sf : Bool) (c : Option ℕ) (s : ℕ) → stars_of c ≡ 0 → name_text letters sf (bare c s) ≡ letter_text (letter_at letters s)
 unfolding name_text spelling_text sharp_spelling letter_alone
 bare_name letters sf c s e =
     ap (printed_text letters sf c) (printed_alone sf (bare c s) (eq-eqb s s refl))
@@ -40,7 +40,7 @@ bare_name letters sf c s e =
     ∙ append-nil _
 
 -- degree 0 of an origin below N, where R is at least N
-bare_degree : (R N o : ℕ) (c : Cycle) → o < N → N ≤ R → accidentals_of R N o 0 c ≡ bare c o
+bare_degree : (R N o : ℕ) (c : Option ℕ) → o < N → N ≤ R → accidentals_of R N o 0 c ≡ bare c o
 unfolding by_coordinates
 bare_degree R N o c ho h =
     sym

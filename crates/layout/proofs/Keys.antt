@@ -1,13 +1,12 @@
 -- An accepted layout has at least as many keys in a cycle as letters: its pattern's N steps, each at least n, fill the octave.
+use Rattle.std.specs.Prelude.{Some, slice_get}
 use Prim.Native.Nat.{ℕ, zero, suc, ◌+◌, ◌*◌, ◌-◌, ◌%◌, ◌<◌, ◌≤◌, ◌∣◌}
 use mathlib.Core.Path.{◌≡◌, refl, sym, ap, ◌∙◌, subst}
 use mathlib.Core.Logic.{◌⊎◌, inl, inr, ⊎_elim}
-use mathlib.Core.Option.{some}
 use mathlib.Core.List.{List, [], ◌∷◌}
 use mathlib.Core.Bool.{Bool, true, false}
 use native.Mathlib.Nat.{mod-lt, dvd-mod_iff, dvd-sub, dvd-add, dvd_antisymm, le-div_iff_mul-le, le_refl}
 use native.Mathlib.Omega.{arith}
-use lib.ListN.{get_elem?}
 use lib.Dec.{eqb}
 use borrow.Author.Tests.{eqb-true}
 use Rattle.math.specs.Gcd.{gcd}
@@ -23,13 +22,13 @@ use Rattle.layout.specs.Layouts.{Layout, reduced_in}
 use Rattle.layout.proofs.Finding.{Parts}
 
 -- the first pattern with n steps stands somewhere on the walk and has n steps
-pub first_at : (n : ℕ) (ms : List Mos) (m : Mos) → first_with n ms ≡ some m → (k : ℕ) × (get_elem? ms k ≡ some m) × (count_of m ≡ n)
+pub first_at : (n : ℕ) (ms : List Mos) (m : Mos) → first_with n ms ≡ Some m → (k : ℕ) × (slice_get ms k ≡ Some m) × (count_of m ≡ n)
 first_at n [] m e = absurd (let z : ◌≡◌ {A = ℕ} 0 1 = cc in omega arith)
 first_at n (x ∷ ms) m e = by (eqb (count_of x) n) refl e (first_at n ms m)
   where
-    by : (b : Bool) → eqb (count_of x) n ≡ b → elim b [ true ↦ some x | false ↦ first_with n ms ] ≡ some m
-        → (first_with n ms ≡ some m → (k : ℕ) × (get_elem? ms k ≡ some m) × (count_of m ≡ n))
-        → (k : ℕ) × (get_elem? (x ∷ ms) k ≡ some m) × (count_of m ≡ n)
+    by : (b : Bool) → eqb (count_of x) n ≡ b → elim b [ true ↦ Some x | false ↦ first_with n ms ] ≡ Some m
+        → (first_with n ms ≡ Some m → (k : ℕ) × (slice_get ms k ≡ Some m) × (count_of m ≡ n))
+        → (k : ℕ) × (slice_get (x ∷ ms) k ≡ Some m) × (count_of m ≡ n)
     by true t q ih = (
       zero,
       q,
@@ -38,24 +37,24 @@ first_at n (x ∷ ms) m e = by (eqb (count_of x) n) refl e (first_at n ms m)
     by false t q ih = let r = ih q in (suc r.0, r.1, r.2)
 
 -- a pattern of the walk with more than two steps is a child, so both its steps are above 0
-pub steps_above : (P G k : ℕ) (m : Mos) → get_elem? (children (genesis P G)) k ≡ some m → 2 < count_of m → (0 < primary m) × (0 < secondary m)
+pub steps_above : (P G k : ℕ) (m : Mos) → slice_get (children (genesis P G)) k ≡ Some m → 2 < count_of m → (0 < primary m) × (0 < secondary m)
 steps_above P G k m e h =
     ⊎_elim (λ (s : count_of m ≤ 2). absurd (let z : ⊥ = omega arith in z)) (λ (s : (0 < primary m) × (0 < secondary m)). s)
     (walk_keeps (λ x. (count_of x ≤ 2) ⊎ ((0 < primary x) × (0 < secondary x))) (λ x c f h. inr (child_steps (child_at f))) k (genesis P G) m e
     (inl (le_refl 2)))
 
 -- counts never fall, so both are above 0
-pub counts_above : (P G k : ℕ) (m : Mos) → get_elem? (children (genesis P G)) k ≡ some m → (0 < primaries m) × (0 < secondaries m)
+pub counts_above : (P G k : ℕ) (m : Mos) → slice_get (children (genesis P G)) k ≡ Some m → (0 < primaries m) × (0 < secondaries m)
 counts_above P G k m e =
     walk_keeps (λ x. (0 < primaries x) × (0 < secondaries x))
     (λ x c f h. (omega (arith, h.0, child_counts (child_at f)), omega (arith, h.1, child_counts (child_at f))))
     k (genesis P G) m e (omega arith, omega arith)
 
-pub walk_size : (P G k : ℕ) (m : Mos) → 0 < P → get_elem? (children (genesis P G)) k ≡ some m → size_of m ≡ P
+pub walk_size : (P G k : ℕ) (m : Mos) → 0 < P → slice_get (children (genesis P G)) k ≡ Some m → size_of m ≡ P
 walk_size P G k m h e =
     walk_keeps (λ x. size_of x ≡ P) (λ x c f s. child_keeps_size (child_at f) ∙ s) k (genesis P G) m e (genesis_size P G h)
 
-pub walk_divisor : (P G k : ℕ) (m : Mos) → get_elem? (children (genesis P G)) k ≡ some m → gcd (primary m) (secondary m) ≡ gcd (G % P) (P - G % P)
+pub walk_divisor : (P G k : ℕ) (m : Mos) → slice_get (children (genesis P G)) k ≡ Some m → gcd (primary m) (secondary m) ≡ gcd (G % P) (P - G % P)
 walk_divisor P G k m e =
     walk_keeps (λ x. gcd (primary x) (secondary x) ≡ gcd (G % P) (P - G % P)) (λ x c f s. child_keeps.divisor x c f ∙ s) k (genesis P G) m e refl
 

@@ -1,4 +1,5 @@
 pub mod Finding
+pub mod Kept
 pub mod Keys
 pub mod PatternShape
 pub mod Steps

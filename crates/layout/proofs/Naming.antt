@@ -1,4 +1,5 @@
 -- Which keys spellings and names mean, in an accepted layout: pergen's theorems for its period and generator, and the reading of names.
+use Rattle.std.specs.Prelude.{Option}
 use Prim.Native.Nat.{ℕ, ◌<◌}
 use mathlib.Core.Path.{◌≡◌, refl, sym, ap, ap₂, ◌∙◌, subst}
 use mathlib.Core.Logic.{◌⊎◌, inl, inr}
@@ -17,11 +18,10 @@ use Rattle.notes.specs.Answers.{chain_name}
 use Rattle.notes.specs.Theorems.{Lettered, SameSpelling}
 use Rattle.notes.proofs.Printing.{spellings_in_a_name_are_the_keys}
 use Rattle.notes.proofs.OneSpelling.{equal_names_have_one_first_spelling}
-use Rattle.pergen.specs.declared.Cycle.{Cycle}
 use Rattle.pergen.specs.declared.Accidentals.{Accidentals}
 use Rattle.pergen.specs.declared.Spelling.{Spelling}
 use Rattle.pergen.specs.Pergen.{shown, key_degree, key_cycle, cycle_of}
-use Rattle.pergen.specs.Spelling.{accidentals_of, key_accidentals, place, sounds, stars_of, sharp_spelling, flat_spelling}
+use Rattle.pergen.specs.Spelling.{accidentals_of, key_accidentals, sounds, stars_of, sharp_spelling, flat_spelling}
 use Rattle.pergen.proofs.Keys.{spellings_of_one_key, degree_and_cycle_tell_keys_apart, key_cycle_below}
 use Rattle.pergen.proofs.DegreePlaces.{accidentals_sound_their_key, cycle_kept, stars_are}
 use Rattle.layout.specs.Layouts.{Layout, cycles_in, reduced_in, accidentals_in, sharp_first}
@@ -106,7 +106,7 @@ names_sound_their_key r l e i =
     record {
       bytes =
           sym (name_given r l (sym e) i)
-          ∙ ap (λ (c : Cycle). given (text_in l c (printed (sharp_first l) x))) (cycle_is l a i);
+          ∙ ap (λ (c : Option ℕ). given (text_in l c (printed (sharp_first l) x))) (cycle_is l a i);
       some = not_empty _ (spellings_in_a_name_are_the_keys (sharp_first l) x).some;
       each = printed_sound l a i;
     }

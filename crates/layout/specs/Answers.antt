@@ -1,7 +1,6 @@
 -- What the calls answer: the questions of document 01 that concern them, in rising order, then the value.
 use Rattle.std.specs.Prelude.{ℕ, List, ltb, ℤ}
-use Rattle.answer.specs.Outcome.{Outcome, given, refused, ask, and_then}
-use Rattle.answer.specs.Refusals.{number_of}
+use Rattle.answer.specs.Outcome.{Outcome, given, ask, and_then}
 use Rattle.mos.specs.declared.Mos.{Mos}
 use Rattle.pergen.specs.declared.PerGen.{PerGen}
 use Rattle.pergen.specs.declared.Accidentals.{Accidentals}
@@ -11,8 +10,6 @@ use Rattle.layout.specs.Layouts.{Layout, layout_outcome, cycles_in, accidentals_
 use Rattle.layout.specs.ScaleNames.{scale_name}
 use Rattle.layout.specs.Names.{key_of, name_in}
 use Rattle.layout.specs.declared.IsomorphicLayout.{IsomorphicLayout}
-use Rattle.layout.specs.declared.LayoutAnswer.{LayoutAnswer}
-use Rattle.layout.specs.declared.LayoutAnswer.TheVariants as LayoutAnswer
 
 -- Questions 1 to 4 and 18 of a caller's record, then what is asked of the layout.
 abbrev pub of_layout : {A : Type 0} → IsomorphicLayout → (Layout → Outcome A) → Outcome A
@@ -58,8 +55,3 @@ sounded_in l x = ask 16 (ltb x.index l.letters) (ask 21 (ltb x.stars (cycles_in 
 unfoldable pub get_sounded_key : IsomorphicLayout → Spelling → Outcome ℕ
 unfolding layout_outcome sounded_in
 get_sounded_key r x = of_layout r (λ (l : Layout). sounded_in l x)
-
--- What each answer means.
-abbrev pub answer_outcome : LayoutAnswer → Outcome IsomorphicLayout
-answer_outcome (LayoutAnswer.Given r) = given r
-answer_outcome (LayoutAnswer.Refused q) = refused (number_of q)

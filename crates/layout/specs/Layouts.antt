@@ -1,7 +1,6 @@
 -- A layout of a chain in a tuning: questions 1 to 4 (document 01, "Questions before an answer" and "The six chains") and 18 (document
 -- 02, W-209).
-use Rattle.std.specs.Prelude.{ℕ, Bool, ◌≡◌, length, leb, ltb, ℤ}
-use Rattle.std.proofs.Math.Option.{Option, none, some}
+use Rattle.std.specs.Prelude.{ℕ, Bool, ◌≡◌, length, leb, ltb, ℤ, Option, None, Some}
 use Rattle.answer.specs.Outcome.{Outcome, given, refused, ask, and_then}
 use Rattle.genchain.specs.Chains.{chain_of}
 use Rattle.genchain.specs.Answers.{generator_outcome}
@@ -48,8 +47,8 @@ layout_with r G m =
 -- 4. "Does the walk of step patterns meet one with as many steps as the chain has letters? No: 4."
 -- 18. "18 when the start is not below the number of letters, after question 4" (document 02, W-209)
 abbrev pub with_pattern : IsomorphicLayout → ℕ → Option Mos → Outcome Layout
-with_pattern r G none = refused 4
-with_pattern r G (some m) = ask 18 (ltb r.start (letters_of r.genchain)) (given (layout_with r G m))
+with_pattern r G None = refused 4
+with_pattern r G (Some m) = ask 18 (ltb r.start (letters_of r.genchain)) (given (layout_with r G m))
 
 -- Of a caller's numbers, questions 1 to 3 give the generator, and the walk from its genesis the pattern.
 unfoldable pub layout_outcome : IsomorphicLayout → Outcome Layout
@@ -61,6 +60,12 @@ layout_outcome r =
 -- "A layout is accepted when the questions on it, here 1 to 4, all have the answer yes": and 18.
 abbrev pub Accepted : IsomorphicLayout → Layout → Type 0
 Accepted r l = layout_outcome r ≡ given l
+
+-- The numbers of an accepted layout, one by one: what the record of a layout that was found keeps.
+abbrev pub IsLaid : (chain octave tritave generator letters start : ℕ) → Mos → Type 0
+IsLaid chain octave tritave generator letters start m =
+    Accepted (record { genchain = chain; octave = octave; tritave = tritave; start = start })
+    (record { chain = chain; octave = octave; generator = generator; letters = letters; start = start; pattern = m })
 
 -- "Document 01's start column becomes the default": the record of three numbers, with the chain's own start.
 abbrev pub default_layout : (code octave tritave : ℕ) → IsomorphicLayout

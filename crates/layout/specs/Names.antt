@@ -1,8 +1,7 @@
 -- The names of a layout's keys, and the key of the octave that a spelling in a layout sounds (document 01, "Pergen and spelling").
-use Rattle.std.specs.Prelude.{ℕ, ◌<◌, List, ℤ, pos}
+use Rattle.std.specs.Prelude.{ℕ, ◌<◌, List, ℤ, pos, Option}
 use Rattle.genchain.specs.Chains.{chain_of}
 use Rattle.notes.specs.Names.{printed, printed_text, name_text}
-use Rattle.pergen.specs.declared.Cycle.{Cycle}
 use Rattle.pergen.specs.declared.Spelling.{Spelling}
 use Rattle.pergen.specs.Pergen.{cycle_of}
 use Rattle.pergen.specs.Spelling.{place, sounded_key}
@@ -30,11 +29,11 @@ unfolding printed accidentals_in
 printed_in l key = printed (sharp_first l) (accidentals_in l key)
 
 -- The key's cycle: "i mod n, absent when n is 1". Its number is how many stars the name has.
-abbrev pub cycle_in : Layout → ℤ → Cycle
+abbrev pub cycle_in : Layout → ℤ → Option ℕ
 cycle_in l key = cycle_of l.octave l.generator key
 
 -- The text of a name that holds these spellings: one alone, or two with / between, in parentheses if a cycle is present; then the stars.
-abbrev pub text_in : Layout → Cycle → List Spelling → List ℕ
+abbrev pub text_in : Layout → Option ℕ → List Spelling → List ℕ
 text_in l c spellings = printed_text (chain_of l.chain).letters (sharp_first l) c spellings
 
 -- The name of a key, as bytes.

@@ -1,9 +1,10 @@
 -- What the parts behind the calls promise, and what they ask: the definitions of this crate, by the numbers that the code carries.
-use Rattle.std.specs.Prelude.{ℕ, ◌<◌, ◌≡◌, false, ℤ, pos}
+use Rattle.std.specs.Prelude.{ℕ, ◌≡◌, false, ℤ, pos, Result, Ok, Err}
 use Rattle.answer.specs.Outcome.{Outcome, given, refused}
 use Rattle.answer.specs.Refusals.{number_of}
-use Rattle.genchain.specs.declared.rows.ChainRow.{ChainRow}
-use Rattle.genchain.specs.Chains.{chain_of, row_of}
+use Rattle.answer.specs.declared.Refusal.{Refusal}
+use Rattle.genchain.specs.Chains.{chain_of}
+use Rattle.math.specs.Division.{remainder}
 use Rattle.mos.specs.declared.Mos.{Mos}
 use Rattle.mos.specs.Patterns.{primaries, secondaries, primary, secondary}
 use Rattle.notes.specs.declared.plans.NamePlan.{NamePlan}
@@ -13,11 +14,10 @@ use Rattle.pergen.specs.declared.euclid.Solved.{Solved}
 use Rattle.pergen.specs.declared.stepping.Key.{Key}
 use Rattle.pergen.specs.Spelling.{accidentals_of}
 use Rattle.pergen.specs.Parts.{Going, solved_of, generation_from}
-use Rattle.layout.specs.Layouts.{Layout, Accepted, accidentals_in, sharp_first}
+use Rattle.layout.specs.Layouts.{Layout, layout_outcome, Accepted, accidentals_in, sharp_first}
 use Rattle.layout.specs.declared.IsomorphicLayout.{IsomorphicLayout}
+use Rattle.layout.specs.declared.one_key.OneKey.{OneKey}
 use Rattle.layout.specs.declared.parts.Found.{Found}
-use Rattle.layout.specs.declared.parts.FoundAnswer.{FoundAnswer}
-use Rattle.layout.specs.declared.parts.FoundAnswer.TheVariants as FoundAnswer
 use Rattle.layout.specs.declared.prepared.Prepared.{Prepared}
 
 -- The layout that the questions found.
@@ -32,9 +32,9 @@ layout_of f =
       pattern = f.pattern;
     }
 
-abbrev pub found_outcome : FoundAnswer → Outcome Layout
-found_outcome (FoundAnswer.Given f) = given (layout_of f)
-found_outcome (FoundAnswer.Refused q) = refused (number_of q)
+abbrev pub found_outcome : Result Found Refusal → Outcome Layout
+found_outcome (Ok f) = given (layout_of f)
+found_outcome (Err q) = refused (number_of q)
 
 -- What the parts ask of a layout: the questions have been asked, and gave it.
 pub record Laid (l : Layout) : Type 0 where
@@ -68,8 +68,7 @@ NamePlanned p k plan = PlannedIn (layout_in p) (pos k.number) plan
 abbrev pub spelled_by : Solved → (N start i : ℕ) → Accidentals
 spelled_by s N start i = accidentals_of s.reduced_period N start (generation_from s i).degree (generation_from s i).cycle
 
--- What the name of one key is written from: the chain's row, an accepted layout, and a key of its octave.
-pub record OneKey (row : ChainRow) (f : Found) (number : ℕ) : Type 0 where
-  pub row_is : row ≡ row_of (chain_of f.chain)
-  pub laid : Laid (layout_of f)
-  pub below : number < f.octave
+-- One key of a caller's layout, brought round the octave.
+abbrev pub KeyFound : IsomorphicLayout → ℤ → Result OneKey Refusal → Type 0
+KeyFound r key (Ok k) = (given (layout_of k.found) ≡ layout_outcome r) × (k.number ≡ remainder key k.found.octave)
+KeyFound r key (Err q) = refused (number_of q) ≡ layout_outcome r

@@ -1,8 +1,7 @@
 -- What a reader of key names may rely on, for every accepted layout: every chain code, octave, tritave and start that questions 1 to 4
 -- and 18 let through. Spellings are compared within one layout, so within one start. `Apart d x y` says that x and y differ by a multiple of d; "whole octaves" are multiples of the octave. Proofs: proofs/.
-use Rattle.std.specs.Prelude.{ℕ, ◌≤◌, ◌<◌, ◌≡◌, ◌↔◌, ℤ, pos, length}
+use Rattle.std.specs.Prelude.{ℕ, ◌≤◌, ◌<◌, ◌≡◌, ◌↔◌, ℤ, pos, length, Option, None, Some}
 use mathlib.Core.List.{Memᴰ}
-use Rattle.std.proofs.Math.Option.{Option, none, some}
 use Rattle.answer.specs.Outcome.{Outcome, given, refused, and_then}
 use Rattle.genchain.specs.Chains.{chain_of}
 use Rattle.genchain.specs.Answers.{generator_outcome}
@@ -77,8 +76,8 @@ KeyZeroIsTheStart =
 
 -- Document 01's layouts, of three numbers and with the chain's own start; it has no question 18.
 abbrev pub first_with_pattern : IsomorphicLayout → ℕ → Option Mos → Outcome Layout
-first_with_pattern r G none = refused 4
-first_with_pattern r G (some m) = given (layout_with r G m)
+first_with_pattern r G None = refused 4
+first_with_pattern r G (Some m) = given (layout_with r G m)
 
 unfoldable pub first_layout : (code octave tritave : ℕ) → Outcome Layout
 unfolding generator_outcome children

@@ -1,180 +1,18 @@
-// A layout, made ready, and what its keys are called: parts, and no entry points. Callers have asked questions 1 to 4 and 18.
+// A layout, made ready: a part, and no entry point. `key_names` has the functions.
 //
-// Keys, names, layers and lamps are all computed from one record, `Prepared`. A key of it is found by `pergen::stepping::key_at`, which
-// also goes on to the next; here are the key's spellings and its name. The crates `layout_layers` and `layout_lamps` have its layer and its
-// lamp. A name's letters stand in the chain's row, which a call reads once and hands on.
-ghost use Rattle.std.specs.Prelude.{◌≡◌, ◌*◌, ◌<◌, pos, length};
-ghost use Rattle.answer.specs.Lent.{held_in, Filled};
-ghost use Rattle.answer.specs.Refusals.{count_outcome};
-ghost use Rattle.math.specs.Division.{remainder};
-ghost use Rattle.genchain.specs.Chains.{chain_of, row_of};
-ghost use Rattle.pergen.specs.Parts.{Walkable, At, solved_of};
-ghost use Rattle.pergen.specs.Spelling.{key_accidentals};
-ghost use Rattle.layout.specs.Layouts.{accidentals_in};
-ghost use Rattle.layout.specs.Names.{name_in};
-ghost use Rattle.layout.specs.Parts.{layout_of, Laid, layout_in, Ready, NamePlanned, StepsLeft, spelled_by, OneKey};
+// The fact in a ghost field stands in a file that names no `Prepared`, so the record has a file of its own.
+ghost use Rattle.std.specs.Prelude.{◌≡◌};
+ghost use Rattle.pergen.specs.Parts.{solved_of};
 
+pub(crate) use crate::key_names::spelled;
+pub use crate::key_names::{key_round, plan_name, prepare, spellings};
 use crate::parts::Found;
-use answer::CountAnswer;
-use genchain::rows::ChainRow;
-use mos::Mos;
-use notes::plans::NamePlan;
-use notes::{plans, texts};
-use pergen::euclid::{Remainders, Solved};
-use pergen::stepping::Key;
-use pergen::{Accidentals, AccidentalsFormat, euclid, stepping};
+use pergen::euclid::Solved;
 
 // What the questions found, and what follows from octave and generator: cycles, reduced period, inverse.
 #[derive(Clone, Copy)]
 pub struct Prepared {
     pub found: Found,
     pub solved: Solved,
-}
-
-// The numbers that follow from octave and generator. The steps of the pattern are remainders of the extended Euclid, which goes on from
-// them: as many generators forward as there are secondary steps leave the primary step, as many backward as there are primary steps the
-// secondary one. The larger is divided first. Beside `euclid::solve`, which begins at octave and generator, this saves a name a fifth of its
-// time: the walk to the pattern stands for the divisions before it.
-fn solve_from_steps(octave: u16, generator: u16, pattern: Mos) -> Solved
-    requires { (0 < octave) × StepsLeft octave generator pattern }
-    ensures { result ≡ solved_of octave generator }
-{
-    if pattern.primary_step < pattern.secondary_step {
-        return euclid::solve_from(
-            octave,
-            generator,
-            Remainders {
-                first: pattern.secondary_step,
-                second: pattern.primary_step,
-                first_by: pattern.num_primary_steps,
-                second_by: pattern.num_secondary_steps,
-                negative: true,
-            },
-        );
-    }
-    euclid::solve_from(
-        octave,
-        generator,
-        Remainders {
-            first: pattern.primary_step,
-            second: pattern.secondary_step,
-            first_by: pattern.num_secondary_steps,
-            second_by: pattern.num_primary_steps,
-            negative: false,
-        },
-    )
-}
-
-// The two spellings of one key of the octave, by what was solved.
-pub(crate) fn spelled(solved: Solved, num_letters: u16, start: u16, number: u16) -> Accidentals
-    requires { (start < num_letters) × Walkable solved × (number < 2 * (solved.reduced_period * solved.num_cycles)) }
-    ensures { result ≡ spelled_by solved num_letters start number }
-{
-    let key = stepping::key_at(solved, number as u32);
-    let generation = stepping::generation(solved, key);
-    let format = AccidentalsFormat {
-        num_symbols: num_letters,
-        genchain_origin: start,
-    };
-    pergen::spellings::accidentals(solved.reduced_period, format, generation)
-}
-
-// The two spellings of one key for its name, by a layout's numbers one by one: for a single key the prepared record would be written in
-// pieces and read back whole, which costs a name a third more.
-pub(crate) fn spell_one(
-    octave: u16,
-    generator: u16,
-    pattern: Mos,
-    num_letters: u16,
-    start: u16,
-    number: u16,
-) -> Accidentals
-    requires { (0 < octave) × StepsLeft octave generator pattern × (start < num_letters) × (number < octave) }
-    ensures { result ≡ key_accidentals octave generator num_letters start (pos number) }
-{
-    let solved = solve_from_steps(octave, generator, pattern);
-    spelled(solved, num_letters, start, number)
-}
-
-// An accepted layout, made ready.
-pub fn prepare(found: Found) -> Prepared
-    requires { Laid (layout_of found) }
-    ensures { Ready result × (result.found ≡ found) }
-{
-    Prepared {
-        found,
-        solved: solve_from_steps(found.octave, found.generator, found.pattern),
-    }
-}
-
-// The key of the octave to which a number, below 0 too, is brought round.
-pub fn key_round(prepared: Prepared, number: i32) -> Key
-    requires { Ready prepared }
-    ensures { At prepared.solved result × (result.number ≡ remainder number prepared.found.octave) }
-{
-    let index = math::parts::rem_u16(number, prepared.found.octave);
-    stepping::key_at(prepared.solved, index as u32)
-}
-
-// The two spellings of a key.
-pub fn spellings(prepared: Prepared, key: Key) -> Accidentals
-    requires { Ready prepared × At prepared.solved key }
-    ensures { result ≡ accidentals_in (layout_in prepared) (pos key.number) }
-{
-    let found = prepared.found;
-    let solved = prepared.solved;
-    let generation = stepping::generation(solved, key);
-    let format = AccidentalsFormat {
-        num_symbols: found.num_letters,
-        genchain_origin: found.start,
-    };
-    pergen::spellings::accidentals(solved.reduced_period, format, generation)
-}
-
-// The plan of a key's name, with the letters of its chain's row. The style goes by the steps: sharp first where the primary is at least the
-// secondary.
-pub fn plan_name(prepared: Prepared, row: ChainRow, key: Key) -> NamePlan
-    requires { (row ≡ row_of (chain_of prepared.found.chain)) × Ready prepared × At prepared.solved key }
-    ensures { NamePlanned prepared key result }
-{
-    let pattern = prepared.found.pattern;
-    let spelled = spellings(prepared, key);
-    plans::plan_name(row, spelled, pattern.secondary_step <= pattern.primary_step)
-}
-
-// The two spellings of one key of the octave of an accepted layout.
-fn spelled_in(found: Found, number: u16) -> Accidentals
-    requires { Laid (layout_of found) × (number < found.octave) }
-    ensures { result ≡ accidentals_in (layout_of found) (pos number) }
-{
-    spell_one(
-        found.octave,
-        found.generator,
-        found.pattern,
-        found.num_letters,
-        found.start,
-        number,
-    )
-}
-
-// How many bytes the name of one key of the octave has.
-pub(crate) fn name_length(row: ChainRow, found: Found, number: u16) -> usize
-    requires { OneKey row found number }
-    ensures { result ≡ length (name_in (layout_of found) (pos number)) }
-{
-    let spelled = spelled_in(found, number);
-    let sharp_first = found.pattern.secondary_step <= found.pattern.primary_step;
-    let plan = plans::plan_name(row, spelled, sharp_first);
-    plans::plan_length(plan)
-}
-
-// The name of one key of the octave at the front of a slice that holds it (10).
-pub(crate) fn write_name(row: ChainRow, found: Found, number: u16, out: &mut [u8]) -> CountAnswer
-    requires { OneKey row found number }
-    ensures { Filled (held_in (length out.old) (name_in (layout_of found) (pos number))) (count_outcome result) out.old out.new }
-{
-    let spelled = spelled_in(found, number);
-    let sharp_first = found.pattern.secondary_step <= found.pattern.primary_step;
-    let plan = plans::plan_name(row, spelled, sharp_first);
-    texts::write_planned(plan, out)
+    pub ghost ready: { solved ≡ solved_of found.octave found.generator },
 }

@@ -6,7 +6,7 @@ use mathlib.Core.List.{List, [], ◌∷◌}
 use lib.Arith.{digits_div, digits_mod}
 use lib.ListN.{length, length-append, length-replicate}
 use borrow.Author.Tests.{lt-ltb, le-ltb, eq-eqb}
-use native.Mathlib.Nat.{eq-zero-or-pos, mod-eq_of_lt, div-eq_of_lt, div-add-mod', le-div_iff_mul-le, mul-le-mul, mul-le-mul_right, le_refl, mul_comm, add-mul, mul-add, one-mul, zero-mul, zero-add}
+use native.Mathlib.Nat.{eq-zero-or-pos, mod-eq_of_lt, div-eq_of_lt, le-div_iff_mul-le, mul-le-mul, mul-le-mul_right, mul_comm, add-mul, mul-add, one-mul, zero-mul, zero-add}
 use mathlib.Core.Logic.{◌⊎◌, inl, inr}
 use native.Mathlib.Omega.{arith}
 use Rattle.text.specs.Writing.{joined}
@@ -132,13 +132,6 @@ module _ (p : Prepared) where
         ∙ sym (length_joined_sum (stretch_name p (rounds + 1)) middle))
 
 -- ---- as many rounds as fit twice, beside the letters alone
-
-pub rounds_fit : (n R : ℕ) → 0 < n → n ≤ R → n * (2 * ((R / n - 1) / 2) + 1) ≤ R
-rounds_fit n R some l =
-    let one : 1 ≤ R / n = (le-div_iff_mul-le some).1 (omega (arith, one-mul n, l)) in
-    let few : 2 * ((R / n - 1) / 2) + 1 ≤ R / n = omega (arith, one) in
-    let all : n * (2 * ((R / n - 1) / 2) + 1) ≤ n * (R / n) = mul-le-mul {n₂ = n} {m₂ = R / n} (le_refl n) few in
-    omega (arith, all, mul_comm n (R / n), div-add-mod' R n)
 
 module _ (p : Prepared) (h : Numbers p) (rounds : ℕ) (fit : p.found.num_letters * (2 * rounds + 1) ≤ p.solved.reduced_period) where
   abbrev n : ℕ

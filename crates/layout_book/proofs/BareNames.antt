@@ -1,5 +1,6 @@
 -- A name is the bare name of its degree and a star for each cycle before its own; bare names are the same in the order of the keys and
 -- along the chain.
+use Rattle.std.specs.Prelude.{None, Option, Some}
 use Prim.Native.Nat.{ℕ, ◌+◌, ◌*◌, ◌-◌, ◌/◌, ◌%◌, ◌≤◌, ◌<◌}
 use mathlib.Core.Path.{◌≡◌, refl, sym, ap, ap₂, ◌∙◌}
 use mathlib.Core.Bool.{Bool, true, false}
@@ -22,8 +23,6 @@ use Rattle.layout.specs.Parts.{layout_in}
 use Rattle.layout.proofs.Readiness.{parts_ready, spellings_are}
 use Rattle.notes.specs.Names.{letter_alone, printed, in_order, spelling_text, spellings_text, name_text}
 use Rattle.pergen.specs.declared.Accidentals.{Accidentals}
-use Rattle.pergen.specs.declared.Cycle.{Cycle}
-use Rattle.pergen.specs.declared.Cycle.TheVariants.{Absent, Number}
 use Rattle.pergen.specs.declared.Generation.{Generation}
 use Rattle.pergen.specs.declared.Spelling.{Spelling}
 use Rattle.pergen.specs.declared.euclid.Solved.{Solved}
@@ -40,7 +39,7 @@ use Rattle.layout_book.proofs.Rounds.{length_joined_sum, stars_below, growing_su
 -- ---- stars
 
 -- the spellings of coordinates, by the tests that tell which are printed
-abbrev tested : Cycle → ℕ → ℕ → ℕ → Bool → Bool → Bool → Bool → List Spelling
+abbrev tested : Option ℕ → ℕ → ℕ → ℕ → Bool → Bool → Bool → Bool → List Spelling
 tested c N sharp flat x y z w =
     let a = by_coordinates c N sharp flat in
     pick x (sharp_spelling a ∷ [])
@@ -49,8 +48,8 @@ tested c N sharp flat x y z w =
 module _ (letters : List ℕ) (sf : Bool) (N sharp flat : ℕ) where
   -- parentheses do not go by the number
   same_tested : (c : ℕ) (x y z w : Bool)
-      → spellings_text letters sf (Number c) (tested (Number c) N sharp flat x y z w)
-      ≡ spellings_text letters sf (Number 0) (tested (Number 0) N sharp flat x y z w)
+      → spellings_text letters sf (Some c) (tested (Some c) N sharp flat x y z w)
+      ≡ spellings_text letters sf (Some 0) (tested (Some 0) N sharp flat x y z w)
   unfolding sharp_spelling flat_spelling by_coordinates spelling_text
   same_tested c true y z w = refl
   same_tested c false true z w = refl
@@ -59,11 +58,11 @@ module _ (letters : List ℕ) (sf : Bool) (N sharp flat : ℕ) where
   same_tested c false false false false = refl
 
   same_spellings : (c : ℕ)
-      → spellings_text letters sf (Number c) (printed sf (by_coordinates (Number c) N sharp flat))
-      ≡ spellings_text letters sf (Number 0) (printed sf (by_coordinates (Number 0) N sharp flat))
+      → spellings_text letters sf (Some c) (printed sf (by_coordinates (Some c) N sharp flat))
+      ≡ spellings_text letters sf (Some 0) (printed sf (by_coordinates (Some 0) N sharp flat))
   unfolding printed letter_alone by_coordinates
   same_spellings c =
-      same_tested c (letter_alone (by_coordinates (Number c) N sharp flat)) (ltb (sharp / N) (flat / N)) (ltb (flat / N) (sharp / N)) sf
+      same_tested c (letter_alone (by_coordinates (Some c) N sharp flat)) (ltb (sharp / N) (flat / N)) (ltb (flat / N) (sharp / N)) sf
 
   starred : (n c : ℕ) → c < n
       → name_text letters sf (by_coordinates (shown n c) N sharp flat)
@@ -78,12 +77,12 @@ module _ (letters : List ℕ) (sf : Bool) (N sharp flat : ℕ) where
           rw (q, append-nil) (ap (λ (t : List ℕ). t ++ replicate c 42) (same_spellings c))
       by false q =
           let z : c ≡ 0 = omega (arith, ltb-false 1 n q) in
-          rw (q, z) (sym (append-nil (name_text letters sf (by_coordinates Absent N sharp flat))))
+          rw (q, z) (sym (append-nil (name_text letters sf (by_coordinates None N sharp flat))))
 
 pub no_stars : (n : ℕ) → stars_of (shown n 0) ≡ 0
 no_stars n = by (ltb 1 n)
   where
-    by : (b : Bool) → stars_of (pick b (Number 0) Absent) ≡ 0
+    by : (b : Bool) → stars_of (pick b (Some 0) None) ≡ 0
     by true = refl
     by false = refl
 

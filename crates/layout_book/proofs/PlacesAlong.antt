@@ -1,7 +1,8 @@
 -- One place on along the chain, past the letters alone: both indices go up by one; where the letters begin anew there is a sharp more, or
 -- a flat less.
+use Rattle.std.specs.Prelude.{Option}
 use Prim.Native.Nat.{ℕ, ◌+◌, ◌*◌, ◌-◌, ◌/◌, ◌%◌, ◌≤◌, ◌<◌}
-use mathlib.Core.Path.{◌≡◌, refl, sym, ap, ap₂, ◌∙◌}
+use mathlib.Core.Path.{◌≡◌, refl, sym, ap, ap₂, ◌∙◌, subst}
 use mathlib.Core.Bool.{Bool, true, false}
 use lib.Arith.{digits_div, digits_mod}
 use lib.Dec.{ltb}
@@ -19,11 +20,10 @@ use Rattle.notes.specs.Names.{name_text}
 use Rattle.notes.specs.Parts.{Measured}
 use Rattle.notes.specs.declared.plans.NamePlan.{NamePlan}
 use Rattle.pergen.specs.declared.Accidentals.{Accidentals}
-use Rattle.pergen.specs.declared.Cycle.{Cycle}
 use Rattle.pergen.specs.Pergen.{shown}
 use Rattle.pergen.specs.Spelling.{by_coordinates}
 use Rattle.pergen.proofs.CarriedWalk.{stay_high, stay_low, carry_high, carry_low}
-use Rattle.layout_book.specs.Parts.{SpelledPlanned, place_at, bare_at, stretch_name, Stretch}
+use Rattle.layout_book.specs.Parts.{SpelledPlanned, place_at, one_place_on, CanGoOn, bare_at, stretch_name, Stretch}
 use Rattle.layout_book.proofs.ReadyNumbers.{Numbers}
 use Rattle.layout_book.proofs.BareNames.{bare_short}
 use Rattle.layout_book.proofs.BareLengths.{flat_past_letters}
@@ -149,16 +149,12 @@ module _ (N : ℕ) (some : 0 < N) where
 
 -- ---- a loop that adds the lengths of a stretch's names
 
-abbrev pub spelled_by : Cycle → (sharp sharps flat flats : ℕ) → Accidentals
-spelled_by c sharp sharps flat flats =
-    record { cycle = c; sharp_index = sharp; sharp_count = sharps; flat_index = flat; flat_count = flats }
-
--- before a place, indices and counts are the place's, and the total is the length of the names before it
-pub record Adding (p : Prepared) (from end : ℕ) (c : Cycle) (place sharp sharps flat flats total : ℕ) : Type 0 where
+-- before a place, the spellings are the place's, and the total is the length of the names before it
+pub record Adding (p : Prepared) (from end place : ℕ) (a : Accidentals) (total : ℕ) : Type 0 where
   pub numbers : Numbers p
   pub stretch : Stretch p from end
-  pub cycle_is : c ≡ shown p.solved.num_cycles 0
-  pub placed : Placed p.found.num_letters p.solved.reduced_period place sharp sharps flat flats
+  pub cycle_is : a.cycle ≡ shown p.solved.num_cycles 0
+  pub placed : Placed p.found.num_letters p.solved.reduced_period place a.sharp_index a.sharp_count a.flat_index a.flat_count
   pub begun : p.found.num_letters * from ≤ place
   pub inside : place ≤ end
   pub is : total ≡ length (joined (stretch_name p from) (place - p.found.num_letters * from))
@@ -175,9 +171,17 @@ module _ (p : Prepared) (h : Numbers p) (from end : ℕ) (w : Stretch p from end
       let q : N * 1 ≤ N * from = mul-le-mul {n₂ = N} {m₂ = from} (le_refl N) w.past in
       omega (arith, mul-one N, q)
 
-  pub adding_first : {c : Cycle} {flat : ℕ} → c ≡ shown p.solved.num_cycles 0
+  pub adding_first : {c : Option ℕ} {flat : ℕ} → c ≡ shown p.solved.num_cycles 0
       → flat ≡ p.solved.reduced_period + (p.found.num_letters - 1) - first
-      → Adding p from end c first 0 from (p.found.num_letters - 1 - flat % p.found.num_letters) (flat / p.found.num_letters) 0
+      → Adding p from end first
+      (record {
+        cycle = c;
+        sharp_index = 0;
+        sharp_count = from;
+        flat_index = p.found.num_letters - 1 - flat % p.found.num_letters;
+        flat_count = flat / p.found.num_letters;
+      })
+      0
   adding_first e q =
       let none : first - first ≡ 0 = omega arith in
       record {
@@ -191,8 +195,7 @@ module _ (p : Prepared) (h : Numbers p) (from end : ℕ) (w : Stretch p from end
         small = omega arith;
       }
 
-module _ {p : Prepared} {from end : ℕ} {c : Cycle} {place sharp sharps flat flats total : ℕ}
-    (w : Adding p from end c place sharp sharps flat flats total) where
+module _ {p : Prepared} {from end place : ℕ} {a : Accidentals} {total : ℕ} (w : Adding p from end place a total) where
   abbrev N : ℕ
   N = p.found.num_letters
 
@@ -202,12 +205,6 @@ module _ {p : Prepared} {from end : ℕ} {c : Cycle} {place sharp sharps flat fl
   some_letters : 0 < N
   some_letters = omega (arith, w.numbers.five)
 
-  pub sharp_below : sharp < N
-  sharp_below = sharp_inside N some_letters R place sharp sharps flat flats w.placed
-
-  pub flat_below : flat < N
-  flat_below = flat_inside N some_letters R place sharp sharps flat flats w.placed
-
   module _ (more : place < end) where
     below : place < R
     below = omega (arith, w.stretch.end_inside)
@@ -215,52 +212,57 @@ module _ {p : Prepared} {from end : ℕ} {c : Cycle} {place sharp sharps flat fl
     past : N ≤ place
     past = omega (arith, first_past p w.numbers from end w.stretch, w.begun)
 
-    pub sharps_fit : {b : ℕ} → b ≡ (sharp + 1) / N → sharps + b ≤ 65535
-    sharps_fit {b} e =
-        let next = placed_next N some_letters R place sharp sharps flat flats w.placed below refl e refl refl in
-        omega (arith, next.sharps_is, div-le_self (place + 1) N, below, w.numbers.few_degrees)
+    next : Placed N R (place + 1) ((a.sharp_index + 1) % N) (a.sharp_count + (a.sharp_index + 1) / N) ((a.flat_index + 1) % N)
+        (a.flat_count - (a.flat_index + 1) / N)
+    next = placed_next N some_letters R place a.sharp_index a.sharp_count a.flat_index a.flat_count w.placed below refl refl refl refl
 
-    -- there is a flat to take away
-    pub flat_left : {b : ℕ} → b ≡ (flat + 1) / N → b ≤ flats
-    flat_left e = some_flats N some_letters R place sharp sharps flat flats w.placed below past e
+    pub can_go_on : CanGoOn N a
+    can_go_on =
+        record {
+          sharp_inside = sharp_inside N some_letters R place a.sharp_index a.sharp_count a.flat_index a.flat_count w.placed;
+          sharps_fit = omega (arith, next.sharps_is, div-le_self (place + 1) N, below, w.numbers.few_degrees);
+          flat_inside = flat_inside N some_letters R place a.sharp_index a.sharp_count a.flat_index a.flat_count w.placed;
+          flat_left = some_flats N some_letters R place a.sharp_index a.sharp_count a.flat_index a.flat_count w.placed below past refl;
+        }
 
     -- with the name at the place, by a plan of it that was measured
-    module _ {plan : NamePlan} {m : ℕ} (planned : SpelledPlanned p (spelled_by c sharp sharps flat flats) plan) (measured : Measured plan m) where
-      place_is : spelled_by c sharp sharps flat flats ≡ place_at p place
+    module _ {plan : NamePlan} {m : ℕ} (planned : SpelledPlanned p a plan) (measured : Measured plan m) where
+      place_is : a ≡ place_at p place
       unfolding place_at by_coordinates
       place_is =
-          let a = w.placed in
-          rw (w.cycle_is, a.sharp_is, a.sharps_is, a.flat_is, a.flats_is, flat_past_letters p place past) refl
+          ap₂ (λ (c : Option ℕ) (i : ℕ). record { cycle = c; sharp_index = i; sharp_count = a.sharp_count; flat_index = a.flat_index; flat_count = a.flat_count })
+          w.cycle_is w.placed.sharp_is
+          ∙ rw (w.placed.sharps_is, w.placed.flat_is, w.placed.flats_is, flat_past_letters p place past) refl
 
       name_is : m ≡ length (bare_at p place)
       unfolding bare_at
       name_is =
           measured.length_is
           ∙ ap length planned.text
-          ∙ ap (λ (a : Accidentals). length (name_text (chain_of p.found.chain).letters (sharp_first (layout_in p)) a)) place_is
+          ∙ ap (λ (x : Accidentals). length (name_text (chain_of p.found.chain).letters (sharp_first (layout_in p)) x)) place_is
 
       pub total_fits : total + m ≤ 39325 * 65535
       total_fits = omega (arith, w.small, name_is, bare_short p w.numbers place below, below, w.numbers.few_degrees)
 
-      pub adding_next : {a b d e : ℕ} → a ≡ (sharp + 1) % N → b ≡ (sharp + 1) / N → d ≡ (flat + 1) % N → e ≡ (flat + 1) / N
-          → Adding p from end c (place + 1) a (sharps + b) d (flats - e) (total + m)
+      pub adding_next : {b : Accidentals} → b ≡ one_place_on N a → Adding p from end (place + 1) b (total + m)
       unfolding stretch_name
-      adding_next ea eb ed ee =
+      adding_next {b} e =
           let k = place - N * from in
           let here : N * from + k ≡ place = omega (arith, w.begun) in
           let on : place + 1 - N * from ≡ k + 1 = omega (arith, w.begun) in
-          record {
+          subst (λ (x : Accidentals). Adding p from end (place + 1) x (total + m)) (sym e)
+          (record {
             numbers = w.numbers;
             stretch = w.stretch;
             cycle_is = w.cycle_is;
-            placed = placed_next N some_letters R place sharp sharps flat flats w.placed below ea eb ed ee;
+            placed = next;
             begun = omega (arith, w.begun);
             inside = omega (arith, more);
             is =
                 ap₂ (λ (x y : ℕ). x + y) w.is (name_is ∙ ap (λ (x : ℕ). length (bare_at p x)) (sym here))
                 ∙ sym (ap (λ (x : ℕ). length (joined (stretch_name p from) x)) on ∙ length_joined_more (stretch_name p from) k);
             small = omega (arith, w.small, on, bare_short p w.numbers place below, name_is);
-          }
+          })
 
   pub all_added : end ≤ place → (total ≡ length (joined (stretch_name p from) (end - N * from))) × (total ≤ 39325 * 65535)
   all_added done =

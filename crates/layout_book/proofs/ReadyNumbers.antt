@@ -1,12 +1,14 @@
 -- The numbers of a layout that was made ready, and their bounds: N letters, R degrees, n cycles, the inverse and the start.
 use Prim.Native.Nat.{ℕ, ◌*◌, ◌/◌, ◌%◌, ◌≤◌, ◌<◌}
-use mathlib.Core.Path.{◌≡◌}
+use mathlib.Core.Path.{◌≡◌, sym, subst}
 use Rattle.layout.specs.declared.prepared.Prepared.{Prepared}
 use Rattle.layout.specs.Parts.{layout_in, Ready}
 use Rattle.layout.proofs.Finding.{Parts}
+use Rattle.layout.proofs.Kept.{made_ready}
 use Rattle.layout.proofs.PatternShape.{PatternShape, pattern_shape}
 use Rattle.layout.proofs.Readiness.{parts_ready, ready_walkable, ready_octave}
 use Rattle.pergen.specs.Pergen.{cycles}
+use Rattle.pergen.specs.declared.euclid.Solved.{Solved}
 use Rattle.pergen.specs.Parts.{solved_of, Walkable}
 use Rattle.pergen.proofs.Inverse.{numbers}
 use Rattle.layout_book.proofs.NameBounds as Bounds
@@ -47,12 +49,19 @@ module _ (p : Prepared) (h : Ready p) (small : p.found.octave ≤ 65535) where
         five = shape.at_least_five;
         nine = shape.at_most_nine;
         start_below = shape.start_below;
-        enough = rw h.solved_is shape.enough_keys;
+        enough = by (λ (s : Solved). p.found.num_letters ≤ s.reduced_period) shape.enough_keys;
         walkable = ready_walkable p h;
         octave_is = ready_octave p h;
         few_keys = small;
-        few_degrees = rw h.solved_is (Bounds.few_degrees (layout_in p) parts small);
-        few_cycles = rw h.solved_is (Bounds.few_cycles (layout_in p) parts small);
+        few_degrees = by (λ (s : Solved). s.reduced_period ≤ 65535) (Bounds.few_degrees (layout_in p) parts small);
+        few_cycles = by (λ (s : Solved). s.num_cycles ≤ 13107) (Bounds.few_cycles (layout_in p) parts small);
         partner = G / cycles P G;
-        partner_is = rw h.solved_is (numbers P G parts.positive).one;
+        partner_is = by (λ (s : Solved). s.generator_inverse * (G / cycles P G) % s.reduced_period ≡ 1 % s.reduced_period) (numbers P G parts.positive).one;
       }
+    where
+      -- what holds of the numbers that follow holds of those that were solved
+      by : (F : Solved → Type 0) → F (solved_of P G) → F p.solved
+      by F = subst F (sym h.solved_is)
+
+pub made_numbers : (p : Prepared) → p.found.octave ≤ 65535 → Numbers p
+made_numbers p = ready_numbers p (made_ready p)

@@ -1,10 +1,10 @@
 -- The spellings at a place along the chain: a letter alone, or one with sharps and one with flats, by quotients and what is left.
+use Rattle.std.specs.Prelude.{Option}
 use Prim.Native.Nat.{ℕ, ◌+◌, ◌*◌, ◌-◌, ◌/◌, ◌%◌, ◌≤◌, ◌<◌}
 use mathlib.Core.Path.{◌≡◌, refl, ap, ◌∙◌}
 use borrow.Author.Tests.{lt-ltb, le-ltb}
 use native.Mathlib.Nat.{mod-lt, mod-eq_of_lt, div-eq_of_lt, div-add-mod', mul_comm}
 use native.Mathlib.Omega.{arith}
-use Rattle.pergen.specs.declared.Cycle.{Cycle}
 use Rattle.pergen.specs.Spelling.{by_coordinates}
 use Rattle.layout_book.specs.Parts.{flat_beside}
 
@@ -14,7 +14,7 @@ rounds_below N x {q} e = omega (arith, ap (λ (y : ℕ). N * y) e, mul_comm N (x
 pub rest_below : (N x : ℕ) → 0 < N → {q : ℕ} → q ≡ x / N → x - N * q ≤ N - 1
 rest_below N x some {q} e = omega (arith, ap (λ (y : ℕ). N * y) e, mul_comm N (x / N), div-add-mod' x N, mod-lt x some)
 
-module _ (N R p : ℕ) (c : Cycle) where
+module _ (N R p : ℕ) (c : Option ℕ) where
   pub place_alone : p < N → record { cycle = c; sharp_index = p; sharp_count = 0; flat_index = p; flat_count = 0 } ≡ by_coordinates c N p (flat_beside R N p)
   unfolding by_coordinates flat_beside
   place_alone l =

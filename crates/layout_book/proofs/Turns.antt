@@ -1,4 +1,5 @@
 -- The entries of a book, turn by turn: there is room for the names of one degree, and then the next degree's are due.
+use Rattle.std.specs.Prelude.{Option}
 use Prim.Native.Nat.{ℕ, ◌+◌, ◌*◌, ◌%◌, ◌≤◌, ◌<◌}
 use native.Mathlib.Nat.{mod-lt, mod-mod, mod-add-mod, mod-eq_of_lt, add_comm, add-zero, add-mul, one-mul, zero-mul, mul-le-mul_right, le_antisymm}
 use native.Mathlib.Omega.{arith}
@@ -16,7 +17,6 @@ use Rattle.math.proofs.Congruence.{add_cong}
 use Rattle.notes.specs.Parts.{starred_text}
 use Rattle.notes.specs.declared.plans.NamePlan.{NamePlan}
 use Rattle.pergen.specs.declared.Accidentals.{Accidentals}
-use Rattle.pergen.specs.declared.Cycle.{Cycle}
 use Rattle.pergen.specs.Pergen.{shown}
 use Rattle.pergen.specs.Spelling.{by_coordinates}
 use Rattle.pergen.proofs.CarriedWalk.{degree_start, degree_on}
@@ -127,7 +127,7 @@ module _ (p : Prepared) (h : Numbers p) (t : ℕ) (inside : t < p.solved.reduced
 -- ---- a loop that writes them, a turn after the other
 
 -- before a turn: its place along the chain, where its first name is due, and all entries before it
-pub record Entering (p : Prepared) (before : List ℕ) (c : Cycle) (after : List ℕ) (pair text place turn : ℕ) : Type 0 where
+pub record Entering (p : Prepared) (before : List ℕ) (c : Option ℕ) (after : List ℕ) (pair text place turn : ℕ) : Type 0 where
   pub numbers : Numbers p
   pub room : Room before 4 (entries_in (layout_in p))
   pub cycle_is : c ≡ shown p.solved.num_cycles 0
@@ -136,7 +136,7 @@ pub record Entering (p : Prepared) (before : List ℕ) (c : Cycle) (after : List
   pub entries : Entries p before (turn * p.solved.num_cycles) after pair text
   pub inside : turn ≤ p.solved.reduced_period
 
-pub entering_first : (p : Prepared) → Numbers p → (out : List ℕ) → Room out 4 (entries_in (layout_in p)) → {c : Cycle}
+pub entering_first : (p : Prepared) → Numbers p → (out : List ℕ) → Room out 4 (entries_in (layout_in p)) → {c : Option ℕ}
     → c ≡ shown p.solved.num_cycles 0 → Entering p out c out 4 (4 + 8 * p.found.octave) p.found.start 0
 entering_first p h out room e =
     let none = sym (zero-mul p.solved.num_cycles) in
@@ -150,7 +150,7 @@ entering_first p h out room e =
       inside = omega arith;
     }
 
-module _ {p : Prepared} {xs : List ℕ} {c : Cycle} {ys : List ℕ} {pair text place turn : ℕ}
+module _ {p : Prepared} {xs : List ℕ} {c : Option ℕ} {ys : List ℕ} {pair text place turn : ℕ}
     (w : Entering p xs c ys pair text place turn) where
   pub place_below : place < p.solved.reduced_period
   place_below = turn_below p w.numbers turn w.place_is
@@ -169,7 +169,7 @@ module _ {p : Prepared} {xs : List ℕ} {c : Cycle} {ys : List ℕ} {pair text p
           let N = p.found.num_letters in
           let R = p.solved.reduced_period in
           subst (λ (x : Accidentals). SpelledPlanned p x plan)
-          (spelled ∙ ap (λ (x : Cycle). by_coordinates x N place (flat_beside R N place)) w.cycle_is ∙ ap (place_at p) w.place_is)
+          (spelled ∙ ap (λ (x : Option ℕ). by_coordinates x N place (flat_beside R N place)) w.cycle_is ∙ ap (place_at p) w.place_is)
           planned
 
       pub turn_fits : CyclesFit ys plan p.solved.num_cycles pair text

@@ -1,6 +1,6 @@
 -- What the parts behind the calls promise: names without stars along the chain, the length of an octave's names, and two texts that grow
 -- side by side in one slice, the pairs and the names.
-use Rattle.std.specs.Prelude.{ℕ, ◌+◌, ◌*◌, ◌-◌, ◌/◌, ◌≤◌, ◌<◌, ◌≡◌, List, ◌++◌, ltb, length}
+use Rattle.std.specs.Prelude.{ℕ, ◌+◌, ◌*◌, ◌-◌, ◌/◌, ◌%◌, ◌≤◌, ◌<◌, ◌≡◌, List, ◌++◌, ltb, length}
 use Rattle.answer.specs.Choice.{pick}
 use Rattle.text.specs.Writing.{Room, Wrote, joined}
 use Rattle.text.specs.LittleEndian.{le32}
@@ -33,6 +33,25 @@ unfolding by_coordinates flat_beside
 place_at p place =
     let N = p.found.num_letters in
     by_coordinates (shown p.solved.num_cycles 0) N place (flat_beside p.solved.reduced_period N place)
+
+-- The spellings at the next place, past the letters alone: each index is that of the next letter, and where the letters begin anew there is
+-- a sharp more, or a flat less.
+abbrev pub one_place_on : (N : ℕ) → Accidentals → Accidentals
+one_place_on N a =
+    record {
+      cycle = a.cycle;
+      sharp_index = (a.sharp_index + 1) % N;
+      sharp_count = a.sharp_count + (a.sharp_index + 1) / N;
+      flat_index = (a.flat_index + 1) % N;
+      flat_count = a.flat_count - (a.flat_index + 1) / N;
+    }
+
+-- Indices of letters, one sharp more that fits 16 bits, and a flat to take away.
+pub record CanGoOn (N : ℕ) (a : Accidentals) : Type 0 where
+  pub sharp_inside : a.sharp_index < N
+  pub sharps_fit : a.sharp_count + (a.sharp_index + 1) / N ≤ 65535
+  pub flat_inside : a.flat_index < N
+  pub flat_left : (a.flat_index + 1) / N ≤ a.flat_count
 
 -- The name there.
 unfoldable pub bare_at : Prepared → ℕ → List ℕ

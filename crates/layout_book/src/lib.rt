@@ -8,38 +8,36 @@
 #![tactic(auto)]
 
 pub mod lengths;
+pub mod naming;
 pub mod parts;
+mod places;
 
 ghost use Rattle.std.specs.Prelude.{◌≡◌, length};
+ghost use Rattle.answer.specs.Refusals.{outcome_of};
 ghost use Rattle.answer.specs.Lent.{in_room, counted, Filled};
-ghost use Rattle.answer.specs.Refusals.{count_outcome};
 ghost use Rattle.layout_book.specs.LayoutBooks.{get_book};
 
-use answer::CountAnswer;
+use crate::naming::Naming;
+use answer::Refusal;
 use genchain::rows;
-use layout::parts::FoundAnswer;
 use layout::{IsomorphicLayout, prepared};
 
 // How many bytes the book of a layout's key names has (1, 2, 3, 4, 18).
-pub fn book_len(layout: IsomorphicLayout) -> CountAnswer
-    ensures { count_outcome result ≡ counted (get_book layout) }
+pub fn book_len(layout: IsomorphicLayout) -> Result<usize, Refusal>
+    ensures { outcome_of result ≡ counted (get_book layout) }
 {
     let row = rows::row(layout.genchain);
-    match layout::parts::ask_with_row(layout, row) {
-        FoundAnswer::Refused(q) => CountAnswer::Refused(q),
-        FoundAnswer::Given(found) => {
-            CountAnswer::Given(parts::book_length(prepared::prepare(found), row))
-        }
-    }
+    let found = layout::parts::ask_with_row(layout, row)?;
+    let prepared = prepared::prepare(found);
+    Ok(Naming { prepared, row }.book_length())
 }
 
 // The book of the names of an octave's keys, which `book` looks a key up in (1, 2, 3, 4, 18, 10).
-pub fn write_book(layout: IsomorphicLayout, out: &mut [u8]) -> CountAnswer
-    ensures { Filled (in_room (length out.old) (get_book layout)) (count_outcome result) out.old out.new }
+pub fn write_book(layout: IsomorphicLayout, out: &mut [u8]) -> Result<usize, Refusal>
+    ensures { Filled (in_room (length out.old) (get_book layout)) (outcome_of result) out.old out.new }
 {
     let row = rows::row(layout.genchain);
-    match layout::parts::ask_with_row(layout, row) {
-        FoundAnswer::Refused(q) => CountAnswer::Refused(q),
-        FoundAnswer::Given(found) => parts::write_names(prepared::prepare(found), row, out),
-    }
+    let found = layout::parts::ask_with_row(layout, row)?;
+    let prepared = prepared::prepare(found);
+    Naming { prepared, row }.write_book(out)
 }

@@ -3,7 +3,7 @@ use Prim.Native.Nat.{ℕ, ◌+◌, ◌≤◌, ◌<◌}
 use native.Mathlib.Nat.{le_of_dvd}
 use native.Mathlib.Omega.{arith}
 use mathlib.Core.Bool.{Bool}
-use mathlib.Core.Path.{◌≡◌, refl, sym, ap, ◌∙◌, subst}
+use mathlib.Core.Path.{◌≡◌, refl, sym, ap, ap₂, ◌∙◌, subst}
 use mathlib.Core.List.{List, ◌++◌}
 use lib.Dec.{ltb}
 use lib.ListN.{length, length-append, replicate, length-replicate}
@@ -12,47 +12,31 @@ use Rattle.answer.specs.Outcome.{Outcome, given, refused, and_then}
 use Rattle.answer.specs.Lent.{held_in, in_room, counted, Filled}
 use Rattle.answer.proofs.Asked.{given_same, asked_yes, asked_rest}
 use Rattle.answer.proofs.Questions.{ask_above, ask_below}
-use Rattle.genchain.specs.Chains.{chain_of, row_of, TableRow, letters_in}
+use Rattle.genchain.specs.Chains.{chain_of, row_of, letters_in}
 use Rattle.genchain.specs.declared.rows.ChainRow.{ChainRow}
 use Rattle.genchain.proofs.TableRows.{table_row, row_letters}
-use Rattle.math.specs.Gcd.{gcd_or_one}
 use Rattle.math.proofs.Gcd.{gcd_is}
 use Rattle.notes.specs.Names.{signs_in, signs_text, letter_text, letter_at, spelling_text}
 use Rattle.pergen.specs.Pergen.{cycles}
-use Rattle.pergen.proofs.Calls.{cycles_found}
 use Rattle.pergen.proofs.Inverse.{reduced_positive}
 use Rattle.pergen.specs.declared.Signs.{Signs}
 use Rattle.pergen.specs.declared.Signs.TheVariants.{Sharps, Flats}
 use Rattle.pergen.specs.declared.Spelling.{Spelling}
 use Rattle.layout.specs.Layouts.{Layout, layout_outcome, cycles_in, sharp_first}
-use Rattle.layout.specs.Parts.{layout_of, Laid}
+use Rattle.layout.specs.Parts.{Laid}
 use Rattle.layout.specs.declared.IsomorphicLayout.{IsomorphicLayout}
-use Rattle.layout.specs.declared.parts.Found.{Found}
 use Rattle.layout.proofs.Finding.{Parts, laid}
-use Rattle.layout.proofs.Calls.{of_refused, of_given, laid_of, row_found, filled_as}
+use Rattle.layout.proofs.Calls.{of_refused, of_given, filled_as}
 use Rattle.layout_reading.specs.Answers.{typed_in}
-use Rattle.layout_reading.specs.Parts as Reading
 use Rattle.layout_reading.specs.Theorems.{text_of}
 use Rattle.layout_reading.proofs.NothingElse.{told_in_lem}
 use Rattle.layout_explaining.specs.Explanations.{explanation_of}
 use Rattle.layout_explaining.specs.Sentences.{sentences, start_text, explanation_text}
 use Rattle.layout_explaining.specs.Answers.{compared_in, explained_in, get_explanation, told_in, get_explanation_text}
-use Rattle.layout_explaining.specs.Parts.{Asked, Telling}
+use Rattle.layout_explaining.specs.Parts.{CountingOf, Telling}
+use Rattle.layout_explaining.specs.declared.measures.Counting.{Counting}
 use Rattle.layout_explaining.specs.declared.Explanation.{Explanation}
 use Rattle.layout_explaining.proofs.Wording.{letter_short}
-
--- ---- what reading asks
-
-pub reading_asked : (row : ChainRow) (found : Found) → Asked row found → (n : ℕ) → n ≡ gcd_or_one found.octave found.generator
-    → Reading.Asked row found n
-reading_asked row found a n e =
-    record {
-      row_is = a.row_is;
-      laid = a.laid;
-      cycles_are =
-          cycles_found found.octave found.generator n
-          (λ z. let p = (laid (layout_of found) a.laid).positive in let w : ⊥ = omega arith in w) e;
-    }
 
 -- ---- question 21 of both
 
@@ -79,14 +63,14 @@ abbrev Compare : Layout → Outcome Spelling → Outcome Spelling → Outcome Ex
 Compare l o p = and_then o (λ (x : Spelling). and_then p (λ (y : Spelling). compared_in l x y))
 
 module _ (l : Layout) (first second : List ℕ) where
-  pub first_refused : refused 23 ≡ typed_in l first → refused 23 ≡ explained_in l first second
+  pub first_refused : (n : ℕ) → refused n ≡ typed_in l first → refused n ≡ explained_in l first second
   unfolding explained_in
-  first_refused e = ap (λ (o : Outcome Spelling). Compare l o (typed_in l second)) e
+  first_refused n e = ap (λ (o : Outcome Spelling). Compare l o (typed_in l second)) e
 
   module _ (x : Spelling) (e : given x ≡ typed_in l first) where
-    pub second_refused : refused 23 ≡ typed_in l second → refused 23 ≡ explained_in l first second
+    pub second_refused : (n : ℕ) → refused n ≡ typed_in l second → refused n ≡ explained_in l first second
     unfolding explained_in
-    second_refused f = ap (λ (p : Outcome Spelling). Compare l (given x) p) f ∙ ap (λ (o : Outcome Spelling). Compare l o (typed_in l second)) e
+    second_refused n f = ap (λ (p : Outcome Spelling). Compare l (given x) p) f ∙ ap (λ (o : Outcome Spelling). Compare l o (typed_in l second)) e
 
     pub both_typed : (y : Spelling) → given y ≡ typed_in l second → (o : Outcome Explanation) → o ≡ compared_in l x y → o ≡ explained_in l first second
     unfolding explained_in
@@ -148,15 +132,15 @@ length_typed l x =
       length-replicate {A = ℕ} x.stars 42,
     )
 
-cycles_small : (l : Layout) → Parts l → cycles_in l ≤ l.octave
+cycles_small : (l : Layout) → 0 < l.octave → cycles_in l ≤ l.octave
 unfolding cycles
-cycles_small l a = le_of_dvd a.positive (gcd_is l.octave l.generator).left
+cycles_small l h = le_of_dvd h (gcd_is l.octave l.generator).left
 
 typed_short : (l : Layout) → Parts l → l.octave ≤ 65535 → (text : List ℕ) (x : Spelling) → typed_in l text ≡ given x → x.stars < cycles_in l
     → length text ≤ 4295032832
 typed_short l a h text x e k =
     let t = told_in_lem l a text x e in
-    omega (arith, ap length t.written, t.few, length_typed l x, cycles_small l a)
+    omega (arith, ap length t.written, t.few, length_typed l x, cycles_small l a.positive)
 
 pub telling : (l : Layout) → Laid l → l.octave ≤ 65535 → (first second : List ℕ) (e : Explanation)
     → given e ≡ explained_in l first second → Telling first second e
@@ -172,13 +156,10 @@ telling l h small first second e q =
 
 -- ---- the text
 
-module _ (row : ChainRow) (found : Found) (a : Asked row found) where
-  pub row_asked : TableRow row
-  row_asked = table_row found.chain row (laid (layout_of found) a.laid).chain a.row_is
-
-  pub start_letter : (letter : ℕ) → letter ≡ letter_at (letters_in row) found.start → letter_text letter ≡ start_text (layout_of found)
-  start_letter letter e =
-      ap letter_text (e ∙ ap (λ (L : List ℕ). letter_at L found.start) (row_letters row (table_row found.chain row (laid (layout_of found) a.laid).chain a.row_is)))
+pub start_letter : (row : ChainRow) (l : Layout) → row ≡ row_of (chain_of l.chain) → l.chain < 6
+    → (letter : ℕ) → letter ≡ letter_at (letters_in row) l.start → letter_text letter ≡ start_text l
+start_letter row l is below letter e =
+    ap letter_text (e ∙ ap (λ (L : List ℕ). letter_at L l.start) (row_letters row (table_row l.chain row below is)))
 
 abbrev Tell : Layout → (first second : List ℕ) → Outcome Explanation → Outcome (List ℕ)
 Tell l first second o = and_then o (λ (e : Explanation). given (explanation_text l first second e))
@@ -188,24 +169,25 @@ module _ (l : Layout) (first second : List ℕ) where
   unfolding told_in
   told_refused n e = ap (Tell l first second) e
 
-  module _ (e : Explanation) (q : given e ≡ explained_in l first second) (letter : List ℕ) (is : letter ≡ start_text l) where
-    told_given : given (sentences letter l.generator l.octave first second e) ≡ told_in l first second
+  module _ (e : Explanation) (q : given e ≡ explained_in l first second) (c : Counting) (is : CountingOf l c) where
+    abbrev told : List ℕ
+    told = sentences (letter_text c.letter) c.generator c.octave first second e
+
+    told_given : given told ≡ told_in l first second
     unfolding told_in explanation_text
     told_given =
-        ap (λ (L : List ℕ). given (sentences L l.generator l.octave first second e)) is ∙ ap (Tell l first second) q
+        ap (λ (L : List ℕ). given (sentences L c.generator c.octave first second e)) is.letter_is
+        ∙ ap₂ (λ (G P : ℕ). given (sentences (start_text l) G P first second e)) is.generator_is is.octave_is
+        ∙ ap (Tell l first second) q
 
-    pub told_length : (n : ℕ) → n ≡ length (sentences letter l.generator l.octave first second e) → given n ≡ counted (told_in l first second)
+    pub told_length : (n : ℕ) → n ≡ length told → given n ≡ counted (told_in l first second)
     told_length n h = ap given h ∙ ap counted told_given
 
-    pub told_held : {a : Outcome ℕ} {xs ys : List ℕ} → Filled (held_in (length xs) (sentences letter l.generator l.octave first second e)) a xs ys
+    pub told_held : {a : Outcome ℕ} {xs ys : List ℕ} → Filled (held_in (length xs) told) a xs ys
         → Filled (in_room (length xs) (told_in l first second)) a xs ys
     told_held {xs = xs} f = filled_as (ap (in_room (length xs)) told_given) f
 
 -- ---- the calls
-
-pub asked_of : (r : IsomorphicLayout) (row : ChainRow) (found : Found) → row ≡ row_of (chain_of r.genchain)
-    → given (layout_of found) ≡ layout_outcome r → Asked row found
-asked_of r row found q e = record { row_is = row_found r (layout_of found) e row q; laid = laid_of r (layout_of found) e }
 
 module _ (r : IsomorphicLayout) (first second : List ℕ) where
   module _ (n : ℕ) (e : refused n ≡ layout_outcome r) where

@@ -1,10 +1,10 @@
 -- The numbers of an explanation: places that came as differences, and what follows from them.
 use Prim.Native.Nat.{ℕ, ◌+◌, ◌-◌, ◌/◌, ◌%◌, ◌≤◌, ◌<◌}
-use mathlib.Core.Path.{◌≡◌, sym, ap, ap₂, ◌∙◌}
-use mathlib.Core.Bool.{Bool}
+use mathlib.Core.Path.{◌≡◌, refl, sym, ap, ap₂, ◌∙◌}
+use mathlib.Core.Bool.{Bool, true, false}
 use native.Mathlib.Omega.{arith}
-use lib.Dec.{eqb}
-use borrow.Author.Tests.{eq-eqb, ne_eqb}
+use lib.Dec.{eqb, ltb}
+use borrow.Author.Tests.{eq-eqb, ne_eqb, ltb-true, ltb-false}
 use Rattle.answer.specs.Choice.{pick}
 use lib.IntN.{ℤ, pos, negsuc, nat_abs, ◌-ℤ◌}
 use Rattle.math.proofs.Integers.{Rep, rep_pos, rep_minus}
@@ -15,8 +15,6 @@ use Rattle.pergen.specs.declared.Spelling.{Spelling}
 use Rattle.pergen.specs.declared.sounding.Sides.{Sides}
 use Rattle.layout.specs.Layouts.{Layout, cycles_in, reduced_in}
 use Rattle.layout.specs.Names.{place_in, key_of}
-use Rattle.layout.specs.Parts.{Laid}
-use Rattle.layout.proofs.Finding.{laid}
 use Rattle.pergen.proofs.Inverse.{cycles_positive, reduced_positive}
 use Rattle.layout_explaining.specs.Explanations.{standing_of, apart_in, verdict_by, verdict_of, explanation_of}
 use Rattle.layout_explaining.specs.Parts.{between_sides}
@@ -41,13 +39,24 @@ module _ (s t : Sides) where
       let r = rep_minus (rep_minus (rep_pos s.above) (rep_pos s.below)) (rep_minus (rep_pos t.above) (rep_pos t.below)) in
       record { eq = omega (arith, r.eq) }
 
-  pub first_below : s.above + t.below < s.below + t.above → s.below + t.above - (s.above + t.below) ≡ between_sides s t
+  first_below : s.above + t.below < s.below + t.above → s.below + t.above - (s.above + t.below) ≡ between_sides s t
   unfolding between_sides
   first_below h = abs_below _ _ _ difference h
 
-  pub first_above : s.below + t.above ≤ s.above + t.below → s.above + t.below - (s.below + t.above) ≡ between_sides s t
+  first_above : s.below + t.above ≤ s.above + t.below → s.above + t.below - (s.below + t.above) ≡ between_sides s t
   unfolding between_sides
   first_above h = abs_above _ _ _ difference h
+
+  pub apart_by : (n : ℕ) → n ≡ (s.above + t.below - (s.below + t.above)) + (s.below + t.above - (s.above + t.below)) → n ≡ between_sides s t
+  apart_by n e = by (ltb (s.above + t.below) (s.below + t.above)) refl
+    where
+      by : (k : Bool) → ltb (s.above + t.below) (s.below + t.above) ≡ k → n ≡ between_sides s t
+      by true q =
+          let h = ltb-true (s.above + t.below) (s.below + t.above) q in
+          (let z : n ≡ s.below + t.above - (s.above + t.below) = omega arith in z) ∙ first_below h
+      by false q =
+          let h = ltb-false (s.above + t.below) (s.below + t.above) q in
+          (let z : n ≡ s.above + t.below - (s.below + t.above) = omega arith in z) ∙ first_above h
 
 -- ---- the verdict
 
@@ -68,13 +77,13 @@ module _ (a b d R : ℕ) where
   comes_not_round e r = sym (ap₂ By (eq-eqb a b e) (ne_eqb (d % R) 0 r))
 
 -- the cycles and the reduced period are above 0
-module _ (l : Layout) (h : Laid l) (n : ℕ) (e : n ≡ cycles_in l) where
+module _ (l : Layout) (h : 0 < l.octave) (n : ℕ) (e : n ≡ cycles_in l) where
   pub cycles_some : 0 < n
-  cycles_some = rw e (cycles_positive l.octave l.generator (laid l h).positive)
+  cycles_some = rw e (cycles_positive l.octave l.generator h)
 
   pub round_some : 0 < l.octave / n
   unfolding reduced
-  round_some = rw e (reduced_positive l.octave l.generator (laid l h).positive)
+  round_some = rw e (reduced_positive l.octave l.generator h)
 
 -- ---- a standing
 

@@ -1,11 +1,10 @@
 -- What the calls answer: questions 1 to 4 and 18 of the layout, then 23 of the first text and of the second, then 21 of the first and of
 -- the second, then the explanation, or its text.
-use Rattle.std.specs.Prelude.{List, ℕ, ◌+◌, ◌≤◌, ◌<◌, ◌^◌, ◌≡◌, ltb, length}
-use Rattle.answer.specs.Outcome.{Outcome, given, refused, ask, and_then}
-use Rattle.answer.specs.Refusals.{number_of, count_outcome}
+use Rattle.answer.specs.declared.Refusal.{Refusal}
+use Rattle.std.specs.Prelude.{List, ℕ, ◌+◌, ◌≤◌, ◌<◌, ◌^◌, ◌≡◌, ltb, length, Result, IfOk}
+use Rattle.answer.specs.Outcome.{Outcome, given, ask, and_then}
+use Rattle.answer.specs.Refusals.{outcome_of}
 use Rattle.answer.specs.Lent.{counted}
-use Rattle.answer.specs.declared.CountAnswer.{CountAnswer}
-use Rattle.answer.specs.declared.CountAnswer.TheVariants as Count
 use Rattle.pergen.specs.Pergen.{cycles}
 use Rattle.pergen.specs.declared.Spelling.{Spelling}
 use Rattle.layout.specs.Layouts.{Layout, layout_outcome, cycles_in}
@@ -15,7 +14,6 @@ use Rattle.layout_reading.specs.Answers.{typed_in}
 use Rattle.layout_explaining.specs.Explanations.{explanation_of}
 use Rattle.layout_explaining.specs.Sentences.{explanation_text}
 use Rattle.layout_explaining.specs.declared.Explanation.{Explanation}
-use Rattle.layout_explaining.specs.declared.ExplanationAnswer.{ExplanationAnswer}
 
 -- 21. Are the stars below the cycles? Of the first spelling, then of the second.
 unfoldable pub compared_in : Layout → Spelling → Spelling → Outcome Explanation
@@ -42,21 +40,15 @@ unfoldable pub get_explanation_text : IsomorphicLayout → (first second : List 
 unfolding layout_outcome told_in
 get_explanation_text r first second = of_layout r (λ (l : Layout). told_in l first second)
 
--- What an answer means.
-abbrev pub explanation_outcome : ExplanationAnswer → Outcome Explanation
-explanation_outcome (ExplanationAnswer.Given e) = given e
-explanation_outcome (ExplanationAnswer.Refused q) = refused (number_of q)
-
 -- How long the words can be: beside the two texts they have at most 600 bytes, and 64 signed bits hold the number of all.
 pub record ShortWords (first second : List ℕ) (n : ℕ) : Type 0 where
   pub beside : n ≤ length first + length second + 600
   pub held : n < 2 ^ 63
 
-abbrev pub ShortAnswer : (first second : List ℕ) → CountAnswer → Type 0
-ShortAnswer first second (Count.Given n) = ShortWords first second n
-ShortAnswer first second (Count.Refused q) = Unit {0}
+abbrev pub ShortAnswer : (first second : List ℕ) → Result ℕ Refusal → Type 0
+ShortAnswer first second a = IfOk a (ShortWords first second)
 
 -- What the call that tells the length promises.
-pub record LengthTold (r : IsomorphicLayout) (first second : List ℕ) (a : CountAnswer) : Type 0 where
-  pub answered : count_outcome a ≡ counted (get_explanation_text r first second)
+pub record LengthTold (r : IsomorphicLayout) (first second : List ℕ) (a : Result ℕ Refusal) : Type 0 where
+  pub answered : outcome_of a ≡ counted (get_explanation_text r first second)
   pub short : ShortAnswer first second a

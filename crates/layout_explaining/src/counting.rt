@@ -1,13 +1,13 @@
-// The numbers of an explanation: parts, and no entry points. Callers have asked questions 1 to 4 and 18, and those of both spellings.
+// The numbers of an explanation: parts, and no entry points. Callers have asked the questions of both spellings.
 ghost use Rattle.std.specs.Prelude.{◌≡◌, ◌<◌, pos, ◌-ℤ◌};
 ghost use Rattle.pergen.specs.Parts.{SidesOf, SmallSides};
-ghost use Rattle.layout.specs.Layouts.{cycles_in};
-ghost use Rattle.layout.specs.Parts.{layout_of, Laid};
+ghost use Rattle.layout.specs.Parts.{layout_of};
 ghost use Rattle.layout_explaining.specs.Explanations.{standing_of, verdict_by, explanation_of};
 ghost use Rattle.layout_explaining.specs.Parts.{between_sides};
 
 use crate::{Explanation, Standing, Verdict};
 use layout::parts::Found;
+use layout_reading::reader::Reader;
 use pergen::sounding::Sides;
 use pergen::{AccidentalsFormat, PerGen, Spelling, sounding};
 
@@ -25,11 +25,7 @@ fn between(one: Sides, other: Sides) -> u64
     ensures { result ≡ between_sides one other }
 {
     let up = one.above + other.below;
-    let down = one.below + other.above;
-    if up < down {
-        return down - up;
-    }
-    up - down
+    up.abs_diff(one.below + other.above)
 }
 
 // The sides of a spelling's place.
@@ -45,7 +41,7 @@ fn sides_in(found: Found, spelling: Spelling) -> Sides
 
 // Where a spelling stands.
 fn standing(found: Found, spelling: Spelling, sides: Sides) -> Standing
-    requires { Laid (layout_of found) × SidesOf found.num_letters found.start spelling sides }
+    requires { SidesOf found.num_letters found.start spelling sides }
     ensures { result ≡ standing_of (layout_of found) spelling }
 {
     let pergen = PerGen {
@@ -73,12 +69,12 @@ fn verdict(one: u16, other: u16, apart: u64, reduced_period: u16) -> Verdict
     Verdict::OneChain
 }
 
-// The explanation of two spellings, in a layout with so many cycles.
-pub(crate) fn explanation(found: Found, cycles: u16, one: Spelling, other: Spelling) -> Explanation
-    requires { Laid (layout_of found) × (cycles ≡ cycles_in (layout_of found)) }
-    ensures { result ≡ explanation_of (layout_of found) one other }
+// The explanation of two spellings.
+pub(crate) fn explanation(reader: Reader, one: Spelling, other: Spelling) -> Explanation
+    ensures { result ≡ explanation_of (layout_of reader.found) one other }
 {
-    let reduced_period = found.octave / cycles;
+    let found = reader.found;
+    let reduced_period = found.octave / reader.cycles;
     let first = sides_in(found, one);
     let second = sides_in(found, other);
     let apart = between(first, second);

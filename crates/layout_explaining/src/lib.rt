@@ -3,33 +3,26 @@
 // Holds the explanation of two spellings that are typed as text: where each stands on the chain, which key that is, how far apart they are
 // and after how many places the chain comes round, as numbers and as three sentences for a class. The texts are read by `layout_reading`.
 // specs/: Explanations and Sentences define, Answers says what each call answers, Theorems and Examples state what holds.
-// Every entry point answers every input; `typed`, `counting`, `sentences` and `letters` ask for more, as their heads say. Nothing is assumed.
+// Every entry point answers every input; `sentences` asks for more, as its head says. Nothing is assumed.
 #![tactic(auto)]
 
 mod counting;
-mod letters;
+mod measures;
 mod sentences;
 mod typed;
 
 ghost use Rattle.std.specs.Prelude.{◌≡◌, length};
+ghost use Rattle.answer.specs.Refusals.{outcome_of};
 ghost use Rattle.answer.specs.Lent.{in_room, counted, Filled};
-ghost use Rattle.answer.specs.Refusals.{count_outcome};
 ghost use Rattle.layout.specs.Parts.{layout_of};
-ghost use Rattle.layout_explaining.specs.Answers.{
-  explanation_outcome,
-  get_explanation,
-  told_in,
-  get_explanation_text,
-  ShortAnswer,
-  LengthTold,
-};
-ghost use Rattle.layout_explaining.specs.Parts.{Asked};
+ghost use Rattle.layout_explaining.specs.Parts.{CountingOf};
+ghost use Rattle.layout_explaining.specs.Answers.{get_explanation, told_in, get_explanation_text, ShortAnswer, LengthTold};
 
-use answer::{CountAnswer, Refusal};
-use genchain::rows;
-use genchain::rows::ChainRow;
+use crate::measures::Counting;
+use answer::Refusal;
 use layout::IsomorphicLayout;
-use layout::parts::{Found, FoundAnswer};
+use layout_reading::reader::Reader;
+use notes::plans;
 
 // Where a spelling stands: its place on the chain, counted from key 0's letter, its stars, and the key of the octave that it sounds.
 #[derive(Clone, Copy)]
@@ -59,60 +52,43 @@ pub struct Explanation {
     pub verdict: Verdict,
 }
 
-#[derive(Clone, Copy)]
-pub enum ExplanationAnswer {
-    Given(Explanation),
-    Refused(Refusal),
+// Why two spellings, typed as texts, are one key or two (1, 2, 3, 4, 18, of the first text and of the second 23, then 21).
+pub fn explain(
+    layout: IsomorphicLayout,
+    first: &[u8],
+    second: &[u8],
+) -> Result<Explanation, Refusal>
+    ensures { outcome_of result ≡ get_explanation layout first.now second.now }
+{
+    let reader = Reader::ask(layout)?;
+    typed::explained(reader, first, second)
 }
 
-// Why two spellings, typed as texts, are one key or two (1, 2, 3, 4, 18, of the first text and of the second 23, then 21).
-pub fn explain(layout: IsomorphicLayout, first: &[u8], second: &[u8]) -> ExplanationAnswer
-    ensures { explanation_outcome result ≡ get_explanation layout first.now second.now }
+// What the sentences count by, in a layout that was found.
+fn counting_in(reader: Reader) -> Counting
+    ensures { CountingOf (layout_of reader.found) result }
 {
-    let row = rows::row(layout.genchain);
-    match layout::parts::ask_with_row(layout, row) {
-        FoundAnswer::Refused(q) => ExplanationAnswer::Refused(q),
-        FoundAnswer::Given(found) => typed::explained(row, found, first, second),
+    Counting {
+        letter: plans::letter_at(reader.row, reader.found.start),
+        generator: reader.found.generator,
+        octave: reader.found.octave,
     }
 }
 
 // How many bytes the text has, in a layout that was found.
-fn told_len(row: ChainRow, found: Found, first: &[u8], second: &[u8]) -> CountAnswer
-    requires { Asked row found }
-    ensures { (count_outcome result ≡ counted (told_in (layout_of found) first.now second.now)) × ShortAnswer first.now second.now result }
+fn told_len(reader: Reader, first: &[u8], second: &[u8]) -> Result<usize, Refusal>
+    ensures { (outcome_of result ≡ counted (told_in (layout_of reader.found) first.now second.now)) × ShortAnswer first.now second.now result }
 {
-    let letter = letters::letter_at(row, found.start);
-    match typed::explained(row, found, first, second) {
-        ExplanationAnswer::Refused(q) => CountAnswer::Refused(q),
-        ExplanationAnswer::Given(e) => CountAnswer::Given(sentences::text_len(
-            letter,
-            found.generator,
-            found.octave,
-            first,
-            second,
-            e,
-        )),
-    }
+    let e = typed::explained(reader, first, second)?;
+    Ok(sentences::text_len(counting_in(reader), first, second, e))
 }
 
 // The text at the front of a slice that holds it, in a layout that was found.
-fn tell(row: ChainRow, found: Found, first: &[u8], second: &[u8], out: &mut [u8]) -> CountAnswer
-    requires { Asked row found }
-    ensures { Filled (in_room (length out.old) (told_in (layout_of found) first.now second.now)) (count_outcome result) out.old out.new }
+fn tell(reader: Reader, first: &[u8], second: &[u8], out: &mut [u8]) -> Result<usize, Refusal>
+    ensures { Filled (in_room (length out.old) (told_in (layout_of reader.found) first.now second.now)) (outcome_of result) out.old out.new }
 {
-    let letter = letters::letter_at(row, found.start);
-    match typed::explained(row, found, first, second) {
-        ExplanationAnswer::Refused(q) => CountAnswer::Refused(q),
-        ExplanationAnswer::Given(e) => sentences::write(
-            letter,
-            found.generator,
-            found.octave,
-            first,
-            second,
-            e,
-            out,
-        ),
-    }
+    let e = typed::explained(reader, first, second)?;
+    sentences::write(counting_in(reader), first, second, e, out)
 }
 
 // The same in three sentences, as a class reads them (1, 2, 3, 4, 18, of the first text and of the second 23, then 21, then 10).
@@ -121,23 +97,21 @@ pub fn explain_text(
     first: &[u8],
     second: &[u8],
     out: &mut [u8],
-) -> CountAnswer
-    ensures { Filled (in_room (length out.old) (get_explanation_text layout first.now second.now)) (count_outcome result) out.old out.new }
+) -> Result<usize, Refusal>
+    ensures { Filled (in_room (length out.old) (get_explanation_text layout first.now second.now)) (outcome_of result) out.old out.new }
 {
-    let row = rows::row(layout.genchain);
-    match layout::parts::ask_with_row(layout, row) {
-        FoundAnswer::Refused(q) => CountAnswer::Refused(q),
-        FoundAnswer::Given(found) => tell(row, found, first, second, out),
-    }
+    let reader = Reader::ask(layout)?;
+    tell(reader, first, second, out)
 }
 
 // How many bytes `explain_text` writes (1, 2, 3, 4, 18, of the first text and of the second 23, then 21).
-pub fn explain_text_len(layout: IsomorphicLayout, first: &[u8], second: &[u8]) -> CountAnswer
+pub fn explain_text_len(
+    layout: IsomorphicLayout,
+    first: &[u8],
+    second: &[u8],
+) -> Result<usize, Refusal>
     ensures { LengthTold layout first.now second.now result }
 {
-    let row = rows::row(layout.genchain);
-    match layout::parts::ask_with_row(layout, row) {
-        FoundAnswer::Refused(q) => CountAnswer::Refused(q),
-        FoundAnswer::Given(found) => told_len(row, found, first, second),
-    }
+    let reader = Reader::ask(layout)?;
+    told_len(reader, first, second)
 }

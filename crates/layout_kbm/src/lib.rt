@@ -9,42 +9,33 @@
 pub mod parts;
 
 ghost use Rattle.std.specs.Prelude.{◌≡◌, length};
+ghost use Rattle.answer.specs.Refusals.{outcome_of};
 ghost use Rattle.answer.specs.Lent.{in_room, counted, Filled};
-ghost use Rattle.answer.specs.Refusals.{count_outcome};
 ghost use Rattle.layout_kbm.specs.Mappings.{get_kbm, get_mapped_keys};
 
-use answer::CountAnswer;
-use layout::parts::FoundAnswer;
+use answer::Refusal;
 use layout::{IsomorphicLayout, prepared};
 
 // How many bytes `write_kbm` writes (1, 2, 3, 4, 18).
-pub fn kbm_len(layout: IsomorphicLayout) -> CountAnswer
-    ensures { count_outcome result ≡ counted (get_kbm layout) }
+pub fn kbm_len(layout: IsomorphicLayout) -> Result<usize, Refusal>
+    ensures { outcome_of result ≡ counted (get_kbm layout) }
 {
-    match layout::parts::ask(layout) {
-        FoundAnswer::Refused(q) => CountAnswer::Refused(q),
-        FoundAnswer::Given(found) => {
-            CountAnswer::Given(parts::file_len(prepared::prepare(found)))
-        }
-    }
+    let found = layout::parts::ask(layout)?;
+    Ok(parts::file_len(prepared::prepare(found)))
 }
 
 // The keyboard mapping of a layout: a synthesizer then plays its natural keys and no others (1, 2, 3, 4, 18, 10).
-pub fn write_kbm(layout: IsomorphicLayout, out: &mut [u8]) -> CountAnswer
-    ensures { Filled (in_room (length out.old) (get_kbm layout)) (count_outcome result) out.old out.new }
+pub fn write_kbm(layout: IsomorphicLayout, out: &mut [u8]) -> Result<usize, Refusal>
+    ensures { Filled (in_room (length out.old) (get_kbm layout)) (outcome_of result) out.old out.new }
 {
-    match layout::parts::ask(layout) {
-        FoundAnswer::Refused(q) => CountAnswer::Refused(q),
-        FoundAnswer::Given(found) => parts::write_file(prepared::prepare(found), out),
-    }
+    let found = layout::parts::ask(layout)?;
+    parts::write_file(prepared::prepare(found), out)
 }
 
 // The keys that a keyboard mapping for a layout maps, rising; any bytes may be handed in (1, 2, 3, 4, 18, 19, 20, 10).
-pub fn read_kbm(layout: IsomorphicLayout, text: &[u8], out: &mut [u16]) -> CountAnswer
-    ensures { Filled (in_room (length out.old) (get_mapped_keys layout text.now)) (count_outcome result) out.old out.new }
+pub fn read_kbm(layout: IsomorphicLayout, text: &[u8], out: &mut [u16]) -> Result<usize, Refusal>
+    ensures { Filled (in_room (length out.old) (get_mapped_keys layout text.now)) (outcome_of result) out.old out.new }
 {
-    match layout::parts::ask(layout) {
-        FoundAnswer::Refused(q) => CountAnswer::Refused(q),
-        FoundAnswer::Given(found) => kbm_text::read_keys(found.octave, text, out),
-    }
+    let found = layout::parts::ask(layout)?;
+    kbm_text::read_keys(found.octave, text, out)
 }

@@ -11,7 +11,7 @@ use Rattle.math.specs.Division.{remainder}
 use Rattle.layout.specs.declared.IsomorphicLayout.{IsomorphicLayout}
 use Rattle.layout.specs.Layouts.{Layout, layout_outcome}
 use Rattle.layout.proofs.Calls.{of_refused, of_given, parts_of, filled_as, refused_in_room}
-use Rattle.layout_layers.specs.declared.parts.Plan.{Plan}
+use Rattle.layout_layers.specs.declared.plan.Plan.{Plan}
 use Rattle.layout_layers.specs.KeyLayers.{entry_count}
 use Rattle.layout_layers.specs.Parts.{PlanOf, total_of, plan_layers}
 use Rattle.layout_layers.proofs.PlanLaws.{count_is, layers_are}

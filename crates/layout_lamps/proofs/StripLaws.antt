@@ -1,5 +1,6 @@
 -- Codes and strips: a plan's layers, turned into codes, with home, are the strip; and where there was a strip of one-byte codes: T at most
 -- 202 leaves sharp and flat layers below 100, T above 202 has a key in sharp layer 100.
+use Rattle.std.specs.Prelude.{Some}
 use Prim.Native.Nat.{ℕ, ◌+◌, ◌*◌, ◌-◌, ◌/◌, ◌%◌, ◌≤◌, ◌<◌}
 use mathlib.Core.Path.{◌≡◌, refl, sym, ap, ap₂, subst, ◌∙◌}
 use mathlib.Core.Bool.{Bool, true, false}
@@ -21,12 +22,13 @@ use Rattle.mos_layers.specs.Layers.{layer_sizes}
 use Rattle.layout.specs.declared.IsomorphicLayout.{IsomorphicLayout}
 use Rattle.layout.specs.Layouts.{Layout, Accepted, cycles_in}
 use Rattle.layout_layers.specs.declared.Layer.TheVariants.{Natural, Sharp, Enharmonic, Flat}
-use Rattle.layout_layers.specs.declared.parts.Plan.{Plan}
+use Rattle.layout_layers.specs.declared.plan.Plan.{Plan}
 use Rattle.layout_layers.specs.KeyLayers.{equalized, layer_count, kind_of, number_in, count_in}
-use Rattle.layout_layers.specs.Parts.{keys_of, total_of, Sound, PlanOf, plan_number, turns_of, listed, Fronted, plan_layers, limit, plan_entries}
+use Rattle.layout_layers.specs.Kept.{keys_of}
+use Rattle.layout_layers.specs.Parts.{total_of, Sound, PlanOf, plan_number, turns_of, listed, Fronted, plan_layers, limit, plan_entries}
 use Rattle.layout_layers.proofs.SpreadLaws.{length_listed, listed_at}
 use Rattle.layout_layers.proofs.ChainLaws.{some_places}
-use Rattle.layout_layers.proofs.LampCodeLaws.{limit_coded, codes_written}
+use Rattle.layout_layers.proofs.LampCodeLaws.{codes_written}
 use Rattle.layout_layers.proofs.PlanLaws.{number_is, keys_are, turns_fill, kind_sharp, turn_below}
 use Rattle.layout_layers.proofs.Theorems.{counts_fit, each_number_is_met, first_keys}
 use Rattle.layout_layers.specs.LampCodes.{lamp_code, code_of}
@@ -82,16 +84,14 @@ length_strip p T =
     length_listed (plan_number p) (entries_of p)
     ∙ sym (length-set (set (plan_codes p T) 0 0) (keys_of p.chain) 0 ∙ length-set (plan_codes p T) 0 0 ∙ length_codes p T)
 
--- a layout has a number at least
-some_numbers : (p : Plan) → Sound p → (T : ℕ) → T ≡ total_of p → T ≡ 0 → ⊥
-some_numbers p sound T is e = omega (arith, number_below p sound 0 (plan_number p 0) T refl is, e)
-
 -- all numbers are below T
-pub counted_within : (p : Plan) → Sound p → (T : ℕ) → T ≡ total_of p → total_of p ≤ limit T
-counted_within p sound T is = omega (arith, is, limit_coded T (some_numbers p sound T is))
+pub counted_within : (p : Plan) (T : ℕ) → T ≡ total_of p → total_of p ≤ limit (Some T)
+counted_within p T is = omega (arith, is)
 
-pub strip_coded : (p : Plan) → Sound p → (T : ℕ) (xs ys : List ℕ) → T ≡ total_of p → Fronted (plan_entries p T) xs ys → Fronted (plan_codes p T) xs ys
-strip_coded p sound T xs ys is f = subst (λ (text : List ℕ). Fronted text xs ys) (codes_written p T (some_numbers p sound T is)) f
+pub strip_coded : (p : Plan) (T : ℕ) (xs ys : List ℕ) → T ≡ total_of p → Fronted (plan_entries p (Some T)) xs ys
+    → Fronted (plan_codes p (total_of p)) xs ys
+strip_coded p T xs ys is f =
+    subst (λ (n : ℕ). Fronted (plan_codes p n) xs ys) is (subst (λ (text : List ℕ). Fronted text xs ys) (codes_written p T) f)
 
 -- a text in front leaves a slice as long as it was
 pub front_kept : (text xs ys : List ℕ) → length text ≤ length xs → Fronted text xs ys → length ys ≡ length xs

@@ -1,8 +1,9 @@
 -- What the parts behind the calls promise: the strip by the plan that the code follows.
 use Rattle.std.specs.Prelude.{ℕ, ◌*◌, List, set}
-use Rattle.layout_layers.specs.declared.parts.Plan.{Plan}
+use Rattle.layout_layers.specs.declared.plan.Plan.{Plan}
 use Rattle.layout_layers.specs.LampCodes.{code_of}
-use Rattle.layout_layers.specs.Parts.{keys_of, plan_number, turns_of, listed}
+use Rattle.layout_layers.specs.Kept.{keys_of}
+use Rattle.layout_layers.specs.Parts.{plan_number, turns_of, listed}
 
 -- The codes of all entries, key 0's as any other's.
 abbrev pub plan_codes : Plan → (T : ℕ) → List ℕ

@@ -10,51 +10,38 @@
 pub mod parts;
 
 ghost use Rattle.std.specs.Prelude.{◌≡◌, length};
+ghost use Rattle.answer.specs.Refusals.{outcome_of};
 ghost use Rattle.answer.specs.Lent.{in_room, counted, Filled};
-ghost use Rattle.answer.specs.Refusals.{number_outcome, count_outcome};
 ghost use Rattle.layout_lamps.specs.Answers.{get_strip, get_lamp};
 
-use answer::{CountAnswer, NumberAnswer};
-use layout::parts::FoundAnswer;
+use answer::Refusal;
 use layout::{IsomorphicLayout, prepared};
 use pergen::stepping;
 
 // The lamp code of each key of an octave, of two octaves where the scale is equalized (1, 2, 3, 4, 18, 10).
-pub fn lamp_strip(layout: IsomorphicLayout, out: &mut [u16]) -> CountAnswer
-    ensures { Filled (in_room (length out.old) (get_strip layout)) (count_outcome result) out.old out.new }
+pub fn lamp_strip(layout: IsomorphicLayout, out: &mut [u16]) -> Result<usize, Refusal>
+    ensures { Filled (in_room (length out.old) (get_strip layout)) (outcome_of result) out.old out.new }
 {
-    match layout::parts::ask(layout) {
-        FoundAnswer::Refused(q) => CountAnswer::Refused(q),
-        FoundAnswer::Given(found) => {
-            parts::write_strip(layout_layers::parts::plan_of(found), out)
-        }
-    }
+    let found = layout::parts::ask(layout)?;
+    parts::write_strip(layout_layers::parts::plan_of(found), out)
 }
 
 // How many codes `lamp_strip` writes (1, 2, 3, 4, 18).
-pub fn strip_len(layout: IsomorphicLayout) -> CountAnswer
-    ensures { count_outcome result ≡ counted (get_strip layout) }
+pub fn strip_len(layout: IsomorphicLayout) -> Result<usize, Refusal>
+    ensures { outcome_of result ≡ counted (get_strip layout) }
 {
-    match layout::parts::ask(layout) {
-        FoundAnswer::Refused(q) => CountAnswer::Refused(q),
-        FoundAnswer::Given(found) => {
-            CountAnswer::Given(layout_layers::parts::entries(layout_layers::parts::plan_of(found)))
-        }
-    }
+    let found = layout::parts::ask(layout)?;
+    Ok(layout_layers::parts::entries(layout_layers::parts::plan_of(found)))
 }
 
 // The lamp code of one key, whatever its octave, below 0 too: what `lamp_strip` writes repeats (1, 2, 3, 4, 18).
-pub fn lamp(layout: IsomorphicLayout, key: i32) -> NumberAnswer
-    ensures { number_outcome result ≡ get_lamp layout key }
+pub fn lamp(layout: IsomorphicLayout, key: i32) -> Result<u16, Refusal>
+    ensures { outcome_of result ≡ get_lamp layout key }
 {
-    match layout::parts::ask(layout) {
-        FoundAnswer::Refused(q) => NumberAnswer::Refused(q),
-        FoundAnswer::Given(found) => {
-            let prepared = prepared::prepare(found);
-            let place = math::parts::rem_u32(key, layout_layers::keys::entry_count(prepared));
-            let asked = stepping::key_at(prepared.solved, place);
-            let total = layout_layers::keys::total_of(prepared);
-            NumberAnswer::Given(parts::lamp_of(prepared, total, asked))
-        }
-    }
+    let found = layout::parts::ask(layout)?;
+    let prepared = prepared::prepare(found);
+    let place = math::parts::rem_u32(key, layout_layers::keys::entry_count(prepared));
+    let asked = stepping::key_at(prepared.solved, place);
+    let total = layout_layers::keys::total_of(prepared);
+    Ok(parts::lamp_of(prepared, total, asked))
 }

@@ -1,17 +1,17 @@
-// How codes are found and a strip is written: parts, and no entry points. Callers have asked questions 1 to 4 and 18, and 10 before they write.
+// How codes are found and a strip is written: parts, and no entry points. Callers have asked question 10 before they write.
 ghost use Rattle.std.specs.Prelude.{◌≡◌, ◌*◌, ◌%◌, ◌≤◌, ◌<◌, eqb, length};
+ghost use Rattle.answer.specs.Refusals.{outcome_of};
 ghost use Rattle.answer.specs.Lent.{held_in, Filled};
-ghost use Rattle.answer.specs.Refusals.{count_outcome};
 ghost use Rattle.pergen.specs.Parts.{At};
-ghost use Rattle.layout.specs.Parts.{layout_in, Ready};
+ghost use Rattle.layout.specs.Parts.{layout_in};
 ghost use Rattle.layout_layers.specs.KeyLayers.{count_in};
-ghost use Rattle.layout_layers.specs.Parts.{total_of, Sound, Fronted, plan_layers};
+ghost use Rattle.layout_layers.specs.Parts.{total_of, Fronted, plan_layers};
 ghost use Rattle.layout_lamps.specs.Lamps.{lamp_in};
 ghost use Rattle.layout_lamps.specs.Parts.{plan_strip};
 
-use answer::{CountAnswer, Refusal};
+use answer::Refusal;
 use layout::prepared::Prepared;
-use layout_layers::parts::Plan;
+use layout_layers::plan::Plan;
 use pergen::stepping::Key;
 
 // Is a key whole octaves from key 0? It is one of two octaves.
@@ -27,7 +27,7 @@ fn is_home(octave: u16, number: u32) -> bool
 
 // The lamp code of a key, of as many layers as `total` says: home, or the code of its layer.
 pub fn lamp_of(prepared: Prepared, total: u16, key: Key) -> u16
-    requires { Ready prepared × (total ≡ count_in (layout_in prepared)) × At prepared.solved key × (key.number < 2 * prepared.found.octave) }
+    requires { (total ≡ count_in (layout_in prepared)) × At prepared.solved key × (key.number < 2 * prepared.found.octave) }
     ensures { result ≡ lamp_in (layout_in prepared) key.number }
 {
     if is_home(prepared.found.octave, key.number) {
@@ -37,11 +37,12 @@ pub fn lamp_of(prepared: Prepared, total: u16, key: Key) -> u16
 }
 
 // The strip at the front of a slice that is known to hold it: key 0 is home, and so is the octave where a second one follows.
-fn put_strip(out: &mut [u16], plan: Plan, total: u16)
-    requires { Sound plan × (total ≡ total_of plan) × (length (plan_layers plan) ≤ length out.old) }
-    ensures { Fronted (plan_strip plan total) out.old out.new }
+fn put_strip(out: &mut [u16], plan: Plan)
+    requires { length (plan_layers plan) ≤ length out.old }
+    ensures { Fronted (plan_strip plan (total_of plan)) out.old out.new }
 {
-    layout_layers::parts::put_entries(out, plan, total);
+    let total = layout_layers::parts::total_of(plan);
+    layout_layers::parts::put_entries(out, plan, Some(total));
     out[0] = 0;
     let chain = plan.chain;
     let keys = (chain.reduced_period as usize) * (chain.num_cycles as usize);
@@ -52,14 +53,13 @@ fn put_strip(out: &mut [u16], plan: Plan, total: u16)
 }
 
 // The strip at the front of a slice that holds it (10).
-pub(crate) fn write_strip(plan: Plan, out: &mut [u16]) -> CountAnswer
-    requires { Sound plan }
-    ensures { Filled (held_in (length out.old) (plan_strip plan (total_of plan))) (count_outcome result) out.old out.new }
+pub(crate) fn write_strip(plan: Plan, out: &mut [u16]) -> Result<usize, Refusal>
+    ensures { Filled (held_in (length out.old) (plan_strip plan (total_of plan))) (outcome_of result) out.old out.new }
 {
     let count = layout_layers::parts::entries(plan);
     if out.len() < count {
-        return CountAnswer::Refused(Refusal::Room);
+        return Err(Refusal::Room);
     }
-    put_strip(out, plan, layout_layers::parts::total_of(plan));
-    CountAnswer::Given(count)
+    put_strip(out, plan);
+    Ok(count)
 }

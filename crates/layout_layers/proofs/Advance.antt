@@ -9,7 +9,7 @@ use Rattle.math.proofs.Gcd.{gcd_is}
 use Rattle.pergen.specs.Pergen.{cycles, reduced, inverse}
 use Rattle.pergen.proofs.Inverse.{cycles_positive, reduced_positive, numbers, one_inverse}
 use Rattle.layout_layers.specs.declared.chain.Chain.{Chain}
-use Rattle.layout_layers.specs.Parts.{inverse_of, Unbroken}
+use Rattle.layout_layers.specs.Kept.{inverse_of, Unbroken}
 
 module _ (P G : ℕ) (some : 0 < P) where
   abbrev n : ℕ

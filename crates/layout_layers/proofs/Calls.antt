@@ -17,10 +17,11 @@ use Rattle.pergen.specs.Parts.{solved_of}
 use Rattle.layout.specs.declared.IsomorphicLayout.{IsomorphicLayout}
 use Rattle.layout.specs.Layouts.{Layout, layout_outcome}
 use Rattle.layout.proofs.Calls.{of_refused, of_given, parts_of, filled_as, refused_in_room}
-use Rattle.layout_layers.specs.declared.parts.Plan.{Plan}
+use Rattle.layout_layers.specs.declared.plan.Plan.{Plan}
 use Rattle.layout_layers.specs.KeyLayers.{number_in}
 use Rattle.layout_layers.specs.Answers.{get_layers, get_layer_count, get_layer}
-use Rattle.layout_layers.specs.Parts.{PlanOf, inverse_of, plan_number, total_of, Fronted, plan_layers}
+use Rattle.layout_layers.specs.Kept.{inverse_of}
+use Rattle.layout_layers.specs.Parts.{PlanOf, plan_number, total_of, Fronted, plan_layers}
 use Rattle.layout_layers.proofs.PlanLaws.{number_is, count_is, layers_are}
 
 module _ (r : IsomorphicLayout) (n : ℕ) (e : refused n ≡ layout_outcome r) where

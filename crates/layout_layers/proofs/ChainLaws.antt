@@ -18,7 +18,8 @@ use Rattle.math.proofs.Congruence.{add_cong, add_cancel, mul_cong}
 use Rattle.pergen.proofs.CarriedWalk.{turn_stays, turn_wraps}
 use Rattle.layout_layers.specs.declared.chain.Chain.{Chain}
 use Rattle.layout_layers.specs.declared.chain.Spot.{Spot}
-use Rattle.layout_layers.specs.Parts.{inverse_of, place_of, keys_of, Unbroken, SpotAt, Spread, InTurn, InTurns, OnChain, Walk, Ahead, run_number, listed_number}
+use Rattle.layout_layers.specs.Kept.{inverse_of, keys_of, Unbroken}
+use Rattle.layout_layers.specs.Parts.{place_of, SpotAt, Spread, InTurn, InTurns, OnChain, Walk, Ahead, run_number, listed_number}
 use Rattle.layout_layers.proofs.RunPlaces.{run_within, run_span, layers_within, here_found}
 use Rattle.layout_layers.proofs.SpreadLaws.{spread_none, spread_as, spread_of, spread_then}
 

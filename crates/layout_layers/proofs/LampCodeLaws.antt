@@ -1,16 +1,16 @@
 -- The lamp code of a number, by what the code tests, and what a writer of entries writes for it.
-use Prim.Native.Nat.{ℕ, ◌+◌, ◌*◌, ◌-◌, ◌≤◌, ◌<◌}
-use mathlib.Core.Path.{◌≡◌, refl, sym, ap, subst, ◌∙◌}
+use Rattle.std.specs.Prelude.{None, Some}
+use Prim.Native.Nat.{ℕ, ◌+◌, ◌*◌, ◌-◌, ◌<◌}
+use mathlib.Core.Path.{◌≡◌, refl, ap, subst, ◌∙◌}
 use mathlib.Core.Bool.{Bool, true, false}
-use mathlib.Core.List.{List, [], ◌∷◌}
+use mathlib.Core.List.{List}
 use native.Mathlib.Omega.{arith}
-use lib.Dec.{eqb, ltb}
-use borrow.Author.Tests.{eq-eqb, ne_eqb, ltb-true, ltb-false}
+use lib.Dec.{ltb}
+use borrow.Author.Tests.{ltb-true, ltb-false}
 use Rattle.answer.specs.Choice.{pick}
 use Rattle.layout_layers.specs.LampCodes.{lamp_code, code_of}
-use Rattle.text.proofs.Joined.{joined_same}
-use Rattle.layout_layers.specs.declared.parts.Plan.{Plan}
-use Rattle.layout_layers.specs.Parts.{plan_number, turns_of, listed, Fronted, plan_layers, shown_as, limit, plan_entries}
+use Rattle.layout_layers.specs.declared.plan.Plan.{Plan}
+use Rattle.layout_layers.specs.Parts.{plan_number, turns_of, listed, Fronted, plan_layers, shown_as, plan_entries}
 use Rattle.layout_layers.proofs.PlanLaws.{kind_natural, kind_sharp, kind_enharmonic, kind_flat}
 
 -- the codes, by what the code tests
@@ -40,41 +40,17 @@ module _ (T j : ℕ) (in-range : j < T) where
         by true q = code_low (ltb-true j (T - j) q)
         by false q = code_high (omega (arith, ltb-false j (T - j) q, apart))
 
--- ---- numbers, or codes
-
-module _ (T j : ℕ) where
-  pub shown_plain : T ≡ 0 → j ≡ shown_as T j
-  unfolding shown_as
-  shown_plain e = simp (eq-eqb T 0 e)
-
-  pub shown_coded : (T ≡ 0 → ⊥) → (c : ℕ) → c ≡ code_of T j → c ≡ shown_as T j
-  unfolding shown_as
-  shown_coded n c e = simp (ne_eqb T 0 n) e
-
-pub limit_coded : (T : ℕ) → (T ≡ 0 → ⊥) → limit T ≡ T
-limit_coded T n = simp (ne_eqb T 0 n)
-
-pub limit_fits : (T : ℕ) → T ≤ 65535 → limit T ≤ 65535
-limit_fits T h = by (eqb T 0)
-  where
-    by : (b : Bool) → pick b 65535 T ≤ 65535
-    by true = omega arith
-    by false = h
-
 -- ---- all entries
 
 -- as numbers
-numbers_written : (p : Plan) → plan_entries p 0 ≡ plan_layers p
-numbers_written p =
-    joined_same (λ i. shown_as 0 (plan_number p i) ∷ []) (λ i. plan_number p i ∷ []) (turns_of p * p.chain.num_cycles)
-    (λ k h. ap (λ (j : ℕ). j ∷ []) (sym (shown_plain 0 (plan_number p k) refl)))
+numbers_written : (p : Plan) → plan_entries p None ≡ plan_layers p
+unfolding shown_as
+numbers_written p = refl
 
-pub numbers_front : (p : Plan) (xs ys : List ℕ) → Fronted (plan_entries p 0) xs ys → Fronted (plan_layers p) xs ys
+pub numbers_front : (p : Plan) (xs ys : List ℕ) → Fronted (plan_entries p None) xs ys → Fronted (plan_layers p) xs ys
 numbers_front p xs ys f = subst (λ (text : List ℕ). Fronted text xs ys) (numbers_written p) f
 
 -- as codes
-pub codes_written : (p : Plan) (T : ℕ) → (T ≡ 0 → ⊥)
-    → plan_entries p T ≡ listed (λ i. code_of T (plan_number p i)) (turns_of p * p.chain.num_cycles)
-codes_written p T n =
-    joined_same (λ i. shown_as T (plan_number p i) ∷ []) (λ i. code_of T (plan_number p i) ∷ []) (turns_of p * p.chain.num_cycles)
-    (λ k h. ap (λ (j : ℕ). j ∷ []) (sym (shown_coded T (plan_number p k) n _ refl)))
+pub codes_written : (p : Plan) (T : ℕ) → plan_entries p (Some T) ≡ listed (λ i. code_of T (plan_number p i)) (turns_of p * p.chain.num_cycles)
+unfolding shown_as
+codes_written p T = refl

@@ -1,4 +1,5 @@
 -- A layout's plan: that it can be followed, and that what follows from it is the layout's.
+use Rattle.std.specs.Prelude.{Option}
 use Prim.Native.Nat.{ℕ, ◌+◌, ◌*◌, ◌-◌, ◌/◌, ◌%◌, ◌≤◌, ◌<◌}
 use mathlib.Core.Path.{◌≡◌, refl, sym, ap, ap₂, subst, ◌∙◌}
 use mathlib.Core.Bool.{Bool, true, false}
@@ -30,10 +31,12 @@ use Rattle.layout.specs.Layouts.{Layout, cycles_in, reduced_in}
 use Rattle.layout.specs.Parts.{Laid}
 use Rattle.layout.proofs.Finding.{Parts, laid}
 use Rattle.layout.proofs.PatternShape.{PatternShape, pattern_shape}
-use Rattle.layout_layers.specs.declared.parts.Plan.{Plan}
+use Rattle.layout_layers.specs.declared.chain.Chain.{Chain}
+use Rattle.layout_layers.specs.declared.plan.Plan.{Plan}
 use Rattle.layout_layers.specs.declared.Layer.TheVariants.{Natural, Sharp, Enharmonic, Flat}
 use Rattle.layout_layers.specs.KeyLayers.{equalized, entry_count, listed_layer, alternating, alternate_layer, layer_of, layer_number, key_layers, layer_count, kind_of, number_in, layers_in, count_in}
-use Rattle.layout_layers.specs.Parts.{place_of, keys_of, Spread, InTurns, run_layer, listed_number, layers_of_plan, total_of, Sound, PlanOf, turn_layer, plan_number, turns_of, listed, Fronted, plan_layers, shown_as, plan_entries}
+use Rattle.layout_layers.specs.Kept.{keys_of, layers_of_runs, IsSound}
+use Rattle.layout_layers.specs.Parts.{place_of, Spread, InTurns, run_layer, listed_number, layers_of_plan, total_of, Sound, PlanOf, turn_layer, plan_number, turns_of, listed, Fronted, plan_layers, shown_as, plan_entries}
 use Rattle.layout_layers.proofs.RunPlaces.{numbered_below}
 use Rattle.layout_layers.proofs.SpreadLaws.{length_listed, spread_front}
 use Rattle.layout_layers.proofs.ChainLaws.{place_below}
@@ -186,24 +189,16 @@ module _ (p : Plan) (sound : Sound p) where
   listed_within most t h = omega (arith, listed_most p t refl, h)
 
   -- entries that are stored in any order are the list
-  pub entries_front : (T turns : ℕ) {xs ys : List ℕ} → turns ≡ turns_of p → length (plan_layers p) ≤ length xs
-      → Spread (InTurns n turns) (λ i. shown_as T (plan_number p i)) xs ys → Fronted (plan_entries p T) xs ys
-  entries_front T turns {xs} {ys} e room s =
-      subst (λ (k : ℕ). Fronted (listed (λ i. shown_as T (plan_number p i)) (k * n)) xs ys) e
-      (spread_front n turns (λ i. shown_as T (plan_number p i)) sound.unbroken.some_cycles (omega (arith, length_plan p e)) s)
+  pub entries_front : (t : Option ℕ) (turns : ℕ) {xs ys : List ℕ} → turns ≡ turns_of p → length (plan_layers p) ≤ length xs
+      → Spread (InTurns n turns) (λ i. shown_as t (plan_number p i)) xs ys → Fronted (plan_entries p t) xs ys
+  entries_front t turns {xs} {ys} e room s =
+      subst (λ (k : ℕ). Fronted (listed (λ i. shown_as t (plan_number p i)) (k * n)) xs ys) e
+      (spread_front n turns (λ i. shown_as t (plan_number p i)) sound.unbroken.some_cycles (omega (arith, length_plan p e)) s)
 
 -- ---- the plan of a layout
 
-abbrev plan_with : Layout → (n R a h : ℕ) → Runs → Plan
-plan_with l n R a h runs =
-    record {
-      chain = record { num_cycles = n; reduced_period = R; advance = a; start = l.start };
-      runs = runs;
-      offset = h;
-      letters = l.letters;
-      secondaries = secondaries l.pattern;
-      equalized = eqb (primary l.pattern) (secondary l.pattern);
-    }
+abbrev chain_with : Layout → (n R a : ℕ) → Chain
+chain_with l n R a = record { num_cycles = n; reduced_period = R; advance = a; start = l.start }
 
 pub pick_most : (b : Bool) (u v m : ℕ) → u ≤ m → v ≤ m → pick b u v ≤ m
 pick_most true u v m h k = h
@@ -249,8 +244,8 @@ module _ (l : Layout) (ok : Laid l) where
         advance_of_cycle = divided-step ∙ ap₂ (λ (x y : ℕ). x / y) rest number-of-cycles
 
         module _ (runs : Runs) (runs_are : RunsOf l.pattern runs) (h : ℕ) (offset : (h ≡ G * l.start / n) × (h ≤ 524280)) where
-          abbrev plan : Plan
-          plan = plan_with l n R a h runs
+          abbrev chain : Chain
+          chain = chain_with l n R a
 
           runs_sum : sum (run_sizes runs) ≡ R
           runs_sum =
@@ -260,7 +255,7 @@ module _ (l : Layout) (ok : Laid l) where
               ∙ plan_shape.reduced_is
               ∙ sym period_of_cycle
 
-          layers_few : layers_of_plan plan ≤ R
+          layers_few : layers_of_runs (equalized l.pattern) runs ≤ R
           layers_few =
               pick_most (eqb (primary l.pattern) (secondary l.pattern)) 2 (length (drop_empty (run_sizes runs))) R
               (omega (arith, plan_shape.at_least_five, plan_shape.enough_keys, period_of_cycle))
@@ -270,10 +265,10 @@ module _ (l : Layout) (ok : Laid l) where
           keys_few =
               omega (arith, ap₂ (λ (x y : ℕ). x * y) period_of_cycle number-of-cycles, period_is P G plan_parts.positive)
 
-          sound_plan : Sound plan
+          pub sound_plan : IsSound chain runs h l.letters (secondaries l.pattern) (equalized l.pattern)
           sound_plan =
               record {
-                unbroken = chain_unbroken P G plan_parts.positive plan.chain number-of-cycles period_of_cycle advance_of_cycle
+                unbroken = chain_unbroken P G plan_parts.positive chain number-of-cycles period_of_cycle advance_of_cycle
                     (omega (arith, plan_shape.start_below, plan_shape.enough_keys));
                 runs_fill = runs_sum;
                 some_letters = omega (arith, plan_shape.at_least_five);
@@ -283,18 +278,21 @@ module _ (l : Layout) (ok : Laid l) where
                 keys_fit = keys_few;
               }
 
-          pub plan_made : PlanOf l plan
-          plan_made =
+          pub plan_made : (equal : Bool) → equal ≡ equalized l.pattern
+              → (s : IsSound chain runs h l.letters (secondaries l.pattern) equal)
+              → PlanOf l
+              (record { chain = chain; runs = runs; offset = h; letters = l.letters; secondaries = secondaries l.pattern; equalized = equal; sound = s })
+          plan_made equal same s =
               record {
-                sound = sound_plan;
+                sound = s;
                 cycles_are = number-of-cycles;
                 period_is = period_of_cycle;
-                inverse_is = chain_inverse P G plan_parts.positive plan.chain number-of-cycles period_of_cycle advance_of_cycle;
+                inverse_is = chain_inverse P G plan_parts.positive chain number-of-cycles period_of_cycle advance_of_cycle;
                 start_is = refl;
                 letters_are = refl;
                 secondaries_are = refl;
                 offset_is = offset.0 ∙ ap (λ (k : ℕ). G * l.start / k) number-of-cycles;
-                equalized_is = refl;
+                equalized_is = same;
                 runs_are = runs_are;
               }
 

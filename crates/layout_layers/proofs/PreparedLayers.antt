@@ -10,7 +10,6 @@ use borrow.Author.Tests.{eq-eqb, ne_eqb}
 use Rattle.math.proofs.Gcd.{gcd_or_one_positive, gcd_or_one_left, gcd_or_one_right}
 use Rattle.mos.specs.declared.Mos.{Mos}
 use Rattle.mos.specs.Patterns.{primaries, secondaries, primary, secondary, cycles_of}
-use Rattle.pergen.specs.Pergen.{degree, cycle}
 use Rattle.pergen.specs.Parts.{At, solved_of}
 use Rattle.pergen.specs.declared.euclid.Solved.{Solved}
 use Rattle.pergen.specs.declared.stepping.Key.{Key}

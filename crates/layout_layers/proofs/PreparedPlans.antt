@@ -5,7 +5,6 @@ use mathlib.Core.Bool.{Bool, true, false}
 use native.Mathlib.Omega.{arith}
 use lib.Dec.{eqb}
 use lib.IntN.{ℤ}
-use borrow.Author.Tests.{eq-eqb, ne_eqb}
 use Rattle.answer.specs.Choice.{pick}
 use Rattle.answer.specs.Outcome.{given}
 use Rattle.math.specs.Division.{remainder}
@@ -21,19 +20,20 @@ use Rattle.layout.specs.declared.IsomorphicLayout.{IsomorphicLayout}
 use Rattle.layout.specs.declared.prepared.Prepared.{Prepared}
 use Rattle.layout.proofs.Calls.{of_given}
 use Rattle.layout.proofs.Readiness.{parts_ready, found_twice, key_degree_lem, key_cycle_lem}
-use Rattle.layout_layers.specs.KeyLayers.{entry_count, number_in}
+use Rattle.layout_layers.specs.KeyLayers.{equalized, entry_count, number_in}
 use Rattle.layout_layers.specs.Answers.{get_layer}
-use Rattle.layout_layers.specs.Parts.{inverse_of, PlanOf}
-use Rattle.layout_layers.specs.declared.parts.Plan.{Plan}
+use Rattle.layout_layers.specs.Kept.{inverse_of}
+use Rattle.layout_layers.specs.Parts.{PlanOf}
+use Rattle.layout_layers.specs.declared.plan.Plan.{Plan}
 use Rattle.layout_layers.proofs.Calls.{cycles_given}
 
 -- ---- how many entries
 
-pub entries_double : (P : ℕ) (m : Mos) → primary m ≡ secondary m → 2 * P ≡ entry_count P m
-entries_double P m e = ap (λ (b : Bool). pick b (2 * P) P) (sym (eq-eqb (primary m) (secondary m) e))
+pub entries_double : (P : ℕ) (m : Mos) → equalized m ≡ true → 2 * P ≡ entry_count P m
+entries_double P m e = ap (λ (b : Bool). pick b (2 * P) P) (sym e)
 
-pub entries_single : (P : ℕ) (m : Mos) → (primary m ≡ secondary m → ⊥) → P ≡ entry_count P m
-entries_single P m e = ap (λ (b : Bool). pick b (2 * P) P) (sym (ne_eqb (primary m) (secondary m) e))
+pub entries_single : (P : ℕ) (m : Mos) → equalized m ≡ false → P ≡ entry_count P m
+entries_single P m e = ap (λ (b : Bool). pick b (2 * P) P) (sym e)
 
 pub entries_few : (P : ℕ) (m : Mos) → entry_count P m ≤ 2 * P
 entries_few P m = by (eqb (primary m) (secondary m))

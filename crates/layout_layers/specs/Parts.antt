@@ -1,5 +1,5 @@
 -- What the parts behind the calls promise: the definitions of KeyLayers, by the numbers that the code carries.
-use Rattle.std.specs.Prelude.{ℕ, ◌+◌, ◌*◌, ◌-◌, ◌/◌, ◌%◌, ◌≤◌, ◌<◌, ◌≡◌, List, [], ◌∷◌, ◌++◌, length, get_or, drop, replicate, eqb}
+use Rattle.std.specs.Prelude.{ℕ, ◌+◌, ◌*◌, ◌-◌, ◌/◌, ◌%◌, ◌≤◌, ◌<◌, ◌≡◌, List, [], ◌∷◌, ◌++◌, length, get_or, drop, replicate, Option, None, Some}
 use Rattle.answer.specs.Choice.{pick}
 use Rattle.text.specs.Writing.{joined}
 use Rattle.mos.specs.Patterns.{primaries, secondaries, primary, secondary, cycles_of}
@@ -7,12 +7,12 @@ use Rattle.pergen.specs.Pergen.{inverse}
 use Rattle.mos_layers.specs.declared.Runs.{Runs}
 use Rattle.mos_layers.specs.Layers.{all_sizes, drop_empty, numbered, layer_sizes}
 use Rattle.mos_layers.specs.Parts.{run_sizes}
-use Rattle.mos_layers.specs.Theorems.{sum}
 use Rattle.layout.specs.Layouts.{Layout, cycles_in, reduced_in}
 use Rattle.layout_layers.specs.declared.keys.Sizes.{Sizes}
 use Rattle.layout_layers.specs.declared.chain.Chain.{Chain}
 use Rattle.layout_layers.specs.declared.chain.Spot.{Spot}
-use Rattle.layout_layers.specs.declared.parts.Plan.{Plan}
+use Rattle.layout_layers.specs.declared.plan.Plan.{Plan}
+use Rattle.layout_layers.specs.Kept.{inverse_of, keys_of, Unbroken, layers_of_runs, IsSound}
 use Rattle.layout_layers.specs.KeyLayers.{equalized, alternating}
 use Rattle.layout_layers.specs.LampCodes.{code_of}
 
@@ -56,24 +56,9 @@ alternate_in l group = alternating l.letters (secondaries l.pattern) (l.generato
 
 -- ---- the chain
 
--- "The inverse" of document 01, from what the chain holds: how many places on the next scale degree is.
-unfoldable pub inverse_of : Chain → ℕ
-inverse_of c = inverse c.reduced_period c.advance
-
 -- The place of scale degree `turn`: "(start + degree) mod R".
 unfoldable pub place_of : Chain → ℕ → ℕ
 place_of c turn = (c.start + inverse_of c * turn % c.reduced_period) % c.reduced_period
-
--- How many keys the octave has.
-abbrev pub keys_of : Chain → ℕ
-keys_of c = c.reduced_period * c.num_cycles
-
--- A chain that can be walked: one place on is one advance on.
-pub record Unbroken (c : Chain) : Type 0 where
-  pub some_cycles : 0 < c.num_cycles
-  pub start_below : c.start < c.reduced_period
-  pub advance_below : c.advance < c.reduced_period
-  pub one : inverse_of c * c.advance % c.reduced_period ≡ 1 % c.reduced_period
 
 -- A spot of the walk holds the scale degree of its place; behind the last place comes the first again.
 pub record SpotAt (c : Chain) (s : Spot) : Type 0 where
@@ -131,21 +116,15 @@ listed_number runs c i = run_layer runs (place_of c (i / c.num_cycles)) * c.num_
 
 -- How many layers of one cycle a plan has.
 abbrev pub layers_of_plan : Plan → ℕ
-layers_of_plan p = pick p.equalized 2 (length (drop_empty (run_sizes p.runs)))
+layers_of_plan p = layers_of_runs p.equalized p.runs
 
 -- How many numbers there are: document 01's T.
 abbrev pub total_of : Plan → ℕ
 total_of p = layers_of_plan p * p.chain.num_cycles
 
--- A plan that can be followed: divisors are above 0, places are on the list, and the numbers fit 16 bits.
-pub record Sound (p : Plan) : Type 0 where
-  pub unbroken : Unbroken p.chain
-  pub runs_fill : sum (run_sizes p.runs) ≡ p.chain.reduced_period
-  pub some_letters : 0 < p.letters
-  pub few_secondaries : p.secondaries ≤ 9
-  pub near_offset : p.offset ≤ 524280
-  pub layers_fit : total_of p ≤ 65535
-  pub keys_fit : keys_of p.chain ≤ 65535
+-- A plan that can be followed, as all can.
+abbrev pub Sound : Plan → Type 0
+Sound p = IsSound p.chain p.runs p.offset p.letters p.secondaries p.equalized
 
 -- The plan of a layout's layers.
 pub record PlanOf (l : Layout) (p : Plan) : Type 0 where
@@ -187,15 +166,21 @@ Fronted text before after = after ≡ text ++ drop (length text) before
 abbrev pub plan_layers : Plan → List ℕ
 plan_layers p = listed (plan_number p) (turns_of p * p.chain.num_cycles)
 
--- What a writer of entries writes for a number: the number itself where T is 0, and else its code, of T.
-unfoldable pub shown_as : (T j : ℕ) → ℕ
+-- What a writer of entries writes for a number: the number itself, or its code, of T.
+unfoldable pub shown_as : Option ℕ → (j : ℕ) → ℕ
 unfolding code_of
-shown_as T j = pick (eqb T 0) j (code_of T j)
+shown_as None j = j
+shown_as (Some T) j = code_of T j
 
 -- The numbers that it writes something for are below this.
-abbrev pub limit : ℕ → ℕ
-limit T = pick (eqb T 0) 65535 T
+abbrev pub limit : Option ℕ → ℕ
+limit None = 65535
+limit (Some T) = T
+
+-- So many numbers fit 16 bits, and are what it writes something for.
+abbrev pub Held : Option ℕ → ℕ → Type 0
+Held t n = (n ≤ limit t) × (n ≤ 65535)
 
 -- All entries as they are written.
-abbrev pub plan_entries : Plan → (T : ℕ) → List ℕ
-plan_entries p T = listed (λ i. shown_as T (plan_number p i)) (turns_of p * p.chain.num_cycles)
+abbrev pub plan_entries : Plan → Option ℕ → List ℕ
+plan_entries p t = listed (λ i. shown_as t (plan_number p i)) (turns_of p * p.chain.num_cycles)

@@ -3,7 +3,8 @@
 // A layer's keys are neighbours on the chain, not on the keyboard. Whole-octave work goes from place to place of the chain: the layer stays
 // until its places are used up, and the next place's scale degree is one addition away.
 ghost use Rattle.std.specs.Prelude.{◌≡◌, ◌+◌, ◌<◌};
-ghost use Rattle.layout_layers.specs.Parts.{Unbroken, SpotAt};
+ghost use Rattle.layout_layers.specs.Kept.{Unbroken};
+ghost use Rattle.layout_layers.specs.Parts.{SpotAt};
 
 // The numbers of a chain. A place on is `advance` scale degrees on; key 0 has the place `start`.
 #[derive(Clone, Copy)]

@@ -1,21 +1,23 @@
-// The layer of a key: parts, and no entry points. Callers have asked questions 1 to 4 and 18, and hand in the prepared layout.
+// The layer of a key: parts, and no entry points. Callers hand in the prepared layout.
 //
 // Five numbers tell the sizes of all layers, and the layer at a place of the chain follows from them by a few comparisons and one division:
 // nothing is walked, and nothing kept from key to key.
 ghost use Rattle.std.specs.Prelude.{◌≡◌, ◌+◌, ◌*◌, ◌/◌, ◌%◌, ◌<◌, ◌≤◌, length};
 ghost use Rattle.mos_layers.specs.Layers.{all_sizes, drop_empty};
 ghost use Rattle.pergen.specs.Parts.{At};
-ghost use Rattle.layout.specs.Parts.{layout_in, Ready};
+ghost use Rattle.layout.specs.Parts.{layout_in};
 ghost use Rattle.layout_layers.specs.KeyLayers.{equalized, alternating, entry_count, layer_in, number_in, count_in};
 ghost use Rattle.layout_layers.specs.Parts.{sharp_places, sizes_in, Countable, SizesOf, layer_at, alternate_in};
 
 use layout::prepared::Prepared;
+use mos::Mos;
 use mos_layers::parts::divided;
 use pergen::stepping::Key;
 
 // The sizes of the layers of one cycle. Natural and full sharp layers have all letters, as many as `full` says; as many sharp ones as
 // `partial` says have the count that is left over, `rest`. The flat layers are the sharp ones in reverse. All together have as many places as
-// the chain, so that the enharmonic layer has those that the others leave; there is none where they leave none.
+// the chain, so that the enharmonic layer has those that the others leave; there is none where they leave none. `Countable` is asked, and no
+// ghost field: the law that gives it counts sizes first, so a field would want a second record of the same five numbers in its proof.
 #[derive(Clone, Copy)]
 pub(crate) struct Sizes {
     pub letters: u16,
@@ -53,7 +55,6 @@ fn sizes_by(a: u16, b: u16, x: u16, y: u16, places: u16) -> Sizes
 
 // The sizes of a layout's layers.
 pub(crate) fn sizes_of(prepared: Prepared) -> Sizes
-    requires { Ready prepared }
     ensures { SizesOf (layout_in prepared) result }
 {
     let pattern = prepared.found.pattern;
@@ -132,10 +133,9 @@ pub(crate) fn chain_place(start: u16, degree: u16, reduced_period: u16) -> u16
 }
 
 // Has the layout an equalized scale, whose two layers alternate?
-pub(crate) fn is_equalized(prepared: Prepared) -> bool
-    ensures { result ≡ equalized prepared.found.pattern }
+pub(crate) fn is_equalized(pattern: Mos) -> bool
+    ensures { result ≡ equalized pattern }
 {
-    let pattern = prepared.found.pattern;
     pattern.primary_step == pattern.secondary_step
 }
 
@@ -168,7 +168,7 @@ pub(crate) fn alternate(letters: u16, secondaries: u16, offset: u32, group: u32)
 
 // The layer of a group of keys, one of each cycle, in an equalized scale.
 pub(crate) fn alternate_layer(prepared: Prepared, group: u32) -> u16
-    requires { Ready prepared × (group ≤ 131070) }
+    requires { group ≤ 131070 }
     ensures { result ≡ alternate_in (layout_in prepared) group }
 {
     let found = prepared.found;
@@ -183,11 +183,11 @@ pub(crate) fn alternate_layer(prepared: Prepared, group: u32) -> u16
 
 // The layer of a key among those of its own cycle.
 fn layer_of(prepared: Prepared, key: Key) -> u16
-    requires { Ready prepared × At prepared.solved key × (key.number ≤ 131070) }
+    requires { At prepared.solved key × (key.number ≤ 131070) }
     ensures { result ≡ layer_in (layout_in prepared) key.number }
 {
     let solved = prepared.solved;
-    if is_equalized(prepared) {
+    if is_equalized(prepared.found.pattern) {
         return alternate_layer(prepared, key.number / (solved.num_cycles as u32));
     }
     let place = chain_place(prepared.found.start, key.degree, solved.reduced_period);
@@ -196,7 +196,7 @@ fn layer_of(prepared: Prepared, key: Key) -> u16
 
 // The layer number of a key.
 pub fn number_of(prepared: Prepared, key: Key) -> u16
-    requires { Ready prepared × At prepared.solved key × (key.number ≤ 131070) }
+    requires { At prepared.solved key × (key.number ≤ 131070) }
     ensures { result ≡ number_in (layout_in prepared) key.number }
 {
     layer_of(prepared, key) * prepared.solved.num_cycles + key.cycle
@@ -204,11 +204,10 @@ pub fn number_of(prepared: Prepared, key: Key) -> u16
 
 // How many layer numbers there are.
 pub fn total_of(prepared: Prepared) -> u16
-    requires { Ready prepared }
     ensures { result ≡ count_in (layout_in prepared) }
 {
     let num_cycles = prepared.solved.num_cycles;
-    if is_equalized(prepared) {
+    if is_equalized(prepared.found.pattern) {
         return 2 * num_cycles;
     }
     count_of(sizes_of(prepared)) * num_cycles
@@ -220,7 +219,7 @@ pub fn entry_count(prepared: Prepared) -> u32
 {
     let found = prepared.found;
     let keys = found.octave as u32;
-    if found.pattern.primary_step == found.pattern.secondary_step {
+    if is_equalized(found.pattern) {
         return 2 * keys;
     }
     keys

@@ -10,15 +10,15 @@
 pub mod chain;
 pub mod keys;
 pub mod parts;
+pub mod plan;
 
 ghost use Rattle.std.specs.Prelude.{◌≡◌, length};
+ghost use Rattle.answer.specs.Refusals.{outcome_of};
 ghost use Rattle.answer.specs.Lent.{in_room, counted, Filled};
-ghost use Rattle.answer.specs.Refusals.{number_outcome, count_outcome};
 ghost use Rattle.layout_layers.specs.KeyLayers.{kind_of};
 ghost use Rattle.layout_layers.specs.Answers.{get_layers, get_layer_count, get_layer};
 
-use answer::{CountAnswer, NumberAnswer};
-use layout::parts::FoundAnswer;
+use answer::Refusal;
 use layout::{IsomorphicLayout, prepared};
 use pergen::stepping;
 
@@ -32,48 +32,38 @@ pub enum Layer {
 }
 
 // The layer number of each key of an octave, of two octaves where the scale is equalized (1, 2, 3, 4, 18, 10).
-pub fn get_layers(layout: IsomorphicLayout, out: &mut [u16]) -> CountAnswer
-    ensures { Filled (in_room (length out.old) (get_layers layout)) (count_outcome result) out.old out.new }
+pub fn get_layers(layout: IsomorphicLayout, out: &mut [u16]) -> Result<usize, Refusal>
+    ensures { Filled (in_room (length out.old) (get_layers layout)) (outcome_of result) out.old out.new }
 {
-    match layout::parts::ask(layout) {
-        FoundAnswer::Refused(q) => CountAnswer::Refused(q),
-        FoundAnswer::Given(found) => parts::write_layers(parts::plan_of(found), out),
-    }
+    let found = layout::parts::ask(layout)?;
+    parts::write_layers(parts::plan_of(found), out)
 }
 
 // How many numbers `get_layers` writes (1, 2, 3, 4, 18).
-pub fn layers_len(layout: IsomorphicLayout) -> CountAnswer
-    ensures { count_outcome result ≡ counted (get_layers layout) }
+pub fn layers_len(layout: IsomorphicLayout) -> Result<usize, Refusal>
+    ensures { outcome_of result ≡ counted (get_layers layout) }
 {
-    match layout::parts::ask(layout) {
-        FoundAnswer::Refused(q) => CountAnswer::Refused(q),
-        FoundAnswer::Given(found) => CountAnswer::Given(parts::entries(parts::plan_of(found))),
-    }
+    let found = layout::parts::ask(layout)?;
+    Ok(parts::entries(parts::plan_of(found)))
 }
 
 // How many layer numbers there are, from 0 on (1, 2, 3, 4, 18).
-pub fn layer_count(layout: IsomorphicLayout) -> NumberAnswer
-    ensures { number_outcome result ≡ get_layer_count layout }
+pub fn layer_count(layout: IsomorphicLayout) -> Result<u16, Refusal>
+    ensures { outcome_of result ≡ get_layer_count layout }
 {
-    match layout::parts::ask(layout) {
-        FoundAnswer::Refused(q) => NumberAnswer::Refused(q),
-        FoundAnswer::Given(found) => NumberAnswer::Given(parts::total_of(parts::plan_of(found))),
-    }
+    let found = layout::parts::ask(layout)?;
+    Ok(parts::total_of(parts::plan_of(found)))
 }
 
 // The layer number of one key, whatever its octave, below 0 too: what `get_layers` writes repeats (1, 2, 3, 4, 18).
-pub fn get_layer(layout: IsomorphicLayout, key: i32) -> NumberAnswer
-    ensures { number_outcome result ≡ get_layer layout key }
+pub fn get_layer(layout: IsomorphicLayout, key: i32) -> Result<u16, Refusal>
+    ensures { outcome_of result ≡ get_layer layout key }
 {
-    match layout::parts::ask(layout) {
-        FoundAnswer::Refused(q) => NumberAnswer::Refused(q),
-        FoundAnswer::Given(found) => {
-            let prepared = prepared::prepare(found);
-            let entry = math::parts::rem_u32(key, keys::entry_count(prepared));
-            let asked = stepping::key_at(prepared.solved, entry);
-            NumberAnswer::Given(keys::number_of(prepared, asked))
-        }
-    }
+    let found = layout::parts::ask(layout)?;
+    let prepared = prepared::prepare(found);
+    let entry = math::parts::rem_u32(key, keys::entry_count(prepared));
+    let asked = stepping::key_at(prepared.solved, entry);
+    Ok(keys::number_of(prepared, asked))
 }
 
 // What a layer's number means, of as many as `total` says.

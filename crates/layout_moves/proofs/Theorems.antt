@@ -1,8 +1,8 @@
 -- An accepted layout's pattern is one of the walk from its genesis, so all that holds of the walk's moves holds of the layout's.
+use Rattle.std.specs.Prelude.{Option, Some}
 use Prim.Native.Nat.{ℕ, ◌≤◌, ◌<◌}
 use mathlib.Core.Path.{◌≡◌, refl, sym, ap, ◌∙◌, subst}
 use mathlib.Core.List.{List}
-use mathlib.Core.Option.{Option, some}
 use native.Mathlib.Omega.{arith}
 use lib.IntN.{ℤ, pos, ◌+ℤ◌, ◌*ℤ◌, *ℤ_comm}
 use lib.ListN.{length}
@@ -109,7 +109,7 @@ module _ (r : IsomorphicLayout) (before : Table ℤ) where
       let own = own_moves l (accepted r l (sym e)) in
       tabled_moves t (mos_given r l e)
       (sym (of_given r (λ (k : Layout). given (moves_in k)) l e)
-      ∙ ap given (own.1.are ∙ ap some (own.1.by_pattern ∙ sym is)))
+      ∙ ap given (own.1.are ∙ ap Some (own.1.by_pattern ∙ sym is)))
 
 -- ---- the numbers in a slice
 
@@ -128,7 +128,7 @@ module _ (r : IsomorphicLayout) (xs : List ℤ) where
     asked =
         let mine = own_moves l (accepted r l (sym e)) in
         sym (of_given r (λ (k : Layout). given (move_numbers (moves_in k))) l e)
-        ∙ ap (λ (o : Option (Table ℤ)). given (move_numbers o)) (mine.1.are ∙ ap some mine.1.by_pattern)
+        ∙ ap (λ (o : Option (Table ℤ)). given (move_numbers o)) (mine.1.are ∙ ap Some mine.1.by_pattern)
 
     pub numbers_short : length xs < 4 → Filled (in_room (length xs) (get_move_numbers r)) (refused 10) xs xs
     numbers_short h = filled_short xs (numbers_of own) asked h

@@ -1,6 +1,5 @@
 -- What the calls answer: questions 1 to 4 and 18 of the layout, then the moves of its own pattern; as numbers in a slice also question 10.
-use Rattle.std.proofs.Math.Option.{Option, none, some}
-use Rattle.std.specs.Prelude.{List, [], ℤ}
+use Rattle.std.specs.Prelude.{List, [], ℤ, Option, None, Some}
 use Rattle.answer.specs.Outcome.{Outcome, given}
 use Rattle.mos.specs.Patterns.{genesis}
 use Rattle.mos.specs.Walks.{children}
@@ -21,8 +20,8 @@ get_moves r = of_layout r (λ (l : Layout). given (moves_in l))
 
 -- The four numbers of a table.
 abbrev pub move_numbers : Option (Table ℤ) → List ℤ
-move_numbers none = []
-move_numbers (some t) = numbers_of t
+move_numbers None = []
+move_numbers (Some t) = numbers_of t
 
 unfoldable pub get_move_numbers : IsomorphicLayout → Outcome (List ℤ)
 unfolding layout_outcome moves_in

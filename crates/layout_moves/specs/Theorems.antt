@@ -1,6 +1,5 @@
 -- What holds of every accepted layout's moves. Proofs: proofs/Theorems.antt.
-use Rattle.std.specs.Prelude.{ℕ, ◌≤◌, ◌≡◌, ℤ, pos, ◌+ℤ◌}
-use Rattle.std.proofs.Math.Option.{some}
+use Rattle.std.specs.Prelude.{ℕ, ◌≤◌, ◌≡◌, ℤ, pos, ◌+ℤ◌, Some}
 use Rattle.mos.specs.Patterns.{key_at}
 use Rattle.mos_moves.specs.Moves.{Table, pattern_moves}
 use Rattle.mos_moves.specs.Theorems.{MovesAt, BoardMoves, ReachedInOneWay}
@@ -12,7 +11,7 @@ use Rattle.layout_moves.specs.Answers.{moves_in}
 -- A layout always has moves, those that stand beside its pattern on the walk. So their rows reach the steps, the determinant is −1, the
 -- numbers are small, where octave and generator have 16 bits, and all octaves and generators are made of them in one way.
 pub record OwnMoves (l : Layout) (t : Table ℤ) : Type 0 where
-  pub are : moves_in l ≡ some t
+  pub are : moves_in l ≡ Some t
   pub at : (k : ℕ) × MovesAt l.octave l.generator k l.pattern t
   pub by_pattern : t ≡ pattern_moves l.octave l.generator l.pattern
   pub board : l.octave ≤ 65535 → l.generator ≤ 65535 → BoardMoves l.octave l.generator l.pattern t

@@ -1,9 +1,7 @@
 -- The walk from key to key: the entries of the keys before the one at hand are placed.
-use Prim.Native.Nat.{ℕ, ◌+◌, ◌*◌, ◌≤◌, ◌<◌}
-use mathlib.Core.Bool.{Bool, true, false, not}
+use Prim.Native.Nat.{ℕ, ◌+◌, ◌*◌, ◌<◌}
 use mathlib.Core.Path.{◌≡◌, refl, sym, ap, ap₂, ◌∙◌}
 use mathlib.Core.List.{List}
-use native.Mathlib.Nat.{le_antisymm}
 use native.Mathlib.Omega.{arith}
 use lib.ListN.{length, get_or, set}
 use mir.Syntax.{w64}
@@ -16,7 +14,9 @@ use Rattle.pergen.specs.declared.stepping.Key.{Key}
 use Rattle.layout.specs.Parts.{Ready}
 use Rattle.layout.specs.declared.prepared.Prepared.{Prepared}
 use Rattle.layout.proofs.Readiness.{parts_ready, key_degree_lem, key_cycle_lem}
-use Rattle.layout_order.specs.Parts.{position_in, rearranged}
+use Rattle.layout_order.specs.Parts.{other, position_in, rearranged}
+use Rattle.layout_order.specs.declared.parts.ListOrder.{ListOrder}
+use Rattle.layout_order.specs.declared.parts.ListOrder.TheVariants.{Chain, Keys}
 use Rattle.layout_order.proofs.Places.{place_is}
 use Rattle.layout_order.proofs.Placing.{placed_length, placed_none, placed_more, order_permutes}
 
@@ -29,36 +29,34 @@ sum_held a b c ha hb hc = omega (arith, product_fits a b ha hb)
 
 -- a key tells its position in either order
 module _ (p : Prepared) (h : Ready p) (k : Key) (at : At p.solved k) where
-  pub chain_position : {chain : Bool} → chain ≡ true
-      → k.cycle * p.solved.reduced_period + k.degree ≡ position_in chain p.found.octave p.found.generator k.number
+  pub chain_position : k.cycle * p.solved.reduced_period + k.degree ≡ position_in Chain p.found.octave p.found.generator k.number
   unfolding solved_of position_in
-  chain_position t =
+  chain_position =
       let P = p.found.octave in
       let G = p.found.generator in
       ap₂ (λ (c d : ℕ). c * p.solved.reduced_period + d) (key_cycle_lem p h k at) (key_degree_lem p h k at)
       ∙ ap (λ (s : Solved). cycle P G k.number * s.reduced_period + degree P G k.number) h.solved_is
       ∙ sym (place_is P G (parts_ready p h).positive k.number)
-      ∙ ap (λ (b : Bool). position_in b P G k.number) (sym t)
 
-  pub number_position : {chain : Bool} → chain ≡ false → k.number ≡ position_in chain p.found.octave p.found.generator k.number
+  pub number_position : k.number ≡ position_in Keys p.found.octave p.found.generator k.number
   unfolding position_in
-  number_position t = rw t refl
+  number_position = refl
 
 -- a key of the octave has its entry among so many
-pub position_below : (p : Prepared) → Ready p → (chain : Bool) (number : ℕ) → number < p.found.octave → {i : ℕ}
-    → i ≡ position_in chain p.found.octave p.found.generator number → i < p.found.octave
-position_below p h chain number l e =
-    rw e ((order_permutes chain p.found.octave p.found.generator (parts_ready p h).positive).within number l)
+pub position_below : (p : Prepared) → Ready p → (order : ListOrder) (number : ℕ) → number < p.found.octave → {i : ℕ}
+    → i ≡ position_in order p.found.octave p.found.generator number → i < p.found.octave
+position_below p h order number l e =
+    rw e ((order_permutes order p.found.octave p.found.generator (parts_ready p h).positive).within number l)
 
 -- ---- the walk
 
--- The entries of the keys before k are where the order has them.
-pub record Carrying (chain : Bool) (p : Prepared) (entries before after : List ℕ) (k : Key) : Type 0 where
+-- The entries of the keys below `number` are where the order has them, and k is the key with this number.
+pub record Carrying (order : ListOrder) (p : Prepared) (entries before after : List ℕ) (k : Key) (number : ℕ) : Type 0 where
   pub at : At p.solved k
-  pub upto : k.number ≤ p.found.octave
-  pub content : after ≡ rearranged chain p.found.octave p.found.generator entries k.number before
+  pub number_is : k.number ≡ number
+  pub content : after ≡ rearranged order p.found.octave p.found.generator entries number before
 
-module _ (chain : Bool) (p : Prepared) (entries before : List ℕ) where
+module _ (order : ListOrder) (p : Prepared) (entries before : List ℕ) where
   abbrev P : ℕ
   P = p.found.octave
 
@@ -66,32 +64,24 @@ module _ (chain : Bool) (p : Prepared) (entries before : List ℕ) where
   G = p.found.generator
 
   abbrev from : ℕ → ℕ
-  from = position_in (not chain) P G
+  from = position_in (other order) P G
 
   abbrev to : ℕ → ℕ
-  to = position_in chain P G
+  to = position_in order P G
 
-  pub carry_start : (k : Key) → At p.solved k × (k.number ≡ 0) → Carrying chain p entries before before k
-  carry_start k (at, zeroth) =
-      record {
-        at = at;
-        upto = omega (arith, zeroth);
-        content = placed_none from to entries before ∙ ap (λ (n : ℕ). rearranged chain P G entries n before) (sym zeroth);
-      }
+  pub carry_start : (k : Key) → At p.solved k × (k.number ≡ 0) → Carrying order p entries before before k 0
+  carry_start k (at, zeroth) = record { at = at; number_is = zeroth; content = placed_none from to entries before }
 
-  module _ {after : List ℕ} {k : Key} (c : Carrying chain p entries before after k) where
+  module _ {after : List ℕ} {k : Key} {number : ℕ} (c : Carrying order p entries before after k number) where
     pub carry_length : length after ≡ length before
-    carry_length = ap length c.content ∙ placed_length from to entries k.number before
+    carry_length = ap length c.content ∙ placed_length from to entries number before
 
-    pub carry_on : k.number < P → {i e : ℕ} → i ≡ to k.number → e ≡ get_or entries (from k.number) 0
-        → {next : Key} → At p.solved next × (next.number ≡ k.number + 1) → Carrying chain p entries before (set after i e) next
-    carry_on l there entry (at, on) =
+    pub carry_on : {i e : ℕ} → i ≡ to k.number → e ≡ get_or entries (from k.number) 0
+        → {next : Key} → At p.solved next × (next.number ≡ k.number + 1) → Carrying order p entries before (set after i e) next (number + 1)
+    carry_on there entry (at, on) =
         record {
           at = at;
-          upto = omega (arith, l, on);
-          content = placed_more from to entries k.number before c.content there entry
-              ∙ ap (λ (n : ℕ). rearranged chain P G entries n before) (sym on);
+          number_is = omega (arith, on, c.number_is);
+          content = placed_more from to entries number before c.content (there ∙ ap to c.number_is)
+              (entry ∙ ap (λ (n : ℕ). get_or entries (from n) 0) c.number_is);
         }
-
-    pub carry_end : P ≤ k.number → after ≡ rearranged chain P G entries P before
-    carry_end l = c.content ∙ ap (λ (n : ℕ). rearranged chain P G entries n before) (le_antisymm c.upto l)

@@ -1,7 +1,7 @@
 -- Entries that go to the places of a permutation: each place holds the entry that went there, and what lies past them stays.
 use Prim.Native.Nat.{ℕ, zero, suc, ◌+◌, ◌-◌, ◌≤◌, ◌<◌}
 use mathlib.Core.Path.{◌≡◌, refl, sym, ap, ap₂, ◌∙◌}
-use mathlib.Core.Bool.{Bool, true, false, not}
+use mathlib.Core.Bool.{Bool, true, false}
 use mathlib.Core.List.{List, ◌++◌}
 use native.Mathlib.Numerals.{add-one}
 use native.Mathlib.Decide.{dec_lt}
@@ -11,7 +11,9 @@ use lib.ListN.{length, get_or, set, take, drop, replicate, length-set, length-ap
 use lib.Seq.{get_or-set_same, get_or-set_other, get_or-append-add, get_or-drop, get_or-take, length-take-le, ext_get_or}
 use borrow.Author.Tests.{eqb-true, eqb-false}
 use Rattle.layout_order.specs.Order.{placed, in_chain_order, in_key_order}
-use Rattle.layout_order.specs.Parts.{position_in, rearranged, order_of}
+use Rattle.layout_order.specs.Parts.{other, position_in, rearranged, order_of}
+use Rattle.layout_order.specs.declared.parts.ListOrder.{ListOrder}
+use Rattle.layout_order.specs.declared.parts.ListOrder.TheVariants.{Chain, Keys}
 use Rattle.layout_order.specs.Theorems.{EntriesGoToTheirPlaces, EachUndoesTheOther}
 use Rattle.layout_order.proofs.Places.{place_below, places_apart, key_there, key_there_below, key_there_lem}
 
@@ -118,9 +120,9 @@ module _ (from to : ℕ → ℕ) (entries : List ℕ) where
 
 -- ---- the two orders
 
-pub order_permutes : (chain : Bool) (P G : ℕ) → 0 < P → Permutes (position_in chain P G) P
+pub order_permutes : (order : ListOrder) (P G : ℕ) → 0 < P → Permutes (position_in order P G) P
 unfolding position_in
-order_permutes true P G h =
+order_permutes Chain P G h =
     record {
       within = λ i l. place_below P G h i;
       apart = places_apart P G h;
@@ -128,73 +130,73 @@ order_permutes true P G h =
       back_below = key_there_below P G h;
       back_is = key_there_lem P G h;
     }
-order_permutes false P G h =
+order_permutes Keys P G h =
     record { within = λ i l. l; apart = λ i j li lj e. e; back = λ j l. j; back_below = λ j l. l; back_is = λ j l. refl }
 
-pub order_is : (chain : Bool) (P G : ℕ) (entries : List ℕ)
-    → order_of chain P G entries ≡ rearranged chain P G entries P (replicate P 0)
+pub order_is : (order : ListOrder) (P G : ℕ) (entries : List ℕ)
+    → order_of order P G entries ≡ rearranged order P G entries P (replicate P 0)
 unfolding order_of position_in in_chain_order in_key_order
-order_is true P G entries = refl
-order_is false P G entries = refl
+order_is Chain P G entries = refl
+order_is Keys P G entries = refl
 
-module _ (chain : Bool) (P G : ℕ) (h : 0 < P) (entries : List ℕ) where
-  pub order_length : length (order_of chain P G entries) ≡ P
+module _ (order : ListOrder) (P G : ℕ) (h : 0 < P) (entries : List ℕ) where
+  pub order_length : length (order_of order P G entries) ≡ P
   order_length =
-      ap length (order_is chain P G entries)
-      ∙ whole_length (position_in (not chain) P G) (position_in chain P G) entries P (order_permutes chain P G h)
+      ap length (order_is order P G entries)
+      ∙ whole_length (position_in (other order) P G) (position_in order P G) entries P (order_permutes order P G h)
 
   -- what the walk leaves is the list at the front
   pub order_front : (xs : List ℕ) → P ≤ length xs
-      → rearranged chain P G entries P xs ≡ order_of chain P G entries ++ drop (length (order_of chain P G entries)) xs
+      → rearranged order P G entries P xs ≡ order_of order P G entries ++ drop (length (order_of order P G entries)) xs
   order_front xs room =
-      placed_front (position_in (not chain) P G) (position_in chain P G) entries P (order_permutes chain P G h) xs room
-      ∙ ap (λ (l : List ℕ). l ++ drop (length l) xs) (sym (order_is chain P G entries))
+      placed_front (position_in (other order) P G) (position_in order P G) entries P (order_permutes order P G h) xs room
+      ∙ ap (λ (l : List ℕ). l ++ drop (length l) xs) (sym (order_is order P G entries))
 
   -- the entry of key i goes from where the other order has it to where this one has
   pub entry_goes : (i : ℕ) → i < P
-      → get_or (order_of chain P G entries) (position_in chain P G i) 0 ≡ get_or entries (position_in (not chain) P G i) 0
+      → get_or (order_of order P G entries) (position_in order P G i) 0 ≡ get_or entries (position_in (other order) P G i) 0
   entry_goes i l =
-      ap (λ (x : List ℕ). get_or x (position_in chain P G i) 0) (order_is chain P G entries)
-      ∙ placed_at (position_in (not chain) P G) (position_in chain P G) entries P (replicate P 0) (order_permutes chain P G h).apart i l
-      (omega (arith, length-replicate {A = ℕ} P 0, (order_permutes chain P G h).within i l))
+      ap (λ (x : List ℕ). get_or x (position_in order P G i) 0) (order_is order P G entries)
+      ∙ placed_at (position_in (other order) P G) (position_in order P G) entries P (replicate P 0) (order_permutes order P G h).apart i l
+      (omega (arith, length-replicate {A = ℕ} P 0, (order_permutes order P G h).within i l))
 
 pub entries_go_to_their_places : EntriesGoToTheirPlaces
 unfolding order_of position_in
 entries_go_to_their_places P G h entries =
     record {
-      there = entry_goes true P G h entries;
-      back = entry_goes false P G h entries;
-      there_many = order_length true P G h entries;
-      back_many = order_length false P G h entries;
+      there = entry_goes Chain P G h entries;
+      back = entry_goes Keys P G h entries;
+      there_many = order_length Chain P G h entries;
+      back_many = order_length Keys P G h entries;
     }
 
 -- ---- each undoes the other
 
-position_not_not : (chain : Bool) (P G i : ℕ) → position_in (not (not chain)) P G i ≡ position_in chain P G i
+position_other_twice : (order : ListOrder) (P G i : ℕ) → position_in (other (other order)) P G i ≡ position_in order P G i
 unfolding position_in
-position_not_not true P G i = refl
-position_not_not false P G i = refl
+position_other_twice Chain P G i = refl
+position_other_twice Keys P G i = refl
 
-pub order_undone : (chain : Bool) (P G : ℕ) → 0 < P → (entries : List ℕ) → P ≤ length entries
-    → order_of (not chain) P G (order_of chain P G entries) ≡ take P entries
-order_undone chain P G h entries room =
-    let other = order_of chain P G entries in
-    let back = order_permutes (not chain) P G h in
-    let many = order_length (not chain) P G h other in
-    ext_get_or 0 (order_of (not chain) P G other) (take P entries) (many ∙ sym (length-take-le P entries room))
+pub order_undone : (order : ListOrder) (P G : ℕ) → 0 < P → (entries : List ℕ) → P ≤ length entries
+    → order_of (other order) P G (order_of order P G entries) ≡ take P entries
+order_undone order P G h entries room =
+    let made = order_of order P G entries in
+    let back = order_permutes (other order) P G h in
+    let many = order_length (other order) P G h made in
+    ext_get_or 0 (order_of (other order) P G made) (take P entries) (many ∙ sym (length-take-le P entries room))
     (λ j l.
     let below : j < P = omega (arith, l, many) in
     let i = back.back j below in
     let there = back.back_is j below in
     let within = back.back_below j below in
-    ap (λ (k : ℕ). get_or (order_of (not chain) P G other) k 0) (sym there)
-    ∙ entry_goes (not chain) P G h other i within
-    ∙ ap (λ (k : ℕ). get_or other k 0) (position_not_not chain P G i)
-    ∙ entry_goes chain P G h entries i within
+    ap (λ (k : ℕ). get_or (order_of (other order) P G made) k 0) (sym there)
+    ∙ entry_goes (other order) P G h made i within
+    ∙ ap (λ (k : ℕ). get_or made k 0) (position_other_twice order P G i)
+    ∙ entry_goes order P G h entries i within
     ∙ ap (λ (k : ℕ). get_or entries k 0) there
     ∙ sym (get_or-take P entries j 0 below))
 
 pub each_undoes_the_other : EachUndoesTheOther
 unfolding order_of
 each_undoes_the_other P G h entries room =
-    record { there_and_back = order_undone true P G h entries room; back_and_there = order_undone false P G h entries room }
+    record { there_and_back = order_undone Chain P G h entries room; back_and_there = order_undone Keys P G h entries room }

@@ -9,24 +9,33 @@
 mod parts;
 
 ghost use Rattle.std.specs.Prelude.{length};
+ghost use Rattle.answer.specs.Refusals.{outcome_of};
 ghost use Rattle.answer.specs.Lent.{in_room, Filled};
-ghost use Rattle.answer.specs.Refusals.{count_outcome};
 ghost use Rattle.layout_order.specs.Answers.{get_chain_order, get_key_order};
 
-use answer::CountAnswer;
+use crate::parts::ListOrder;
+use answer::Refusal;
 use layout::IsomorphicLayout;
 
 // The entry of each key at its place in the chain: one cycle after the other, and in each the keys as the chain meets them
 // (1, 2, 3, 4, 18, 10). A list that is shorter than the octave is refused with 10, whichever it is.
-pub fn to_chain_order(layout: IsomorphicLayout, entries: &[u16], out: &mut [u16]) -> CountAnswer
-    ensures { Filled (in_room (length out.old) (get_chain_order layout entries.now)) (count_outcome result) out.old out.new }
+pub fn to_chain_order(
+    layout: IsomorphicLayout,
+    entries: &[u16],
+    out: &mut [u16],
+) -> Result<usize, Refusal>
+    ensures { Filled (in_room (length out.old) (get_chain_order layout entries.now)) (outcome_of result) out.old out.new }
 {
-    parts::order(layout, true, entries, out)
+    parts::rearrange(layout, ListOrder::Chain, entries, out)
 }
 
 // The same entries back in the order of the keys (1, 2, 3, 4, 18, 10).
-pub fn to_key_order(layout: IsomorphicLayout, entries: &[u16], out: &mut [u16]) -> CountAnswer
-    ensures { Filled (in_room (length out.old) (get_key_order layout entries.now)) (count_outcome result) out.old out.new }
+pub fn to_key_order(
+    layout: IsomorphicLayout,
+    entries: &[u16],
+    out: &mut [u16],
+) -> Result<usize, Refusal>
+    ensures { Filled (in_room (length out.old) (get_key_order layout entries.now)) (outcome_of result) out.old out.new }
 {
-    parts::order(layout, false, entries, out)
+    parts::rearrange(layout, ListOrder::Keys, entries, out)
 }

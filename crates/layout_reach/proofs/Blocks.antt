@@ -137,6 +137,14 @@ distance_first P a b r h l e =
 pub distance_second : (P a b r : ℕ) → b ≤ a → a < P → r ≡ min (a - b) (P - (a - b)) → r ≡ distance P (pos a) (pos b)
 distance_second P a b r h l e = e ∙ sym (above P a b h l)
 
+-- .. whichever of the two is the lower
+pub distance_gap : (P a b gap r : ℕ) → a < P → b < P → gap ≡ (a - b) + (b - a) → r ≡ min gap (P - gap) → r ≡ distance P (pos a) (pos b)
+distance_gap P a b gap r ha hb g e = by (ltb a b) refl
+  where
+    by : (t : Bool) → ltb a b ≡ t → r ≡ distance P (pos a) (pos b)
+    by true h = let k = ltb-true a b h in distance_first P a b r k hb (e ∙ ap (λ (n : ℕ). min n (P - n)) (let z : gap ≡ b - a = omega arith in z))
+    by false h = let k = ltb-false a b h in distance_second P a b r k ha (e ∙ ap (λ (n : ℕ). min n (P - n)) (let z : gap ≡ a - b = omega arith in z))
+
 -- ---- every block has a nearest key
 
 pub some_nearest : (P base n key : ℕ) → Block P base n → key < P → (r : ℕ) × NearestIn P base n key r

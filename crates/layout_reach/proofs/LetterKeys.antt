@@ -1,5 +1,6 @@
 -- Which keys have a bare letter for their name: those that the letter without signs sounds. They are neighbours, since a key is a number of
 -- two digits, the stars to the base n and the letter's place times G / n to the base R.
+use Rattle.std.specs.Prelude.{Option, Some}
 use Prim.Native.Nat.{ℕ, zero, suc, ◌+◌, ◌*◌, ◌-◌, ◌/◌, ◌%◌, ◌≤◌, ◌<◌}
 use mathlib.Core.Path.{◌≡◌, refl, sym, ap, ap₂, ◌∙◌, subst}
 use mathlib.Core.Bool.{Bool, true, false, false≢true}
@@ -24,12 +25,10 @@ use Rattle.notes.specs.Answers.{chain_name}
 use Rattle.notes.specs.Theorems.{SameSpelling}
 use Rattle.notes.proofs.Printing.{printed_alone, spellings_in_a_name_are_the_keys}
 use Rattle.notes.proofs.OneSpelling.{equal_names_have_one_first_spelling}
-use Rattle.pergen.specs.declared.Cycle.{Cycle}
-use Rattle.pergen.specs.declared.Cycle.TheVariants.{Number}
 use Rattle.pergen.specs.declared.Accidentals.{Accidentals}
 use Rattle.pergen.specs.declared.Spelling.{Spelling}
 use Rattle.pergen.specs.Pergen.{cycles, reduced, key_degree, key_cycle, cycle_of}
-use Rattle.pergen.specs.Spelling.{key_accidentals, by_coordinates, sharp_coordinate, flat_coordinate, place, sounds, stars_of, sharp_spelling}
+use Rattle.pergen.specs.Spelling.{key_accidentals, by_coordinates, sharp_coordinate, flat_coordinate, sounds, stars_of, sharp_spelling}
 use Rattle.pergen.proofs.Inverse.{numbers, cycles_positive}
 use Rattle.pergen.proofs.Keys.{spellings_of_one_key, degree_sounds_key, key_cycle_below, key_degree_below}
 use Rattle.pergen.proofs.Indices.{flat_rep, flat_inside, accidentals_high}
@@ -73,22 +72,22 @@ bears_is_the_name l letter key =
 
 -- ---- a letter alone
 
-abbrev alone : Cycle → ℕ → Accidentals
+abbrev alone : Option ℕ → ℕ → Accidentals
 alone c letter = record { cycle = c; sharp_index = letter; sharp_count = 0; flat_index = letter; flat_count = 0 }
 
-is_alone : (c : Cycle) (letter : ℕ) → letter_alone (alone c letter) ≡ true
+is_alone : (c : Option ℕ) (letter : ℕ) → letter_alone (alone c letter) ≡ true
 unfolding letter_alone
 is_alone c letter = eq-eqb letter letter refl
 
-printed_bare : (sf : Bool) (c : Cycle) (letter : ℕ) → printed sf (alone c letter) ≡ bare letter (stars_of c) ∷ []
+printed_bare : (sf : Bool) (c : Option ℕ) (letter : ℕ) → printed sf (alone c letter) ≡ bare letter (stars_of c) ∷ []
 unfolding sharp_spelling
 printed_bare sf c letter = printed_alone sf (alone c letter) (is_alone c letter)
 
-first_bare : (sf : Bool) (c : Cycle) (letter : ℕ) → first_printed sf (alone c letter) ≡ bare letter (stars_of c)
+first_bare : (sf : Bool) (c : Option ℕ) (letter : ℕ) → first_printed sf (alone c letter) ≡ bare letter (stars_of c)
 unfolding first_printed
 first_bare sf c letter = rw (printed_bare sf c letter)
 
-name_bare : (letters : List ℕ) (sf : Bool) (c : Cycle) (letter : ℕ)
+name_bare : (letters : List ℕ) (sf : Bool) (c : Option ℕ) (letter : ℕ)
     → name_text letters sf (alone c letter) ≡ letter_text (letter_at letters letter) ++ replicate (stars_of c) 42
 unfolding name_text spelling_text
 name_bare letters sf c letter =
@@ -96,7 +95,7 @@ name_bare letters sf c letter =
     ∙ ap (λ (t : List ℕ). t ++ replicate (stars_of c) 42) (append-nil (letter_text (letter_at letters letter)))
 
 -- coordinates below N: no signs, and one letter
-by_alone : (c : Cycle) (N letter : ℕ) → letter < N → by_coordinates c N letter (N - 1 - letter) ≡ alone c letter
+by_alone : (c : Option ℕ) (N letter : ℕ) → letter < N → by_coordinates c N letter (N - 1 - letter) ≡ alone c letter
 unfolding by_coordinates
 by_alone c N letter h =
     let rest : N - 1 - letter < N = omega arith in
@@ -212,11 +211,11 @@ module _ (r : IsomorphicLayout) (l : Layout) (e : Accepted r l) (letter : ℕ) (
   named_sounds key c q =
       let sf = sharp_first l in
       let x = first_printed sf (accidentals_in l key) in
-      let same : SameSpelling x (first_printed sf (alone (Number c) letter))
-      = equal_names_have_one_first_spelling l.chain a.chain sf (accidentals_in l key) (alone (Number c) letter) (lettered l a key)
+      let same : SameSpelling x (first_printed sf (alone (Some c) letter))
+      = equal_names_have_one_first_spelling l.chain a.chain sf (accidentals_in l key) (alone (Some c) letter) (lettered l a key)
       (record { sharp = omega (arith, a.letters_are); flat = omega (arith, a.letters_are) })
-      (q ∙ sym (name_bare (chain_of l.chain).letters sf (Number c) letter)) in
-      let is_bare : SameSpelling x (bare letter c) = subst (λ (y : Spelling). SameSpelling x y) (first_bare sf (Number c) letter) same in
+      (q ∙ sym (name_bare (chain_of l.chain).letters sf (Some c) letter)) in
+      let is_bare : SameSpelling x (bare letter c) = subst (λ (y : Spelling). SameSpelling x y) (first_bare sf (Some c) letter) same in
       let s : SoundsKey l key x
       = (names_sound_their_key r l e key).each x (spellings_in_a_name_are_the_keys sf (accidentals_in l key)).some in (
         subst (λ (n : ℕ). n < cycles P G) is_bare.stars s.spelling.stars,

@@ -119,18 +119,22 @@ module _ (P key d : ℕ) (hk : key < P) where
 
 -- ---- runs as the code stores them
 
-pub run_start : (xs : List ℕ) (at from : ℕ) → Wrote xs at (run from (from - from)) xs at
+pub run_start : (xs : List ℕ) (at from : ℕ) → Wrote xs at (run from (from - from)) xs (at + (from - from))
 unfolding run
-run_start xs at from = wrote_as (ap (run from) (let z : 0 ≡ from - from = omega arith in z)) (wrote_none xs at)
+run_start xs at from =
+    let w = wrote_as (ap (run from) (let z : 0 ≡ from - from = omega arith in z)) (wrote_none xs at) in
+    record { content = w.content; end = (let z : at + (from - from) ≡ at = omega arith in z) ∙ w.end }
 
-pub run_step : {xs ys : List ℕ} {at o : ℕ} (from key : ℕ) → from ≤ key → Wrote xs at (run from (key - from)) ys o
-    → Wrote xs at (run from (key + 1 - from)) (set ys o key) (o + 1)
-run_step {xs} {ys} {at} {o} from key h w =
+pub run_step : {xs ys : List ℕ} {at : ℕ} (from key : ℕ) → from ≤ key → Wrote xs at (run from (key - from)) ys (at + (key - from))
+    → Wrote xs at (run from (key + 1 - from)) (set ys (at + (key - from)) key) (at + (key + 1 - from))
+run_step {xs} {ys} {at} from key h w =
+    let next =
     wrote_as
     (ap (λ (n : ℕ). run from (key - from) ++ (n ∷ [])) (sym (add-sub_of_le h))
     ∙ sym (run_more from (key - from))
     ∙ ap (run from) (let z : key - from + 1 ≡ key + 1 - from = omega arith in z))
-    (then w (wrote_one ys o key))
+    (then w (wrote_one ys (at + (key - from)) key)) in
+    record { content = next.content; end = (let z : at + (key + 1 - from) ≡ at + (key - from) + 1 = omega arith in z) ∙ next.end }
 
 -- ---- the definition's list
 

@@ -9,23 +9,20 @@
 pub mod parts;
 
 ghost use Rattle.std.specs.Prelude.{◌≡◌, length};
+ghost use Rattle.answer.specs.Refusals.{outcome_of};
 ghost use Rattle.answer.specs.Lent.{in_room, Filled};
-ghost use Rattle.answer.specs.Refusals.{number_outcome, count_outcome};
 ghost use Rattle.layout_reach.specs.Answers.{get_nearest, get_reach, CountsReach};
 
-use answer::{CountAnswer, NumberAnswer};
+use answer::Refusal;
 use layout::IsomorphicLayout;
-use layout::parts::FoundAnswer;
 
 // The key of the octave nearest to a key, among those whose name is the letter at this place in the chain, with any stars; of two equally
 // near the lower (1, 2, 3, 4, 18, 16).
-pub fn nearest_natural(layout: IsomorphicLayout, key: i32, letter: u16) -> NumberAnswer
-    ensures { number_outcome result ≡ get_nearest layout key letter }
+pub fn nearest_natural(layout: IsomorphicLayout, key: i32, letter: u16) -> Result<u16, Refusal>
+    ensures { outcome_of result ≡ get_nearest layout key letter }
 {
-    match layout::parts::ask(layout) {
-        FoundAnswer::Refused(q) => NumberAnswer::Refused(q),
-        FoundAnswer::Given(found) => parts::nearest_of_letter(found, key, letter),
-    }
+    let found = layout::parts::ask(layout)?;
+    parts::nearest_of_letter(found, key, letter)
 }
 
 // The keys of the octave within a distance of a key, rising (1, 2, 3, 4, 18, 10).
@@ -34,21 +31,17 @@ pub fn keys_in_reach(
     key: i32,
     distance: u16,
     out: &mut [u16],
-) -> CountAnswer
-    ensures { Filled (in_room (length out.old) (get_reach layout key distance)) (count_outcome result) out.old out.new }
+) -> Result<usize, Refusal>
+    ensures { Filled (in_room (length out.old) (get_reach layout key distance)) (outcome_of result) out.old out.new }
 {
-    match layout::parts::ask(layout) {
-        FoundAnswer::Refused(q) => CountAnswer::Refused(q),
-        FoundAnswer::Given(found) => parts::write_reach(found.octave, key, distance, out),
-    }
+    let found = layout::parts::ask(layout)?;
+    parts::write_reach(found.octave, key, distance, out)
 }
 
 // How many keys `keys_in_reach` writes, whatever the key (1, 2, 3, 4, 18).
-pub fn keys_in_reach_len(layout: IsomorphicLayout, distance: u16) -> CountAnswer
-    ensures { CountsReach layout distance (count_outcome result) }
+pub fn keys_in_reach_len(layout: IsomorphicLayout, distance: u16) -> Result<usize, Refusal>
+    ensures { CountsReach layout distance (outcome_of result) }
 {
-    match layout::parts::ask(layout) {
-        FoundAnswer::Refused(q) => CountAnswer::Refused(q),
-        FoundAnswer::Given(found) => CountAnswer::Given(parts::reach_count(found.octave, distance)),
-    }
+    let found = layout::parts::ask(layout)?;
+    Ok(parts::reach_count(found.octave, distance))
 }

@@ -1,16 +1,16 @@
 // Distances round the octave, and what is found by them: parts, and no entry points. Callers have asked the questions that a `requires`
 // names.
 ghost use Rattle.std.specs.Prelude.{◌≡◌, ◌+◌, ◌*◌, ◌<◌, ◌≤◌, ◌-◌, min, pos, length};
+ghost use Rattle.answer.specs.Refusals.{outcome_of};
 ghost use Rattle.answer.specs.Lent.{held_in, Filled};
-ghost use Rattle.answer.specs.Refusals.{number_outcome, count_outcome};
 ghost use Rattle.text.specs.Writing.{Room, Wrote};
-ghost use Rattle.layout.specs.Parts.{layout_of, Laid};
+ghost use Rattle.layout.specs.Parts.{layout_of};
 ghost use Rattle.layout_reach.specs.Answers.{nearest_in};
 ghost use Rattle.math.specs.Passing.{run};
 ghost use Rattle.layout_reach.specs.Reach.{distance, in_reach};
 ghost use Rattle.layout_reach.specs.Parts.{Block, NearerEnd, NearestIn, NearestFrom, SpanOf};
 
-use answer::{CountAnswer, NumberAnswer, Refusal};
+use answer::Refusal;
 use layout::parts::Found;
 use pergen::PerGen;
 use pergen::sounding::Sides;
@@ -20,10 +20,7 @@ fn shorter(octave: u16, gap: u16) -> u16
     requires { gap < octave }
     ensures { result ≡ min gap (octave - gap) }
 {
-    if octave - gap < gap {
-        return octave - gap;
-    }
-    gap
+    gap.min(octave - gap)
 }
 
 // The distance of two keys of the octave.
@@ -31,10 +28,7 @@ pub fn distance(octave: u16, a: u16, b: u16) -> u16
     requires { (a < octave) × (b < octave) }
     ensures { result ≡ distance octave (pos a) (pos b) }
 {
-    if a < b {
-        return shorter(octave, b - a);
-    }
-    shorter(octave, a - b)
+    shorter(octave, a.abs_diff(b))
 }
 
 // The nearer of a block's two ends; of equally near ones the first.
@@ -54,57 +48,48 @@ fn nearest_in(octave: u16, base: u16, cycles: u16, key: u16) -> u16
     ensures { NearestIn octave base cycles key result }
 {
     let last = base + (cycles - 1);
-    if key < base {
-        return nearer_end(octave, base, last, key);
-    }
-    if last < key {
+    if key < base || last < key {
         return nearer_end(octave, base, last, key);
     }
     key
 }
 
 // The nearest of a letter's keys: neighbours, one for each number of stars, from the one without on. No key of the octave is looked at.
-fn nearest_from(octave: u16, generator: u16, start: u16, key: i32, letter: u16) -> u16
-    requires { 0 < octave }
-    ensures { NearestFrom octave generator start key letter result }
+fn nearest_from(found: Found, key: i32, letter: u16) -> u16
+    ensures { NearestFrom found.octave found.generator found.start key letter result }
 {
     let pergen = PerGen {
-        period: octave,
-        generator,
+        period: found.octave,
+        generator: found.generator,
     };
     let place = Sides {
         above: letter as u64,
-        below: start as u64,
+        below: found.start as u64,
     };
     let base = pergen::sounding::sounded(pergen, place, 0);
     nearest_in(
-        octave,
+        found.octave,
         base,
-        math::gcd_u16(octave, generator),
-        math::parts::rem_u16(key, octave),
+        math::gcd_u16(found.octave, found.generator),
+        math::parts::rem_u16(key, found.octave),
     )
 }
 
 // The nearest key of a letter (16).
-pub(crate) fn nearest_of_letter(found: Found, key: i32, letter: u16) -> NumberAnswer
-    requires { Laid (layout_of found) }
-    ensures { number_outcome result ≡ nearest_in (layout_of found) key letter }
+pub(crate) fn nearest_of_letter(found: Found, key: i32, letter: u16) -> Result<u16, Refusal>
+    ensures { outcome_of result ≡ nearest_in (layout_of found) key letter }
 {
     if found.num_letters <= letter {
-        return NumberAnswer::Refused(Refusal::Letter);
+        return Err(Refusal::Letter);
     }
-    NumberAnswer::Given(nearest_from(found.octave, found.generator, found.start, key, letter))
+    Ok(nearest_from(found, key, letter))
 }
 
 // How many keys of the octave are in reach: the key's own, and as many on either side as the distance says, but never more than all.
 pub(crate) fn reach_count(octave: u16, distance: u16) -> usize
     ensures { result ≡ min (2 * distance + 1) octave }
 {
-    let both = 2 * (distance as u32) + 1;
-    if both < octave as u32 {
-        return both as usize;
-    }
-    octave as usize
+    (2 * (distance as usize) + 1).min(octave as usize)
 }
 
 // Which keys of the octave are in reach: those below `wrapped`, and those of `from` to `to` - 1.
@@ -153,30 +138,28 @@ fn put_run(out: &mut [u16], at: usize, from: u16, to: u16) -> usize
     requires { Room out.old at (run from (to - from)) × (from ≤ to) }
     ensures { Wrote out.old at (run from (to - from)) out.new result }
 {
-    let mut key = from;
-    let mut place = at;
-    while key < to {
-        out[place] = key;
-        place += 1;
-        key += 1;
+    for key in from..to {
+        out[at + (key - from) as usize] = key;
     }
-    place
+    at + (to - from) as usize
 }
 
 // The keys in reach at the front of a slice that holds them (10).
-pub(crate) fn write_reach(octave: u16, key: i32, distance: u16, out: &mut [u16]) -> CountAnswer
+pub(crate) fn write_reach(
+    octave: u16,
+    key: i32,
+    distance: u16,
+    out: &mut [u16],
+) -> Result<usize, Refusal>
     requires { 0 < octave }
-    ensures { Filled (held_in (length out.old) (in_reach octave key distance)) (count_outcome result) out.old out.new }
+    ensures { Filled (held_in (length out.old) (in_reach octave key distance)) (outcome_of result) out.old out.new }
 {
     let count = reach_count(octave, distance);
     if out.len() < count {
-        return CountAnswer::Refused(Refusal::Room);
+        return Err(Refusal::Room);
     }
     let span = reach_span(octave, math::parts::rem_u16(key, octave), distance);
-    let wrapped = span.wrapped;
-    let from = span.from;
-    let to = span.to;
-    let next = put_run(out, 0, 0, wrapped);
-    put_run(out, next, from, to);
-    CountAnswer::Given(count)
+    let next = put_run(out, 0, 0, span.wrapped);
+    put_run(out, next, span.from, span.to);
+    Ok(count)
 }

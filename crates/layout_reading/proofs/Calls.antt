@@ -18,33 +18,30 @@ use Rattle.math.specs.Gcd.{gcd_or_one}
 use Rattle.mos.specs.Patterns.{primary, secondary}
 use Rattle.pergen.specs.declared.Spelling.{Spelling}
 use Rattle.pergen.proofs.Calls.{cycles_found}
-use Rattle.notes.specs.Reading.{leading as leadingCount}
+use Rattle.notes.specs.Reading.{leading}
 use Rattle.layout.specs.Layouts.{Layout, layout_outcome, cycles_in}
 use Rattle.layout.specs.Names.{key_of}
-use Rattle.layout.specs.Parts.{layout_of, Laid}
 use Rattle.layout.specs.declared.IsomorphicLayout.{IsomorphicLayout}
-use Rattle.layout.specs.declared.parts.Found.{Found}
-use Rattle.layout.proofs.Finding.{laid}
-use Rattle.layout.proofs.Calls.{of_refused, of_given, laid_of, row_found}
+use Rattle.layout.proofs.Calls.{of_refused, of_given}
 use Rattle.layout_reading.specs.Reading.{in_front, read_spelling}
 use Rattle.layout_reading.specs.Answers.{typed_in, spelling_in, get_spelling, starless_in, key_of_both, both_in, slashed_in, enclosed_in, named_in, get_named_key}
-use Rattle.layout_reading.specs.Parts.{Asked, Before, RunAt}
+use Rattle.layout_reading.specs.Parts.{Before, RunAt}
 use Rattle.layout_reading.proofs.FrontLetters.{one_byte}
 
 -- ---- in a layout
 
-cycles_are : (l : Layout) → Laid l → (n : ℕ) → n ≡ gcd_or_one l.octave l.generator → n ≡ cycles_in l
-cycles_are l h n e = cycles_found l.octave l.generator n (λ z. let p = (laid l h).positive in let w : ⊥ = omega arith in w) e
+pub cycles_are : (l : Layout) → 0 < l.octave → (n : ℕ) → n ≡ gcd_or_one l.octave l.generator → n ≡ cycles_in l
+cycles_are l h n e = cycles_found l.octave l.generator n (λ z. let w : ⊥ = omega arith in w) e
 
-module _ (row : ChainRow) (found : Found) (n : ℕ) (a : Asked row found n) where
-  pub row_asked : TableRow row
-  row_asked = table_row found.chain row (laid (layout_of found) a.laid).chain a.row_is
+pub row_asked : (row : ChainRow) (l : Layout) → row ≡ row_of (chain_of l.chain) → l.chain < 6 → TableRow row
+row_asked row l is below = table_row l.chain row below is
 
-  pub typed_in_lem : (sf : Bool) → sf ≡ leb (secondary found.pattern) (primary found.pattern) → (text : List ℕ) (o : Outcome Spelling)
-      → o ≡ read_spelling (letters_in row) sf text → o ≡ typed_in (layout_of found) text
-  unfolding typed_in row_asked
-  typed_in_lem sf e text o q =
-      q ∙ ap₂ (λ (l : List ℕ) (b : Bool). read_spelling l b text) (row_letters row row_asked) e
+pub typed_in_lem : (row : ChainRow) (l : Layout) → row ≡ row_of (chain_of l.chain) → l.chain < 6
+    → (sf : Bool) → sf ≡ leb (secondary l.pattern) (primary l.pattern) → (text : List ℕ) (o : Outcome Spelling)
+    → o ≡ read_spelling (letters_in row) sf text → o ≡ typed_in l text
+unfolding typed_in row_asked
+typed_in_lem row l is below sf e text o q =
+    q ∙ ap₂ (λ (L : List ℕ) (b : Bool). read_spelling L b text) (row_letters row (row_asked row l is below)) e
 
 -- ---- one spelling
 
@@ -58,13 +55,13 @@ abbrev Both : Layout → ℕ → Outcome Spelling → Outcome Spelling → Outco
 Both l stars o p = and_then o (λ (x : Spelling). and_then p (λ (y : Spelling). ask 21 (ltb stars (cycles_in l)) (key_of_both l stars x y)))
 
 module _ (l : Layout) (text : List ℕ) where
-  pub read_refused : refused 23 ≡ typed_in l text → refused 23 ≡ spelling_in l text
+  pub read_refused : (n : ℕ) → refused n ≡ typed_in l text → refused n ≡ spelling_in l text
   unfolding spelling_in
-  read_refused e = ap (ReadOn l) e
+  read_refused n e = ap (ReadOn l) e
 
-  pub starless_refused : refused 23 ≡ typed_in l text → refused 23 ≡ starless_in l text
+  pub starless_refused : (n : ℕ) → refused n ≡ typed_in l text → refused n ≡ starless_in l text
   unfolding starless_in
-  starless_refused e = ap Starless e
+  starless_refused n e = ap Starless e
 
   module _ (x : Spelling) (e : given x ≡ typed_in l text) where
     module _ (n : ℕ) (is : n ≡ cycles_in l) where
@@ -88,14 +85,14 @@ module _ (l : Layout) (text : List ℕ) where
 -- ---- two
 
 module _ (l : Layout) (stars : ℕ) (first second : List ℕ) where
-  pub first_refused : refused 23 ≡ starless_in l first → refused 23 ≡ both_in l stars first second
+  pub first_refused : (n : ℕ) → refused n ≡ starless_in l first → refused n ≡ both_in l stars first second
   unfolding both_in
-  first_refused e = ap (λ (o : Outcome Spelling). Both l stars o (starless_in l second)) e
+  first_refused n e = ap (λ (o : Outcome Spelling). Both l stars o (starless_in l second)) e
 
   module _ (x : Spelling) (e : given x ≡ starless_in l first) where
-    pub second_refused : refused 23 ≡ starless_in l second → refused 23 ≡ both_in l stars first second
+    pub second_refused : (n : ℕ) → refused n ≡ starless_in l second → refused n ≡ both_in l stars first second
     unfolding both_in
-    second_refused f = ap₂ (Both l stars) e f
+    second_refused n f = ap₂ (Both l stars) e f
 
     module _ (y : Spelling) (f : given y ≡ starless_in l second) (n : ℕ) (is : n ≡ cycles_in l) where
       asked : ask 21 (ltb stars (cycles_in l)) (key_of_both l stars x y) ≡ both_in l stars first second
@@ -133,7 +130,7 @@ module _ (l : Layout) (stars : ℕ) (text : List ℕ) (p : ℕ) (at : Before 47 
 module _ (l : Layout) (text : List ℕ) (p : ℕ) (at : Before 41 text p) where
   abbrev Enclosed : ℕ → Outcome ℕ
   Enclosed k =
-      ask 23 (in_front (40 ∷ []) text && (ltb k (length text) && eqb (leadingCount 42 (drop (k + 1) text)) (length (drop (k + 1) text))))
+      ask 23 (in_front (40 ∷ []) text && (ltb k (length text) && eqb (leading 42 (drop (k + 1) text)) (length (drop (k + 1) text))))
       (slashed_in l (length (drop (k + 1) text)) (take (k - 1) (drop 1 text)))
 
   enclosed_at : Enclosed p ≡ enclosed_in l text
@@ -154,7 +151,7 @@ module _ (l : Layout) (text : List ℕ) (p : ℕ) (at : Before 41 text p) where
     module _ (n : ℕ) (r : RunAt 42 (p + 1) text n) where
       pub not_all_stars : p + 1 + n < length text → refused 23 ≡ enclosed_in l text
       not_all_stars h =
-          sym (simp (ne_eqb (leadingCount 42 (drop (p + 1) text)) (length (drop (p + 1) text)) (λ e. omega (arith, r.is, length-drop (p + 1) text)))
+          sym (simp (ne_eqb (leading 42 (drop (p + 1) text)) (length (drop (p + 1) text)) (λ e. omega (arith, r.is, length-drop (p + 1) text)))
           (by (in_front (40 ∷ []) text) (ltb p (length text))))
           ∙ enclosed_at
         where
@@ -169,7 +166,7 @@ module _ (l : Layout) (text : List ℕ) (p : ℕ) (at : Before 41 text p) where
           let stars : n ≡ length (drop (p + 1) text) = omega (arith, length-drop (p + 1) text, r.inside) in
           q
           ∙ ap (λ (k : ℕ). slashed_in l k (take (p - 1) (drop 1 text))) stars
-          ∙ sym (simp (one_byte 40 text (omega arith) ∙ eq-eqb (get_or text 0 0) 40 e, lt-ltb p (length text) inside, eq-eqb (leadingCount 42 (drop (p + 1) text)) (length (drop (p + 1) text)) (sym r.is ∙ stars)))
+          ∙ sym (simp (one_byte 40 text (omega arith) ∙ eq-eqb (get_or text 0 0) 40 e, lt-ltb p (length text) inside, eq-eqb (leading 42 (drop (p + 1) text)) (length (drop (p + 1) text)) (sym r.is ∙ stars)))
           ∙ enclosed_at
 
 -- ---- a name
@@ -220,9 +217,3 @@ module _ (r : IsomorphicLayout) (text : List ℕ) where
     pub finding_given : (o : Outcome ℕ) → o ≡ named_in l text → o ≡ get_named_key r text
     unfolding get_named_key
     finding_given o q = q ∙ of_given r _ l e
-
-pub asked_of : (r : IsomorphicLayout) (row : ChainRow) (found : Found) → row ≡ row_of (chain_of r.genchain)
-    → given (layout_of found) ≡ layout_outcome r → (n : ℕ) → n ≡ gcd_or_one found.octave found.generator → Asked row found n
-asked_of r row found q e n g =
-    let laid = laid_of r (layout_of found) e in
-    record { row_is = row_found r (layout_of found) e row q; laid = laid; cycles_are = cycles_are (layout_of found) laid n g }

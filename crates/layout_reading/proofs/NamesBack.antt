@@ -1,4 +1,5 @@
 -- Names lead back: the spellings that a key's name holds are found in its bytes, and each sounds the key.
+use Rattle.std.specs.Prelude.{None, Option, Some}
 use Prim.Native.Nat.{ℕ, suc, ◌+◌, ◌-◌, ◌<◌, ◌≤◌}
 use native.Mathlib.Nat.{add-zero, div-le_self, mul-le-mul_right, one-mul}
 use native.Mathlib.Numerals.{add-one}
@@ -16,8 +17,6 @@ use Rattle.answer.specs.Outcome.{given}
 use Rattle.answer.proofs.Asked.{given_same}
 use Rattle.genchain.specs.Chains.{chain_of}
 use Rattle.math.specs.Division.{remainder}
-use Rattle.pergen.specs.declared.Cycle.{Cycle}
-use Rattle.pergen.specs.declared.Cycle.TheVariants.{Absent, Number}
 use Rattle.pergen.specs.declared.Accidentals.{Accidentals}
 use Rattle.pergen.specs.declared.Spelling.{Spelling}
 use Rattle.pergen.specs.Pergen.{reduced, cycles, shown, cycle_of, key_cycle}
@@ -25,7 +24,7 @@ use Rattle.pergen.specs.Spelling.{stars_of}
 use Rattle.pergen.proofs.DegreePlaces.{few_signs}
 use Rattle.notes.specs.Names.{signs_in, spelling_text}
 use Rattle.notes.specs.Parts.{is_present}
-use Rattle.notes.specs.Reading.{leading as leadingCount, count as occurrences}
+use Rattle.notes.specs.Reading.{leading, count as occurrences}
 use Rattle.notes.proofs.Counting.{count_append}
 use Rattle.notes.proofs.OneSpelling.{same_spelling}
 use Rattle.notes.proofs.Printing.{Printed, one, two, printed_view, signs_of_lem, Of}
@@ -137,7 +136,7 @@ module _ (l : Layout) (a : Parts l) where
 
     run_in : RunAt 42 (suc (length B) + 1) W n
     run_in =
-        record { is = sym (ap (leadingCount 42) behind_close ∙ stars_read n); inside = omega (arith, length_w) }
+        record { is = sym (ap (leading 42) behind_close ∙ stars_read n); inside = omega (arith, length_w) }
 
     enclosed_leads : given key ≡ enclosed_in l W
     enclosed_leads =
@@ -156,14 +155,14 @@ module _ (l : Layout) (a : Parts l) where
           inside = omega (arith, length_w, length_b);
         }
 
-    two_lead : (c : Cycle) → is_present c ≡ ltb 1 (cycles_in l) → n ≡ stars_of c → given key ≡ named_in l (text_in l c (s ∷ t ∷ []))
-    two_lead Absent p e =
-        let text : text_in l Absent (s ∷ t ∷ []) ≡ B = simp append_assoc (ap (λ (x : List ℕ). T s ++ (47 ∷ x)) (append-nil (T t))) in
+    two_lead : (c : Option ℕ) → is_present c ≡ ltb 1 (cycles_in l) → n ≡ stars_of c → given key ≡ named_in l (text_in l c (s ∷ t ∷ []))
+    two_lead None p e =
+        let text : text_in l None (s ∷ t ∷ []) ≡ B = simp append_assoc (ap (λ (x : List ℕ). T s ++ (47 ∷ x)) (append-nil (T t))) in
         find_slashed l B (length (T s)) slash_in (omega (arith, length_b)) (cycles_in l) refl (given key)
         (ltb-false 1 (cycles_in l) (sym p)) (slashed_leads ∙ ap (λ (k : ℕ). slashed_in l k B) e)
         ∙ ap (named_in l) (sym text)
-    two_lead (Number m) p e =
-        let text : text_in l (Number m) (s ∷ t ∷ []) ≡ W = rw e (simp append_assoc) in
+    two_lead (Some m) p e =
+        let text : text_in l (Some m) (s ∷ t ∷ []) ≡ W = rw e (simp append_assoc) in
         find_enclosed l W (suc (length (T s))) slash_in_w (omega (arith, length_w, length_b)) (cycles_in l) refl (given key)
         (ltb-true 1 (cycles_in l) (sym p)) enclosed_leads
         ∙ ap (named_in l) (sym text)
@@ -173,14 +172,14 @@ module _ (l : Layout) (a : Parts l) where
 shown_present : (n k : ℕ) → is_present (shown n k) ≡ ltb 1 n
 shown_present n k = by (ltb 1 n)
   where
-    by : (b : Bool) → is_present (pick b (Number k) Absent) ≡ b
+    by : (b : Bool) → is_present (pick b (Some k) None) ≡ b
     by true = refl
     by false = refl
 
 shown_stars : (n k : ℕ) → k < n → k ≡ stars_of (shown n k)
 shown_stars n k h = by (ltb 1 n) refl
   where
-    by : (b : Bool) → ltb 1 n ≡ b → k ≡ stars_of (pick b (Number k) Absent)
+    by : (b : Bool) → ltb 1 n ≡ b → k ≡ stars_of (pick b (Some k) None)
     by true e = refl
     by false e = omega (arith, ltb-false 1 n e)
 

@@ -12,7 +12,7 @@ use Rattle.answer.proofs.Asked.{given_same, asked_yes, asked_rest, and_left, and
 use Rattle.genchain.specs.Chains.{chain_of}
 use Rattle.pergen.specs.declared.Spelling.{Spelling}
 use Rattle.notes.specs.Names.{sharp_sign, flat_sign, signs_in, signs_text, letter_text, letter_at, spelling_text}
-use Rattle.notes.specs.Reading.{past_letter, leading as leadingCount}
+use Rattle.notes.specs.Reading.{past_letter, leading}
 use Rattle.layout.specs.Layouts.{Layout, Accepted, layout_outcome, cycles_in, sharp_first}
 use Rattle.layout.proofs.Finding.{Parts, accepted}
 use Rattle.layout_reading.specs.Reading.{letter_index, signs_from, spelling_in_front, is_whole, read_spelling}
@@ -32,16 +32,16 @@ module _ (letters : List ℕ) (sf : Bool) (text : List ℕ) (lt : letter_index l
   marks = past_letter text
 
   abbrev s : ℕ
-  s = leadingCount (sharp_sign sf) marks
+  s = leading (sharp_sign sf) marks
 
   abbrev f : ℕ
-  f = leadingCount (flat_sign sf) marks
+  f = leading (flat_sign sf) marks
 
   abbrev u : List ℕ
   u = drop (s + f) marks
 
   abbrev n : ℕ
-  n = leadingCount 42 u
+  n = leading 42 u
 
   signs_are : Signed sf marks s f (signs_from s f)
   signs_are = signed sf marks s f refl refl

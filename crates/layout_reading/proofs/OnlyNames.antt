@@ -1,4 +1,5 @@
 -- Nothing else leads to a key: a text that does is one spelling's, or that of two as a name holds them, and each sounds the key.
+use Rattle.std.specs.Prelude.{None, Some}
 use Prim.Native.Nat.{ℕ, zero, suc, ◌+◌, ◌-◌, ◌<◌}
 use native.Mathlib.Numerals.{add-one}
 use native.Mathlib.Omega.{arith}
@@ -14,10 +15,9 @@ use Rattle.answer.specs.Choice.{pick}
 use Rattle.answer.specs.Outcome.{Outcome, given, refused, ask, and_then}
 use Rattle.answer.proofs.Asked.{given_same, asked_yes, asked_rest, and_left, and_right}
 use Rattle.genchain.specs.Chains.{chain_of}
-use Rattle.pergen.specs.declared.Cycle.TheVariants.{Absent, Number}
 use Rattle.pergen.specs.declared.Spelling.{Spelling}
 use Rattle.notes.specs.Names.{signs_in, spelling_text}
-use Rattle.notes.specs.Reading.{leading as leadingCount}
+use Rattle.notes.specs.Reading.{leading}
 use Rattle.layout.specs.Layouts.{Layout, Accepted, layout_outcome, cycles_in, sharp_first}
 use Rattle.layout.specs.Names.{key_of, text_in}
 use Rattle.layout.proofs.Finding.{Parts, accepted}
@@ -158,11 +158,11 @@ stars_aside : (l : Layout) (n : ℕ) (x : Spelling) → Text l (with_stars n x) 
 unfolding spelling_text
 stars_aside l n x = refl
 
-slashed_text : (l : Layout) (x y : Spelling) → text_in l Absent (x ∷ y ∷ []) ≡ Text l x ++ (47 ∷ Text l y)
+slashed_text : (l : Layout) (x y : Spelling) → text_in l None (x ∷ y ∷ []) ≡ Text l x ++ (47 ∷ Text l y)
 slashed_text l x y = simp append_assoc (ap (λ (t : List ℕ). Text l x ++ (47 ∷ t)) (append-nil (Text l y)))
 
 enclosed_text : (l : Layout) (n : ℕ) (x y : Spelling)
-    → text_in l (Number n) (x ∷ y ∷ []) ≡ 40 ∷ ((Text l x ++ (47 ∷ Text l y)) ++ (41 ∷ replicate n 42))
+    → text_in l (Some n) (x ∷ y ∷ []) ≡ 40 ∷ ((Text l x ++ (47 ∷ Text l y)) ++ (41 ∷ replicate n 42))
 enclosed_text l n x y = simp append_assoc
 
 -- stars alone
@@ -170,7 +170,7 @@ dropped : (u : List ℕ) → drop (length u) u ≡ []
 dropped [] = refl
 dropped (x ∷ u) = dropped u
 
-all_of : (s : List ℕ) → leadingCount 42 s ≡ length s → replicate (length s) 42 ≡ s
+all_of : (s : List ℕ) → leading 42 s ≡ length s → replicate (length s) 42 ≡ s
 all_of s q =
     sym (append-nil (replicate (length s) 42))
     ∙ ap₂ (λ (k : ℕ) (r : List ℕ). replicate k 42 ++ r) (sym q) (sym (ap (λ (k : ℕ). drop k s) q ∙ dropped s))
@@ -179,7 +179,7 @@ all_of s q =
 module _ (l : Layout) (a : Parts l) (text : List ℕ) (key : ℕ) where
   -- both spellings get the stars; one cycle, or several
   two_of : (c : Bool) → ltb 1 (cycles_in l) ≡ c → (n : ℕ) (inside : List ℕ) (t : SlashedTold l n inside key)
-      → text_in l (pick c (Number n) Absent) (with_stars n t.first ∷ with_stars n t.second ∷ []) ≡ text → NamedByTwo l text key
+      → text_in l (pick c (Some n) None) (with_stars n t.first ∷ with_stars n t.second ∷ []) ≡ text → NamedByTwo l text key
   two_of c e n inside t w =
       record {
         first = with_stars n t.first;
@@ -188,7 +188,7 @@ module _ (l : Layout) (a : Parts l) (text : List ℕ) (key : ℕ) where
         second_typable = record { spelling = record { letter = t.second_letter; stars = t.below }; signs = t.second_few };
         same_stars = refl;
         written =
-            ap (λ (b : Bool). text_in l (pick b (Number n) Absent) (with_stars n t.first ∷ with_stars n t.second ∷ [])) e ∙ w;
+            ap (λ (b : Bool). text_in l (pick b (Some n) None) (with_stars n t.first ∷ with_stars n t.second ∷ [])) e ∙ w;
         first_sounds = t.first_key;
         second_sounds = t.second_key;
       }
@@ -212,12 +212,12 @@ module _ (l : Layout) (a : Parts l) (text : List ℕ) (key : ℕ) where
       let inside = take (p - 1) (drop 1 text) in
       let o = in_front (40 ∷ []) text in
       let i = ltb p (length text) in
-      let s = eqb (leadingCount 42 stars) n in
+      let s = eqb (leading 42 stars) n in
       let test = asked_yes 23 (o && (i && s)) (slashed_in l n inside) e in
       let later = and_right o (i && s) test in
       let below : p < length text = ltb-true p (length text) (and_left i s later) in
       let t = slashed_told l a n inside key (asked_rest 23 (o && (i && s)) (slashed_in l n inside) e) in
-      let run : replicate n 42 ≡ stars = all_of stars (eqb-true (leadingCount 42 stars) n (and_right i s later)) in
+      let run : replicate n 42 ≡ stars = all_of stars (eqb-true (leading 42 stars) n (and_right i s later)) in
       two_of true c n inside t
       (enclosed_text l n (with_stars n t.first) (with_stars n t.second)
       ∙ ap₂ (λ (x y : List ℕ). (40 ∷ x) ++ (41 ∷ y)) (starless n inside t) run

@@ -19,7 +19,7 @@ use Rattle.pergen.specs.declared.Signs.{Signs}
 use Rattle.pergen.specs.declared.Signs.TheVariants.{Sharps, Flats}
 use Rattle.pergen.specs.declared.Spelling.{Spelling}
 use Rattle.notes.specs.Names.{sharp_sign, flat_sign, signs_in, signs_text, letter_text, letter_at, spelling_text}
-use Rattle.notes.specs.Reading.{past_letter, leading as leadingCount, count as occurrences, sharps_in, flats_in}
+use Rattle.notes.specs.Reading.{past_letter, leading, count as occurrences, sharps_in, flats_in}
 use Rattle.notes.specs.Theorems.{SameSpelling}
 use Rattle.notes.proofs.Utf8.{letter_one, letter_two}
 use Rattle.notes.proofs.RowLetters.{chain_letter}
@@ -124,9 +124,9 @@ signs_count : (s : Signs) → signs_in s ≡ sharps_in s + flats_in s
 signs_count (Sharps k) = sym (add-zero k)
 signs_count (Flats k) = sym (zero-add k)
 
-pub stars_read : (n : ℕ) → leadingCount 42 (replicate n 42) ≡ n
-unfolding leadingCount
-stars_read n = ap (leadingCount 42) (sym (append-nil (replicate n 42))) ∙ leading_run 42 n 42 [] refl
+pub stars_read : (n : ℕ) → leading 42 (replicate n 42) ≡ n
+unfolding leading
+stars_read n = ap (leading 42) (sym (append-nil (replicate n 42))) ∙ leading_run 42 n 42 [] refl
 
 -- ---- the text of a spelling
 
@@ -169,15 +169,15 @@ module _ (code : ℕ) (h : code < 6) (sf : Bool) (x : Spelling) (below : x.index
   behind : past_letter text ≡ marks
   behind = ap past_letter text_is ∙ past_it (letter_at L x.index) marks
 
-  sharps_are : leadingCount (sharp_sign sf) marks ≡ sharps_in x.signs
+  sharps_are : leading (sharp_sign sf) marks ≡ sharps_in x.signs
   sharps_are = sharps_read sf x.signs (replicate x.stars 42) (stops_at_stars sf x.stars)
 
-  flats_are : leadingCount (flat_sign sf) marks ≡ flats_in x.signs
+  flats_are : leading (flat_sign sf) marks ≡ flats_in x.signs
   flats_are = flats_read sf x.signs (replicate x.stars 42) (stops_at_stars sf x.stars)
 
-  stars_are : leadingCount 42 (drop (sharps_in x.signs + flats_in x.signs) marks) ≡ x.stars
+  stars_are : leading 42 (drop (sharps_in x.signs + flats_in x.signs) marks) ≡ x.stars
   stars_are =
-      ap (leadingCount 42) (drop_at (signs_text sf x.signs) (replicate x.stars 42) _ (length_signs sf x.signs)) ∙ stars_read x.stars
+      ap (leading 42) (drop_at (signs_text sf x.signs) (replicate x.stars 42) _ (length_signs sf x.signs)) ∙ stars_read x.stars
 
   found_again : spelling_in_front L sf text ≡ reread x
   unfolding spelling_in_front

@@ -20,7 +20,7 @@ use Rattle.pergen.specs.declared.Signs.{Signs}
 use Rattle.pergen.specs.declared.Signs.TheVariants.{Sharps, Flats}
 use Rattle.pergen.specs.declared.Spelling.{Spelling}
 use Rattle.notes.specs.Names.{sharp_sign, flat_sign, signs_in, signs_text, letter_text, letter_at}
-use Rattle.notes.specs.Reading.{past_letter, leading as leadingCount}
+use Rattle.notes.specs.Reading.{past_letter, leading}
 use Rattle.notes.proofs.RowLetters.{letter_inside}
 use Rattle.layout_reading.specs.Reading.{in_front, letter_index, signs_from, spelling_in_front, is_whole, read_spelling}
 use Rattle.layout_reading.specs.Parts.{RunAt, FrontFound, MarksFound}
@@ -52,22 +52,16 @@ module _ (row : ChainRow) (t : TableRow row) (text : List ℕ) where
     front_found e n q =
         record {
           index_is = sym (index_at L text place (omega (arith, length_letters_in row t)) passed (sym begins_is ∙ e));
-          bytes_are = λ _. q ∙ ap (λ (c : ℕ). length (letter_text c)) (letter_inside row t place below);
+          index_below = omega (arith, length_letters_in row t);
+          bytes_are = q ∙ ap (λ (c : ℕ). length (letter_text c)) (letter_inside row t place below);
           inside = subst (λ (k : ℕ). k ≤ length text) (sym q) (begun_inside _ text (sym is ∙ e));
         }
 
     pub passed_more : b ≡ false → Passed L text (place + 1)
     passed_more e = below_more (λ j. FrontIs L text j ≡ false) place passed (sym begins_is ∙ e)
 
-  pub front_none : (place : ℕ) → row.num_letters ≤ place → Passed L text place → FrontFound L text (record { index = row.num_letters; bytes = 0 })
-  front_none place past passed =
-      record {
-        index_is =
-            sym
-            (index_none L text (λ j k. passed j (omega (arith, length_letters_in row t))) ∙ length_letters_in row t);
-        bytes_are = λ k. absurd (let z : ⊥ = omega (arith, length_letters_in row t) in z);
-        inside = omega arith;
-      }
+  pub front_none : (place : ℕ) → row.num_letters ≤ place → Passed L text place → letter_index L text ≡ length L
+  front_none place past passed = index_none L text (λ j k. passed j (omega (arith, length_letters_in row t)))
 
 -- ---- the marks
 
@@ -77,11 +71,11 @@ other_sign false e = omega arith
 
 module _ (sf : Bool) (at : ℕ) (text : List ℕ) (b d s f : ℕ) (bs : b ≡ sharp_sign sf) (ds : d ≡ flat_sign sf)
     (rs : RunAt b at text s) (rf : RunAt d at text f) where
-  sharps_are : s ≡ leadingCount (sharp_sign sf) (drop at text)
-  sharps_are = rs.is ∙ ap (λ (x : ℕ). leadingCount x (drop at text)) bs
+  sharps_are : s ≡ leading (sharp_sign sf) (drop at text)
+  sharps_are = rs.is ∙ ap (λ (x : ℕ). leading x (drop at text)) bs
 
-  flats_are : f ≡ leadingCount (flat_sign sf) (drop at text)
-  flats_are = rf.is ∙ ap (λ (x : ℕ). leadingCount x (drop at text)) ds
+  flats_are : f ≡ leading (flat_sign sf) (drop at text)
+  flats_are = rf.is ∙ ap (λ (x : ℕ). leading x (drop at text)) ds
 
   pub marks_inside : at + (s + f) ≤ length text
   marks_inside =
@@ -93,13 +87,13 @@ module _ (sf : Bool) (at : ℕ) (text : List ℕ) (b d s f : ℕ) (bs : b ≡ sh
       record {
         sharps_are = sharps_are;
         flats_are = flats_are;
-        stars_are = r.is ∙ ap (leadingCount 42) (sym (drop-drop (s + f) at text));
+        stars_are = r.is ∙ ap (leading 42) (sym (drop-drop (s + f) at text));
         inside = r.inside;
       }
 
 -- ---- the signs, one kind of them
 
-none_or : (sf : Bool) (t : List ℕ) (s f : ℕ) → s ≡ leadingCount (sharp_sign sf) t → f ≡ leadingCount (flat_sign sf) t → (s ≡ 0) ⊎ (f ≡ 0)
+none_or : (sf : Bool) (t : List ℕ) (s f : ℕ) → s ≡ leading (sharp_sign sf) t → f ≡ leading (flat_sign sf) t → (s ≡ 0) ⊎ (f ≡ 0)
 none_or sf t s f es ef =
     ⊎_elim (λ e. inl (es ∙ e)) (λ e. inr (ef ∙ e)) (one_leads (sharp_sign sf) (flat_sign sf) t (other_sign sf))
 
@@ -108,7 +102,7 @@ pub record Signed (sf : Bool) (t : List ℕ) (s f : ℕ) (x : Signs) : Type 0 wh
   pub count : signs_in x ≡ s + f
   pub bytes : length (signs_text sf x) ≡ s + f
 
-pub signed : (sf : Bool) (t : List ℕ) (s f : ℕ) → s ≡ leadingCount (sharp_sign sf) t → f ≡ leadingCount (flat_sign sf) t → Signed sf t s f (signs_from s f)
+pub signed : (sf : Bool) (t : List ℕ) (s f : ℕ) → s ≡ leading (sharp_sign sf) t → f ≡ leading (flat_sign sf) t → Signed sf t s f (signs_from s f)
 signed sf t s f es ef = by (eqb f 0) refl
   where
     by : (k : Bool) → eqb f 0 ≡ k → Signed sf t s f (pick k (Sharps s) (Flats f))
@@ -129,17 +123,29 @@ signed sf t s f es ef = by (eqb f 0) refl
           bytes = length-replicate {A = ℕ} f (flat_sign sf) ∙ sym n;
         }
 
+-- as the code chooses them
+abbrev pub SignsAre : (s f : ℕ) → Signs → Type 0
+SignsAre s f x = ((f ≡ 0) × (x ≡ Sharps s)) ⊎ ((f ≡ 0 → ⊥) × (x ≡ Flats f))
+
+signs_by : (s f : ℕ) (x : Signs) → SignsAre s f x → x ≡ signs_from s f
+signs_by s f x (inl (e, q)) = q ∙ sym (ap (λ (b : Bool). pick b (Sharps s) (Flats f)) (eq-eqb f 0 e))
+signs_by s f x (inr (e, q)) = q ∙ sym (ap (λ (b : Bool). pick b (Sharps s) (Flats f)) (ne_eqb f 0 e))
+
 -- ---- the whole text
 
 abbrev pub made : Front → Marks → Spelling
 made h m = record { index = h.index; signs = signs_from m.sharps m.flats; stars = m.stars }
 
-module _ (letters : List ℕ) (sf : Bool) (text : List ℕ) (h : Front) (front : FrontFound letters text h) where
-  pub no_letter : length letters ≤ h.index → refused 23 ≡ read_spelling letters sf text
-  unfolding read_spelling is_whole spelling_in_front
-  no_letter k = simp (le-ltb (letter_index letters text) (length letters) (subst (λ (n : ℕ). length letters ≤ n) front.index_is k))
+pub no_letter : (letters : List ℕ) (sf : Bool) (text : List ℕ) → letter_index letters text ≡ length letters → refused 23 ≡ read_spelling letters sf text
+unfolding read_spelling is_whole spelling_in_front
+no_letter letters sf text e = simp (le-ltb (letter_index letters text) (length letters) (omega (arith, e)))
 
-  module _ (lt : h.index < length letters) (m : Marks) (marks : MarksFound sf h.bytes text m) where
+module _ (letters : List ℕ) (sf : Bool) (text : List ℕ) (h : Front) (front : FrontFound letters text h) (m : Marks)
+    (marks : MarksFound sf h.bytes text m)
+  where
+    abbrev lt : h.index < length letters
+    lt = front.index_below
+
     abbrev X : Spelling
     X = made h m
 
@@ -151,7 +157,7 @@ module _ (letters : List ℕ) (sf : Bool) (text : List ℕ) (h : Front) (front :
         past_front (letter_at letters h.index) text
         (subst (λ (i : ℕ). FrontIs letters text i ≡ true) (sym front.index_is)
         (index_begins letters text (subst (λ (i : ℕ). i < length letters) front.index_is lt)))
-        ∙ ap (λ (n : ℕ). drop n text) (sym (front.bytes_are lt))
+        ∙ ap (λ (n : ℕ). drop n text) (sym front.bytes_are)
 
     found_is : spelling_in_front letters sf text ≡ X
     unfolding spelling_in_front
@@ -195,12 +201,6 @@ module _ (letters : List ℕ) (sf : Bool) (text : List ℕ) (h : Front) (front :
             lt-ltb (signs_in X.signs) 4294967296 (omega (arith, signs_are.count)),
           ))
 
-      pub read_sharps : m.flats ≡ 0 → given (record { index = h.index; signs = Sharps m.sharps; stars = m.stars }) ≡ read_spelling letters sf text
-      read_sharps e =
-          ap (λ (x : Signs). given (record { index = h.index; signs = x; stars = m.stars })) (sym (ap (λ (b : Bool). pick b (Sharps m.sharps) (Flats m.flats)) (eq-eqb m.flats 0 e)))
-          ∙ read_as
-
-      pub read_flats : (m.flats ≡ 0 → ⊥) → given (record { index = h.index; signs = Flats m.flats; stars = m.stars }) ≡ read_spelling letters sf text
-      read_flats e =
-          ap (λ (x : Signs). given (record { index = h.index; signs = x; stars = m.stars })) (sym (ap (λ (b : Bool). pick b (Sharps m.sharps) (Flats m.flats)) (ne_eqb m.flats 0 e)))
-          ∙ read_as
+      -- .. with these signs
+      pub read_signed : (x : Signs) → SignsAre m.sharps m.flats x → given (record { index = h.index; signs = x; stars = m.stars }) ≡ read_spelling letters sf text
+      read_signed x is = ap (λ (y : Signs). given (record { index = h.index; signs = y; stars = m.stars })) (signs_by m.sharps m.flats x is) ∙ read_as

@@ -1,18 +1,16 @@
 -- What the calls answer: questions 1 to 4 and 18 of the layout, then 23, 21 and 24 of the text, then the spelling or the key.
 use Rattle.std.specs.Prelude.{ℕ, ◌+◌, ◌-◌, ◌&&◌, List, [], ◌∷◌, length, take, drop, eqb, ltb}
 use Rattle.answer.specs.Choice.{pick}
-use Rattle.answer.specs.Outcome.{Outcome, given, refused, ask, and_then}
-use Rattle.answer.specs.Refusals.{number_of}
+use Rattle.answer.specs.Outcome.{Outcome, given, ask, and_then}
 use Rattle.genchain.specs.Chains.{chain_of}
 use Rattle.pergen.specs.declared.Spelling.{Spelling}
 use Rattle.pergen.specs.Pergen.{cycles}
-use Rattle.notes.specs.Reading.{leading as leadingCount}
+use Rattle.notes.specs.Reading.{leading}
 use Rattle.layout.specs.Layouts.{Layout, layout_outcome, cycles_in, sharp_first}
 use Rattle.layout.specs.Names.{key_of}
 use Rattle.layout.specs.Answers.{of_layout}
 use Rattle.layout.specs.declared.IsomorphicLayout.{IsomorphicLayout}
 use Rattle.layout_reading.specs.Reading.{in_front, bytes_before, read_spelling}
-use Rattle.layout_reading.specs.declared.SpellingAnswer.{SpellingAnswer}
 
 -- ---- one spelling
 
@@ -64,11 +62,11 @@ slashed_in l stars text =
 
 -- "in parentheses if a cycle is present .. Then one * per cycle number": 40 is (, 41 is ), 42 is *
 unfoldable pub enclosed_in : Layout → List ℕ → Outcome ℕ
-unfolding in_front bytes_before leadingCount slashed_in
+unfolding in_front bytes_before leading slashed_in
 enclosed_in l text =
     let close = bytes_before 41 text in
     let stars = drop (close + 1) text in
-    ask 23 (in_front (40 ∷ []) text && (ltb close (length text) && eqb (leadingCount 42 stars) (length stars)))
+    ask 23 (in_front (40 ∷ []) text && (ltb close (length text) && eqb (leading 42 stars) (length stars)))
     (slashed_in l (length stars) (take (close - 1) (drop 1 text)))
 
 -- ---- the key that a text names
@@ -85,8 +83,3 @@ named_in l text =
 unfoldable pub get_named_key : IsomorphicLayout → List ℕ → Outcome ℕ
 unfolding layout_outcome named_in
 get_named_key r text = of_layout r (λ (l : Layout). named_in l text)
-
--- What an answer means.
-abbrev pub spelling_outcome : SpellingAnswer → Outcome Spelling
-spelling_outcome (SpellingAnswer.Given x) = given x
-spelling_outcome (SpellingAnswer.Refused q) = refused (number_of q)

@@ -1,25 +1,23 @@
 -- What the parts behind the calls promise: what stands in a text, by the numbers that the code carries.
-use Rattle.std.specs.Prelude.{ℕ, ◌+◌, ◌≤◌, ◌<◌, ◌≡◌, Bool, List, length, drop}
+use Rattle.std.specs.Prelude.{ℕ, ◌+◌, ◌≤◌, ◌<◌, ◌≡◌, Bool, List, length, drop, Option, MatchOption, Result, Ok, Err}
 use Rattle.answer.specs.Outcome.{Outcome, given, refused}
-use Rattle.genchain.specs.Chains.{chain_of, row_of}
-use Rattle.genchain.specs.declared.rows.ChainRow.{ChainRow}
+use Rattle.answer.specs.Refusals.{number_of}
+use Rattle.answer.specs.declared.Refusal.{Refusal}
 use Rattle.pergen.specs.declared.Spelling.{Spelling}
 use Rattle.notes.specs.Names.{sharp_sign, flat_sign, letter_text, letter_at}
-use Rattle.notes.specs.Reading.{leading as leadingCount}
-use Rattle.layout.specs.Layouts.{cycles_in}
-use Rattle.layout.specs.Parts.{layout_of, Laid}
-use Rattle.layout.specs.declared.parts.Found.{Found}
+use Rattle.notes.specs.Reading.{leading}
+use Rattle.layout.specs.Layouts.{Layout}
+use Rattle.layout.specs.Parts.{layout_of}
 use Rattle.layout_reading.specs.Reading.{bytes_before, letter_index}
+use Rattle.layout_reading.specs.declared.reader.Reader.{Reader}
 use Rattle.layout_reading.specs.declared.spellings.Front.{Front}
 use Rattle.layout_reading.specs.declared.spellings.Marks.{Marks}
 use Rattle.layout_reading.specs.declared.spellings.Typed.{Typed}
-use Rattle.layout_reading.specs.declared.spellings.TypedAnswer.{TypedAnswer}
 
--- What the parts ask: the questions on the layout have been asked, the row is its chain's, and so many are its cycles.
-pub record Asked (row : ChainRow) (found : Found) (n : ℕ) : Type 0 where
-  pub row_is : row ≡ row_of (chain_of found.chain)
-  pub laid : Laid (layout_of found)
-  pub cycles_are : n ≡ cycles_in (layout_of found)
+-- The layout that texts are read in.
+abbrev pub reader_outcome : Result Reader Refusal → Outcome Layout
+reader_outcome (Ok r) = given (layout_of r.found)
+reader_outcome (Err q) = refused (number_of q)
 
 -- n bytes stand before the first of a kind.
 pub record Before (byte : ℕ) (text : List ℕ) (n : ℕ) : Type 0 where
@@ -28,26 +26,31 @@ pub record Before (byte : ℕ) (text : List ℕ) (n : ℕ) : Type 0 where
 
 -- A byte stands n times from a place on.
 pub record RunAt (byte at : ℕ) (text : List ℕ) (n : ℕ) : Type 0 where
-  pub is : n ≡ leadingCount byte (drop at text)
+  pub is : n ≡ leading byte (drop at text)
   pub inside : at + n ≤ length text
 
 -- The letter at the front, and how many bytes it takes.
 pub record FrontFound (letters text : List ℕ) (f : Front) : Type 0 where
   pub index_is : f.index ≡ letter_index letters text
-  pub bytes_are : f.index < length letters → f.bytes ≡ length (letter_text (letter_at letters f.index))
+  pub index_below : f.index < length letters
+  pub bytes_are : f.bytes ≡ length (letter_text (letter_at letters f.index))
   pub inside : f.bytes ≤ length text
+
+-- .. where one of the letters stands there.
+abbrev pub FrontIn : (letters text : List ℕ) → Option Front → Type 0
+FrontIn letters text o = MatchOption o (letter_index letters text ≡ length letters) (λ (f : Front). FrontFound letters text f)
 
 -- Signs and stars from a place on.
 pub record MarksFound (sharp_first : Bool) (at : ℕ) (text : List ℕ) (m : Marks) : Type 0 where
-  pub sharps_are : m.sharps ≡ leadingCount (sharp_sign sharp_first) (drop at text)
-  pub flats_are : m.flats ≡ leadingCount (flat_sign sharp_first) (drop at text)
-  pub stars_are : m.stars ≡ leadingCount 42 (drop (m.sharps + m.flats) (drop at text))
+  pub sharps_are : m.sharps ≡ leading (sharp_sign sharp_first) (drop at text)
+  pub flats_are : m.flats ≡ leading (flat_sign sharp_first) (drop at text)
+  pub stars_are : m.stars ≡ leading 42 (drop (m.sharps + m.flats) (drop at text))
   pub inside : at + (m.sharps + m.flats) + m.stars ≤ length text
 
 -- A spelling with any number of stars.
 abbrev pub spelling_of : Typed → Spelling
 spelling_of t = record { index = t.index; signs = t.signs; stars = t.stars }
 
-abbrev pub typed_outcome : TypedAnswer → Outcome Spelling
-typed_outcome (TypedAnswer.Given t) = given (spelling_of t)
-typed_outcome TypedAnswer.Refused = refused 23
+abbrev pub typed_outcome : Result Typed Refusal → Outcome Spelling
+typed_outcome (Ok t) = given (spelling_of t)
+typed_outcome (Err q) = refused (number_of q)

@@ -8,7 +8,7 @@ use Rattle.pergen.specs.declared.Signs.{Signs}
 use Rattle.pergen.specs.declared.Signs.TheVariants.{Sharps, Flats}
 use Rattle.pergen.specs.declared.Spelling.{Spelling}
 use Rattle.notes.specs.Names.{sharp_sign, flat_sign, signs_in, letter_text}
-use Rattle.notes.specs.Reading.{past_letter, leading as leadingCount}
+use Rattle.notes.specs.Reading.{past_letter, leading}
 
 -- ---- texts
 
@@ -37,15 +37,15 @@ signs_from sharps flats = pick (eqb flats 0) (Sharps sharps) (Flats flats)
 
 -- "a letter of the chain, then sharps or flats in the layout's own signs, .. then stars": 42 is *
 unfoldable pub spelling_in_front : List ℕ → Bool → List ℕ → Spelling
-unfolding letter_index past_letter leadingCount
+unfolding letter_index past_letter leading
 spelling_in_front letters sharp_first text =
     let marks = past_letter text in
-    let sharps = leadingCount (sharp_sign sharp_first) marks in
-    let flats = leadingCount (flat_sign sharp_first) marks in
+    let sharps = leading (sharp_sign sharp_first) marks in
+    let flats = leading (flat_sign sharp_first) marks in
     record {
       index = letter_index letters text;
       signs = signs_from sharps flats;
-      stars = leadingCount 42 (drop (sharps + flats) marks);
+      stars = leading 42 (drop (sharps + flats) marks);
     }
 
 -- ---- whether that is the whole text

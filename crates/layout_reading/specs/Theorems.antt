@@ -1,9 +1,8 @@
 -- What whoever types a note name may rely on, for every accepted layout. `NamesLeadBack` and `NamesTellKeysApart` of layout together say
 -- that `find_key` and `get_note_name` undo each other on the octave. Proofs: proofs/.
-use Rattle.std.specs.Prelude.{ℕ, ◌≤◌, ◌<◌, ◌≡◌, ◌⊎◌, List, [], ◌∷◌, ℤ}
+use Rattle.std.specs.Prelude.{ℕ, ◌≤◌, ◌<◌, ◌≡◌, ◌⊎◌, List, [], ◌∷◌, ℤ, Some}
 use Rattle.answer.specs.Outcome.{given}
 use Rattle.math.specs.Division.{remainder}
-use Rattle.pergen.specs.declared.Cycle.TheVariants.{Number}
 use Rattle.pergen.specs.declared.Spelling.{Spelling}
 use Rattle.pergen.specs.Pergen.{shown}
 use Rattle.notes.specs.Names.{signs_in}
@@ -18,7 +17,7 @@ use Rattle.layout_reading.specs.Answers.{get_spelling, get_named_key}
 
 -- The text of a spelling: the letter, its signs, its stars, as in a name that holds no other.
 abbrev pub text_of : Layout → Spelling → List ℕ
-text_of l x = text_in l (Number x.stars) (x ∷ [])
+text_of l x = text_in l (Some x.stars) (x ∷ [])
 
 -- The text of two spellings with equally many stars, as a name holds them: "with / between, in parentheses if a cycle is present".
 abbrev pub text_of_two : Layout → Spelling → Spelling → List ℕ

@@ -4,52 +4,34 @@
 // whole, byte for byte, with the layout's own letters and signs; any bytes are answered, in a time that goes with their number. Spellings
 // need not be printed on any cap.
 // specs/: Reading defines what a spelling's text is, Answers what each call answers, Theorems and Examples state what holds.
-// Every entry point answers every input; `spellings` and `names` ask for more, as their heads say. Nothing is assumed.
+// Every entry point answers every input. Nothing is assumed.
 #![tactic(auto)]
 
-pub mod names;
+mod names;
+pub mod reader;
 pub mod spellings;
 
 ghost use Rattle.std.specs.Prelude.{◌≡◌};
-ghost use Rattle.answer.specs.Refusals.{number_outcome};
-ghost use Rattle.layout_reading.specs.Answers.{get_spelling, get_named_key, spelling_outcome};
+ghost use Rattle.answer.specs.Refusals.{outcome_of};
+ghost use Rattle.layout_reading.specs.Answers.{get_spelling, get_named_key};
 
-use answer::{NumberAnswer, Refusal};
-use genchain::rows;
+use crate::reader::Reader;
+use answer::Refusal;
 use layout::IsomorphicLayout;
-use layout::parts::FoundAnswer;
 use pergen::Spelling;
 
-#[derive(Clone, Copy)]
-pub enum SpellingAnswer {
-    Given(Spelling),
-    Refused(Refusal),
-}
-
 // The spelling that a text is: a letter of the chain, sharps or flats, stars (1, 2, 3, 4, 18, 23, 21).
-pub fn read_spelling(layout: IsomorphicLayout, text: &[u8]) -> SpellingAnswer
-    ensures { spelling_outcome result ≡ get_spelling layout text.now }
+pub fn read_spelling(layout: IsomorphicLayout, text: &[u8]) -> Result<Spelling, Refusal>
+    ensures { outcome_of result ≡ get_spelling layout text.now }
 {
-    let row = rows::row(layout.genchain);
-    match layout::parts::ask_with_row(layout, row) {
-        FoundAnswer::Refused(q) => SpellingAnswer::Refused(q),
-        FoundAnswer::Given(found) => {
-            let cycles = math::gcd_u16(found.octave, found.generator);
-            spellings::read(row, found, cycles, text)
-        }
-    }
+    let reader = Reader::ask(layout)?;
+    reader.read(text)
 }
 
 // The key of the octave that a text names: a spelling's, or a name's with two spellings of one key (1, 2, 3, 4, 18, 23, 21, 24).
-pub fn find_key(layout: IsomorphicLayout, text: &[u8]) -> NumberAnswer
-    ensures { number_outcome result ≡ get_named_key layout text.now }
+pub fn find_key(layout: IsomorphicLayout, text: &[u8]) -> Result<u16, Refusal>
+    ensures { outcome_of result ≡ get_named_key layout text.now }
 {
-    let row = rows::row(layout.genchain);
-    match layout::parts::ask_with_row(layout, row) {
-        FoundAnswer::Refused(q) => NumberAnswer::Refused(q),
-        FoundAnswer::Given(found) => {
-            let cycles = math::gcd_u16(found.octave, found.generator);
-            names::find(row, found, cycles, text)
-        }
-    }
+    let reader = Reader::ask(layout)?;
+    reader.find(text)
 }

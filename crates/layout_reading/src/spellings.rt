@@ -1,22 +1,26 @@
-// Reading one spelling: parts, and no entry points. Callers have asked questions 1 to 4 and 18, and hand in the chain's row and the number
-// of cycles.
-ghost use Rattle.std.specs.Prelude.{◌≡◌, ◌≤◌, length, leb};
-ghost use Rattle.genchain.specs.Chains.{TableRow, letters_in};
+// Reading one spelling: parts, and no entry points.
+ghost use Rattle.std.specs.Prelude.{◌≡◌, ◌==◌, ◌<◌, ◌≤◌, length, leb, MatchResult};
+ghost use Rattle.std.specs.List.{take_while};
+ghost use Rattle.answer.specs.Refusals.{outcome_of};
+ghost use Rattle.answer.specs.declared.Refusal.TheVariants.{Stars};
+ghost use Rattle.genchain.specs.Chains.{letters_in};
 ghost use Rattle.mos.specs.Patterns.{primary, secondary};
 ghost use Rattle.notes.specs.Names.{sharp_sign, flat_sign, letter_text};
+ghost use Rattle.layout.specs.Layouts.{layout_outcome};
 ghost use Rattle.layout.specs.Parts.{layout_of};
-ghost use Rattle.layout_reading.specs.Reading.{in_front, read_spelling};
-ghost use Rattle.layout_reading.specs.Answers.{spelling_outcome, typed_in, spelling_in};
-ghost use Rattle.layout_reading.specs.Parts.{Asked, RunAt, FrontFound, MarksFound, typed_outcome};
+ghost use Rattle.layout_reading.specs.Reading.{in_front};
+ghost use Rattle.layout_reading.specs.Answers.{with_stars, typed_in, spelling_in};
+ghost use Rattle.layout_reading.specs.Parts.{reader_outcome, RunAt, FrontIn, MarksFound, spelling_of, typed_outcome};
 
-use crate::SpellingAnswer;
+use crate::reader::Reader;
 use answer::Refusal;
-use genchain::rows::ChainRow;
-use layout::parts::Found;
+use genchain::rows;
+use layout::IsomorphicLayout;
 use mos::Mos;
+use notes::plans;
 use pergen::{Signs, Spelling};
 
-// The letter that a text begins with: its index along the chain, or the number of letters, and how many bytes it takes.
+// The letter that a text begins with: its index along the chain, and how many bytes it takes.
 #[derive(Clone, Copy)]
 pub(crate) struct Front {
     pub index: u16,
@@ -39,17 +43,11 @@ pub struct Typed {
     pub stars: usize,
 }
 
-// The spelling that a text is, or that it is none's (23).
-#[derive(Clone, Copy)]
-pub enum TypedAnswer {
-    Given(Typed),
-    Refused,
-}
-
-fn wide(byte: u8) -> u16
-    ensures { result ≡ byte }
+// How often a byte stands at the front.
+fn leading(text: &[u8], byte: u8) -> usize
+    ensures { result ≡ length (take_while (λ b. b == byte) text.now) }
 {
-    byte as u16
+    text.iter().take_while(|b| **b == byte).count()
 }
 
 // How often a byte stands from a place on.
@@ -57,14 +55,7 @@ pub(crate) fn run(text: &[u8], at: usize, byte: u8) -> usize
     requires { at ≤ length text.now }
     ensures { RunAt byte at text.now result }
 {
-    let mut place = at;
-    while place < text.len() {
-        if text[place] != byte {
-            return place - at;
-        }
-        place += 1;
-    }
-    place - at
+    leading(&text[at..], byte)
 }
 
 // Does the text begin with this letter? Its bytes are compared, and not what they stand for: half a letter is none.
@@ -75,64 +66,27 @@ fn starts(text: &[u8], letter: u16) -> bool
         if text.len() < 1 {
             return false;
         }
-        return wide(text[0]) == letter;
+        return u16::from(text[0]) == letter;
     }
     if text.len() < 2 {
         return false;
     }
-    if wide(text[0]) != 192 + letter / 64 {
+    if u16::from(text[0]) != 192 + letter / 64 {
         return false;
     }
-    wide(text[1]) == 128 + letter % 64
-}
-
-fn letter_length(letter: u16) -> usize
-    ensures { result ≡ length (letter_text letter) }
-{
-    if letter < 128 {
-        return 1;
-    }
-    2
-}
-
-fn letter_in_front(row: ChainRow, text: &[u8]) -> Front
-    requires { TableRow row }
-    ensures { FrontFound (letters_in row) text.now result }
-{
-    let count = row.num_letters as usize;
-    let mut place: usize = 0;
-    while place < count {
-        let letter = row.letters[place];
-        if starts(text, letter) {
-            return Front {
-                index: place as u16,
-                bytes: letter_length(letter),
-            };
-        }
-        place += 1;
-    }
-    Front {
-        index: row.num_letters,
-        bytes: 0,
-    }
+    u16::from(text[1]) == 128 + letter % 64
 }
 
 fn sharp_sign(sharp_first: bool) -> u8
     ensures { result ≡ sharp_sign sharp_first }
 {
-    if sharp_first {
-        return b'#';
-    }
-    b'-'
+    if sharp_first { b'#' } else { b'-' }
 }
 
 fn flat_sign(sharp_first: bool) -> u8
     ensures { result ≡ flat_sign sharp_first }
 {
-    if sharp_first {
-        return b'b';
-    }
-    b'+'
+    if sharp_first { b'b' } else { b'+' }
 }
 
 fn marks_from(sharp_first: bool, at: usize, text: &[u8]) -> Marks
@@ -149,41 +103,6 @@ fn marks_from(sharp_first: bool, at: usize, text: &[u8]) -> Marks
     }
 }
 
-// The spelling that a text is, with any number of stars (23).
-fn read_text(row: ChainRow, sharp_first: bool, text: &[u8]) -> TypedAnswer
-    requires { TableRow row }
-    ensures { typed_outcome result ≡ read_spelling (letters_in row) sharp_first text.now }
-{
-    let front = letter_in_front(row, text);
-    let index = front.index;
-    let at = front.bytes;
-    if row.num_letters <= index {
-        return TypedAnswer::Refused;
-    }
-    let marks = marks_from(sharp_first, at, text);
-    let sharps = marks.sharps;
-    let flats = marks.flats;
-    let stars = marks.stars;
-    if at + (sharps + flats) + stars < text.len() {
-        return TypedAnswer::Refused;
-    }
-    if 4294967295 < sharps + flats {
-        return TypedAnswer::Refused;
-    }
-    if flats == 0 {
-        return TypedAnswer::Given(Typed {
-            index,
-            signs: Signs::Sharps(sharps as u32),
-            stars,
-        });
-    }
-    TypedAnswer::Given(Typed {
-        index,
-        signs: Signs::Flats(flats as u32),
-        stars,
-    })
-}
-
 // Sharps are # where the primary step is at least the secondary.
 fn sharp_first(pattern: Mos) -> bool
     ensures { result ≡ leb (secondary pattern) (primary pattern) }
@@ -191,32 +110,92 @@ fn sharp_first(pattern: Mos) -> bool
     pattern.secondary_step <= pattern.primary_step
 }
 
-// The same in a layout (23).
-pub fn typed_spelling(row: ChainRow, found: Found, cycles: u16, text: &[u8]) -> TypedAnswer
-    requires { Asked row found cycles }
-    ensures { typed_outcome result ≡ typed_in (layout_of found) text.now }
-{
-    read_text(row, sharp_first(found.pattern), text)
+impl Typed {
+    // The same letter and signs, with these stars.
+    pub fn with_stars(self, stars: u16) -> Spelling
+        ensures { result ≡ with_stars stars (spelling_of self) }
+    {
+        let signs = self.signs;
+        Spelling {
+            index: self.index,
+            signs,
+            stars,
+        }
+    }
 }
 
-// The spelling that a text is (23, 21).
-pub(crate) fn read(row: ChainRow, found: Found, cycles: u16, text: &[u8]) -> SpellingAnswer
-    requires { Asked row found cycles }
-    ensures { spelling_outcome result ≡ spelling_in (layout_of found) text.now }
-{
-    match typed_spelling(row, found, cycles, text) {
-        TypedAnswer::Refused => SpellingAnswer::Refused(Refusal::NoteName),
-        TypedAnswer::Given(t) => {
-            let stars = t.stars;
-            let signs = t.signs;
-            if cycles as usize <= stars {
-                return SpellingAnswer::Refused(Refusal::Stars);
+impl Reader {
+    // What is asked of a layout once, before any text (1, 2, 3, 4, 18).
+    pub fn ask(layout: IsomorphicLayout) -> Result<Self, Refusal>
+        ensures { reader_outcome result ≡ layout_outcome layout }
+    {
+        let row = rows::row(layout.genchain);
+        let found = layout::parts::ask_with_row(layout, row)?;
+        let cycles = math::gcd_u16(found.octave, found.generator);
+        Ok(Reader { row, found, cycles })
+    }
+
+    fn letter_in_front(self, text: &[u8]) -> Option<Front>
+        ensures { FrontIn (letters_in self.row) text.now result }
+    {
+        for place in 0..self.row.num_letters {
+            let letter = self.row.letters[place as usize];
+            if starts(text, letter) {
+                return Some(Front {
+                    index: place,
+                    bytes: plans::letter_length(letter),
+                });
             }
-            SpellingAnswer::Given(Spelling {
-                index: t.index,
-                signs,
-                stars: stars as u16,
-            })
         }
+        None
+    }
+
+    // The spelling that a text is, with any number of stars (23).
+    pub fn typed_spelling(self, text: &[u8]) -> Result<Typed, Refusal>
+        ensures { typed_outcome result ≡ typed_in (layout_of self.found) text.now }
+    {
+        let Some(front) = self.letter_in_front(text) else {
+            return Err(Refusal::NoteName);
+        };
+        let at = front.bytes;
+        let marks = marks_from(sharp_first(self.found.pattern), at, text);
+        let sharps = marks.sharps;
+        let flats = marks.flats;
+        let stars = marks.stars;
+        if at + (sharps + flats) + stars < text.len() {
+            return Err(Refusal::NoteName);
+        }
+        if sharps + flats > u32::MAX as usize {
+            return Err(Refusal::NoteName);
+        }
+        let signs = if flats == 0 {
+            Signs::Sharps(sharps as u32)
+        } else {
+            Signs::Flats(flats as u32)
+        };
+        Ok(Typed {
+            index: front.index,
+            signs,
+            stars,
+        })
+    }
+
+    // So many stars, where they are below the cycles (21).
+    pub fn stars_below(self, stars: usize) -> Result<u16, Refusal>
+        ensures { MatchResult result (λ n. (n ≡ stars) × (stars < self.cycles)) (λ q. (q ≡ Stars) × (self.cycles ≤ stars)) }
+    {
+        if self.cycles as usize <= stars {
+            return Err(Refusal::Stars);
+        }
+        Ok(stars as u16)
+    }
+
+    // The spelling that a text is (23, 21).
+    pub(crate) fn read(self, text: &[u8]) -> Result<Spelling, Refusal>
+        ensures { outcome_of result ≡ spelling_in (layout_of self.found) text.now }
+    {
+        let t = self.typed_spelling(text)?;
+        let stars = self.stars_below(t.stars)?;
+        Ok(t.with_stars(stars))
     }
 }

@@ -14,9 +14,8 @@ use Rattle.layout.proofs.Finding.{accepted, chain_is, octave_is, start_is}
 use Rattle.layout_reach.specs.Reach.{distance}
 use Rattle.layout_retuning.specs.Retunings.{first_of, second_of, moved}
 use Rattle.layout_retuning.specs.Answers.{of_retuning}
-use Rattle.layout_retuning.specs.Parts.{tunings_of, get_tunings, Tuned, steps_by}
+use Rattle.layout_retuning.specs.Parts.{Numbers, tunings_of, get_tunings, Tuned, steps_by}
 use Rattle.layout_retuning.specs.declared.Retuning.{Retuning}
-use Rattle.layout_retuning.specs.declared.parts.Tunings.{Tunings}
 
 -- ---- what they share
 
@@ -92,7 +91,7 @@ module _ {A : Type 0} (t : Retuning) (next : Layout → Layout → Outcome A) wh
       by (refused n) p e f z = absurd (let w : ◌≡◌ {A = ℕ} 0 1 = cc in omega arith)
 
   -- the same by the numbers that the code carries
-  pub by_numbers : (rest : Tunings → Outcome A)
+  pub by_numbers : (rest : Numbers → Outcome A)
       → ((l m : Layout) → Accepted (first_of t) l → Accepted (second_of t) m → rest (tunings_of l m) ≡ next l m)
       → and_then (get_tunings t) rest ≡ of_retuning t next
   unfolding get_tunings
@@ -125,7 +124,7 @@ module _ (t : Retuning) where
     pub both_found : (m : Layout) → given m ≡ layout_outcome (second_of t) → given (tunings_of l m) ≡ get_tunings t
     both_found m f = with_second (given m) f
 
-  pub tuned : (k : Tunings) → given k ≡ get_tunings t → Tuned k
+  pub tuned : (k : Numbers) → given k ≡ get_tunings t → Tuned k
   unfolding get_tunings
   tuned k q =
       let found = both_accepted t (λ (l m : Layout). given (tunings_of l m)) k (sym q) in

@@ -25,11 +25,10 @@ use Rattle.layout.proofs.SoundedKeys.{spellings_have_a_key}
 use Rattle.layout_reach.specs.Reach.{distance}
 use Rattle.layout_retuning.specs.Retunings.{first_of, second_of, moved, spelt}
 use Rattle.layout_retuning.specs.Answers.{moved_in, get_moved}
-use Rattle.layout_retuning.specs.Parts.{tunings_of, get_tunings, Tuned, keys_at, steps_by, moved_by}
+use Rattle.layout_retuning.specs.Parts.{Numbers, tunings_of, get_tunings, keys_at, steps_by, moved_by}
 use Rattle.layout_retuning.specs.Theorems.{MovesAreDistances}
 use Rattle.layout_retuning.specs.declared.Retuning.{Retuning}
 use Rattle.layout_retuning.specs.declared.parts.Keys.{Keys}
-use Rattle.layout_retuning.specs.declared.parts.Tunings.{Tunings}
 use Rattle.layout_retuning.proofs.BothLayouts.{Shared, shared, octave_shared, moved_by_numbers, of_both, both_accepted, by_numbers}
 use Rattle.layout_retuning.proofs.Bound.{there_and_back}
 
@@ -41,7 +40,7 @@ unfolding sounds
 key_below P G u s k h e = omega (arith, e, remainder_below (pos G *ℤ u +ℤ pos s) P h)
 
 -- .. and the spelling's, since the sides are its place
-pub steps_are : (k : Tunings) (x : Spelling) (t : Sides) (y : Keys) (r : ℕ) → SidesOf k.num_letters k.start x t
+pub steps_are : (k : Numbers) (x : Spelling) (t : Sides) (y : Keys) (r : ℕ) → SidesOf k.num_letters k.start x t
     → y ≡ keys_at k (pos t.above -ℤ pos t.below) x.stars → r ≡ distance k.octave (pos y.first) (pos y.second)
     → r ≡ steps_by k x
 unfolding steps_by keys_at sounded_key
@@ -62,14 +61,14 @@ not_below_second s n k rest h = rw (le-ltb s k h, and-false (ltb s n)) refl
 below_both : {A : Type 0} (s n k : ℕ) (rest : Outcome A) → s < n → s < k → ask 21 (ltb s n && ltb s k) rest ≡ rest
 below_both s n k rest h j = simp (lt-ltb s n h, lt-ltb s k j)
 
-module _ (k : Tunings) (x : Spelling) where
+module _ (k : Numbers) (x : Spelling) where
   pub no_letter : k.num_letters ≤ x.index → refused 16 ≡ moved_by k x
   unfolding moved_by
   no_letter h = sym (ask_above 16 x.index k.num_letters _ h)
 
-  module _ (h : Tuned k) (lettered : x.index < k.num_letters) where
+  module _ (h : 0 < k.octave) (lettered : x.index < k.num_letters) where
     cycles_are : (G n : ℕ) → GcdOf k.octave G n → n ≡ cycles k.octave G
-    cycles_are G n g = cycles_found k.octave G n (λ z. let w : ⊥ = omega (arith, h.positive) in w) g.is
+    cycles_are G n g = cycles_found k.octave G n (λ z. let w : ⊥ = omega arith in w) g.is
 
     pub many_stars_first : (n : ℕ) → GcdOf k.octave k.first n → n ≤ x.stars → refused 21 ≡ moved_by k x
     unfolding moved_by
@@ -103,19 +102,19 @@ module _ (t : Retuning) (x : Spelling) where
       (ask 21 (ltb x.stars (cycles_in l) && ltb x.stars (cycles P m.generator)) (given n)))
       (moved_by_numbers l m s x) (sym s.octave)
 
-  moved_from : and_then (get_tunings t) (λ (k : Tunings). moved_by k x) ≡ get_moved t x
+  moved_from : and_then (get_tunings t) (λ (k : Numbers). moved_by k x) ≡ get_moved t x
   unfolding get_moved
-  moved_from = by_numbers t (λ (l m : Layout). moved_in l m x) (λ (k : Tunings). moved_by k x) same_questions
+  moved_from = by_numbers t (λ (l m : Layout). moved_in l m x) (λ (k : Numbers). moved_by k x) same_questions
 
   pub moved_refused : (n : ℕ) → refused n ≡ get_tunings t → refused n ≡ get_moved t x
-  moved_refused n e = ap (λ (o : Outcome Tunings). and_then o (λ (k : Tunings). moved_by k x)) e ∙ moved_from
+  moved_refused n e = ap (λ (o : Outcome Numbers). and_then o (λ (k : Numbers). moved_by k x)) e ∙ moved_from
 
-  moved_given : (k : Tunings) → given k ≡ get_tunings t → (o : Outcome ℕ) → o ≡ moved_by k x → o ≡ get_moved t x
-  moved_given k e o q = q ∙ ap (λ (p : Outcome Tunings). and_then p (λ (j : Tunings). moved_by j x)) e ∙ moved_from
+  moved_given : (k : Numbers) → given k ≡ get_tunings t → (o : Outcome ℕ) → o ≡ moved_by k x → o ≡ get_moved t x
+  moved_given k e o q = q ∙ ap (λ (p : Outcome Numbers). and_then p (λ (j : Numbers). moved_by j x)) e ∙ moved_from
 
 -- .. of a spelling whose signs came as one signed number z, read as y
 pub moved_with_signs : (t : Retuning) (letter stars : ℕ) (z y : ℤ) (s : Signs) → y ≡ z → s ≡ signs_of y
-    → (k : Tunings) → given k ≡ get_tunings t
+    → (k : Numbers) → given k ≡ get_tunings t
     → (o : Outcome ℕ) → o ≡ moved_by k (record { index = letter; signs = s; stars = stars }) → o ≡ get_moved t (spelt letter z stars)
 moved_with_signs t letter stars z y s read is k e o q =
     moved_given t (spelt letter z stars) k e o

@@ -17,10 +17,9 @@ use Rattle.text.proofs.Joined.{joined_none, joined_more}
 use Rattle.layout.specs.Layouts.{Layout, Accepted}
 use Rattle.layout_retuning.specs.Retunings.{first_of, second_of, move_table, largest}
 use Rattle.layout_retuning.specs.Answers.{moved_in, get_moved, get_move_table, get_largest_move}
-use Rattle.layout_retuning.specs.Parts.{get_tunings, table_length, table_by}
+use Rattle.layout_retuning.specs.Parts.{Numbers, get_tunings, table_length, table_by}
 use Rattle.layout_retuning.specs.Theorems.{IsLargest, LargestIsTheLargest, back, BackIsAsFar}
 use Rattle.layout_retuning.specs.declared.Retuning.{Retuning}
-use Rattle.layout_retuning.specs.declared.parts.Tunings.{Tunings}
 use Rattle.layout_retuning.proofs.BothLayouts.{shared, some_letters, of_both, both_accepted, by_numbers}
 use Rattle.layout_retuning.proofs.Calls.{same_back}
 use Rattle.layout_retuning.proofs.Tables.{entry, table_by_numbers, table_back, length_move_table}
@@ -68,7 +67,7 @@ largest_more (x ∷ xs) y = ap (λ (n : ℕ). max x n) (largest_more xs y) ∙ r
 
 -- ---- the loop
 
-module _ (k : Tunings) where
+module _ (k : Numbers) where
   pub largest_start : 0 ≡ largest (table_by k 0)
   unfolding table_by largest
   largest_start = sym (ap largest (joined_none (λ i. entry k i ∷ [])))
@@ -88,18 +87,18 @@ module _ (k : Tunings) where
 -- ---- the call
 
 module _ (t : Retuning) where
-  largest_from : and_then (get_tunings t) (λ (k : Tunings). given (largest (table_by k (table_length k)))) ≡ get_largest_move t
+  largest_from : and_then (get_tunings t) (λ (k : Numbers). given (largest (table_by k (table_length k)))) ≡ get_largest_move t
   unfolding get_largest_move
   largest_from =
-      by_numbers t (λ (l m : Layout). given (largest (move_table l m))) (λ (k : Tunings). given (largest (table_by k (table_length k))))
+      by_numbers t (λ (l m : Layout). given (largest (move_table l m))) (λ (k : Numbers). given (largest (table_by k (table_length k))))
       (λ l m e f. ap (λ (xs : List ℕ). given (largest xs)) (table_by_numbers l m (shared t l m e f)))
 
   pub largest_refused : (n : ℕ) → refused n ≡ get_tunings t → refused n ≡ get_largest_move t
-  largest_refused n e = ap (λ (o : Outcome Tunings). and_then o (λ (k : Tunings). given (largest (table_by k (table_length k))))) e ∙ largest_from
+  largest_refused n e = ap (λ (o : Outcome Numbers). and_then o (λ (k : Numbers). given (largest (table_by k (table_length k))))) e ∙ largest_from
 
-  pub largest_given : (k : Tunings) → given k ≡ get_tunings t → (n : ℕ) → n ≡ largest (table_by k (table_length k)) → given n ≡ get_largest_move t
+  pub largest_given : (k : Numbers) → given k ≡ get_tunings t → (n : ℕ) → n ≡ largest (table_by k (table_length k)) → given n ≡ get_largest_move t
   largest_given k e n q =
-      ap given q ∙ ap (λ (o : Outcome Tunings). and_then o (λ (j : Tunings). given (largest (table_by j (table_length j))))) e ∙ largest_from
+      ap given q ∙ ap (λ (o : Outcome Numbers). and_then o (λ (j : Numbers). given (largest (table_by j (table_length j))))) e ∙ largest_from
 
 -- ---- the theorem
 

@@ -1,6 +1,7 @@
 -- From an entry of the table to the next the place goes on by as many places as there are letters, or from a letter's last to the next
 -- letter's first by one, sixteen times as many back. A place further on sounds the key that is further on by what those places sound.
 use Prim.Native.Nat.{ℕ, ◌+◌, ◌*◌, ◌/◌, ◌%◌, ◌<◌}
+use mathlib.Core.Logic.{◌⊎◌, inl, inr}
 use mathlib.Core.Path.{◌≡◌, sym, ap, ap₂, ◌∙◌}
 use lib.IntN.{ℤ, pos, ◌+ℤ◌, ◌-ℤ◌, ◌*ℤ◌}
 use native.Mathlib.Nat.{mul-add}
@@ -13,10 +14,9 @@ use Rattle.pergen.specs.Spelling.{place, sounds}
 use Rattle.pergen.proofs.SignedNumbers.{signs_add_to_the_place}
 use Rattle.layout_reach.specs.Reach.{distance}
 use Rattle.layout_retuning.specs.Retunings.{table_spelling}
-use Rattle.layout_retuning.specs.Parts.{keys_at, steps_by, table_keys, StridesOf}
+use Rattle.layout_retuning.specs.Parts.{Numbers, keys_at, steps_by, table_keys, StridesOf}
 use Rattle.layout_retuning.specs.declared.parts.Keys.{Keys}
 use Rattle.layout_retuning.specs.declared.parts.Strides.{Strides}
-use Rattle.layout_retuning.specs.declared.parts.Tunings.{Tunings}
 
 -- ---- the keys of two places together
 
@@ -86,16 +86,16 @@ module _ (N s : ℕ) where
 abbrev both : ℕ → ℕ → Keys
 both a b = record { first = a; second = b }
 
-pub keys_are : (k : Tunings) (u : ℤ) (stars a b : ℕ) → a ≡ sounds k.octave k.first u stars
+pub keys_are : (k : Numbers) (u : ℤ) (stars a b : ℕ) → a ≡ sounds k.octave k.first u stars
     → b ≡ sounds k.octave k.second u stars → both a b ≡ keys_at k u stars
 unfolding keys_at
 keys_are k u stars a b e f = ap₂ both e f
 
-pub first_keys : (k : Tunings) (y : Keys) → y ≡ keys_at k (pos 0 -ℤ pos (k.num_letters * 8 + k.start)) 0 → y ≡ table_keys k 0
+pub first_keys : (k : Numbers) (y : Keys) → y ≡ keys_at k (pos 0 -ℤ pos (k.num_letters * 8 + k.start)) 0 → y ≡ table_keys k 0
 unfolding table_keys
 first_keys k y e = e ∙ ap (λ (u : ℤ). keys_at k u 0) (first_place k.num_letters k.start)
 
-module _ (k : Tunings) (h : 0 < k.octave) where
+module _ (k : Numbers) (h : 0 < k.octave) where
   pub keys_below : (u : ℤ) (stars : ℕ) (r : Keys) → r ≡ keys_at k u stars → (r.first < k.octave) × (r.second < k.octave)
   unfolding keys_at sounds
   keys_below u stars r e = (
@@ -119,37 +119,34 @@ module _ (k : Tunings) (h : 0 < k.octave) where
       ∙ ap₂ (λ (m n : ℕ). (m + n) % k.octave) (ap (λ (z : Keys). z.second) e) (ap (λ (z : Keys). z.second) f)
       ∙ sym (key_on k.octave k.second h u v))
 
-  module _ (t : Strides) (g : StridesOf k t) (i : ℕ) (x : Keys) (e : x ≡ table_keys k i) where
-    pub first_by_a_sharp : (x.first < k.octave) × (t.sharp.first < k.octave)
-    first_by_a_sharp = ((table_keys_below i x e).0, (keys_below (pos k.num_letters -ℤ pos 0) 0 t.sharp g.sharp_is).0)
+  -- what both keys go on by behind entry i
+  abbrev pub Behind : Strides → ℕ → Keys → Type 0
+  Behind t i y = ((i % 17 ≡ 16) × (y ≡ t.letter)) ⊎ ((i % 17 ≡ 16 → ⊥) × (y ≡ t.sharp))
 
-    pub second_by_a_sharp : (x.second < k.octave) × (t.sharp.second < k.octave)
-    second_by_a_sharp = ((table_keys_below i x e).1, (keys_below (pos k.num_letters -ℤ pos 0) 0 t.sharp g.sharp_is).1)
+  module _ (t : Strides) (g : StridesOf k t) (i : ℕ) (x : Keys) (e : x ≡ table_keys k i) (y : Keys) where
+    pub stride_below : Behind t i y → (y.first < k.octave) × (y.second < k.octave)
+    stride_below (inl (_, q)) = keys_below (pos 1 -ℤ pos (k.num_letters * 16)) 0 y (q ∙ g.letter_is)
+    stride_below (inr (_, q)) = keys_below (pos k.num_letters -ℤ pos 0) 0 y (q ∙ g.sharp_is)
 
-    pub first_by_a_letter : (x.first < k.octave) × (t.letter.first < k.octave)
-    first_by_a_letter = ((table_keys_below i x e).0, (keys_below (pos 1 -ℤ pos (k.num_letters * 16)) 0 t.letter g.letter_is).0)
+    pub first_on : Behind t i y → (x.first < k.octave) × (y.first < k.octave)
+    first_on b = ((table_keys_below i x e).0, (stride_below b).0)
 
-    pub second_by_a_letter : (x.second < k.octave) × (t.letter.second < k.octave)
-    second_by_a_letter = ((table_keys_below i x e).1, (keys_below (pos 1 -ℤ pos (k.num_letters * 16)) 0 t.letter g.letter_is).1)
+    pub second_on : Behind t i y → (x.second < k.octave) × (y.second < k.octave)
+    second_on b = ((table_keys_below i x e).1, (stride_below b).1)
 
-  module _ (t : Strides) (g : StridesOf k t) (i : ℕ) (x : Keys) (e : x ≡ table_keys k i) (a b : ℕ) where
-    pub by_a_sharp : (i % 17 ≡ 16 → ⊥) → a ≡ (x.first + t.sharp.first) % k.octave → b ≡ (x.second + t.sharp.second) % k.octave
+    pub both_on : Behind t i y → (a b : ℕ) → a ≡ (x.first + y.first) % k.octave → b ≡ (x.second + y.second) % k.octave
         → both a b ≡ table_keys k (i + 1)
     unfolding table_keys
-    by_a_sharp n p q =
-        keys_on (place_at_lem k.num_letters k.start i) (pos k.num_letters -ℤ pos 0) x t.sharp a b e g.sharp_is p q
-        ∙ ap (λ (u : ℤ). keys_at k u 0) (sym (sharp_place k.num_letters k.start i n))
-
-    pub by_a_letter : i % 17 ≡ 16 → a ≡ (x.first + t.letter.first) % k.octave → b ≡ (x.second + t.letter.second) % k.octave
-        → both a b ≡ table_keys k (i + 1)
-    unfolding table_keys
-    by_a_letter n p q =
-        keys_on (place_at_lem k.num_letters k.start i) (pos 1 -ℤ pos (k.num_letters * 16)) x t.letter a b e g.letter_is p q
-        ∙ ap (λ (u : ℤ). keys_at k u 0) (sym (letter_place k.num_letters k.start i n))
+    both_on (inl (m, q)) a b u v =
+        keys_on (place_at_lem k.num_letters k.start i) (pos 1 -ℤ pos (k.num_letters * 16)) x y a b e (q ∙ g.letter_is) u v
+        ∙ ap (λ (z : ℤ). keys_at k z 0) (sym (letter_place k.num_letters k.start i m))
+    both_on (inr (m, q)) a b u v =
+        keys_on (place_at_lem k.num_letters k.start i) (pos k.num_letters -ℤ pos 0) x y a b e (q ∙ g.sharp_is) u v
+        ∙ ap (λ (z : ℤ). keys_at k z 0) (sym (sharp_place k.num_letters k.start i m))
 
 -- ---- an entry
 
-pub entry_is : (k : Tunings) (i : ℕ) (x : Keys) (n : ℕ) → x ≡ table_keys k i → n ≡ distance k.octave (pos x.first) (pos x.second)
+pub entry_is : (k : Numbers) (i : ℕ) (x : Keys) (n : ℕ) → x ≡ table_keys k i → n ≡ distance k.octave (pos x.first) (pos x.second)
     → n ≡ steps_by k (table_spelling (i / 17) (i % 17))
 unfolding table_keys keys_at steps_by
 entry_is k i x n e q =

@@ -19,10 +19,9 @@ use Rattle.pergen.proofs.Inverse.{cycles_positive}
 use Rattle.layout.specs.Layouts.{Layout, Accepted}
 use Rattle.layout_retuning.specs.Retunings.{first_of, second_of, moved, table_spelling, letter_moves, move_table}
 use Rattle.layout_retuning.specs.Answers.{moved_in, get_moved, get_move_table}
-use Rattle.layout_retuning.specs.Parts.{tunings_of, get_tunings, steps_by, table_length, table_by}
+use Rattle.layout_retuning.specs.Parts.{Numbers, tunings_of, get_tunings, steps_by, table_length, table_by}
 use Rattle.layout_retuning.specs.Theorems.{OfSingleCalls, TableIsOfSingleCalls}
 use Rattle.layout_retuning.specs.declared.Retuning.{Retuning}
-use Rattle.layout_retuning.specs.declared.parts.Tunings.{Tunings}
 use Rattle.layout_retuning.proofs.BothLayouts.{Shared, shared, letters_shared, moved_by_numbers, of_both, both_accepted, by_numbers}
 use Rattle.layout_retuning.proofs.Bound.{there_and_back}
 use Rattle.layout_retuning.proofs.Calls.{move_of_both}
@@ -50,7 +49,7 @@ module _ (f : ℕ → ℕ) where
 
 -- ---- the loop that writes it
 
-module _ (k : Tunings) where
+module _ (k : Numbers) where
   abbrev pub entry : ℕ → ℕ
   entry i = steps_by k (table_spelling (i / 17) (i % 17))
 
@@ -120,22 +119,22 @@ module _ (l m : Layout) (s : Shared l m) where
 -- ---- the call
 
 module _ (t : Retuning) where
-  table_from : and_then (get_tunings t) (λ (k : Tunings). given (table_by k (table_length k))) ≡ get_move_table t
+  table_from : and_then (get_tunings t) (λ (k : Numbers). given (table_by k (table_length k))) ≡ get_move_table t
   unfolding get_move_table
   table_from =
-      by_numbers t (λ (l m : Layout). given (move_table l m)) (λ (k : Tunings). given (table_by k (table_length k)))
+      by_numbers t (λ (l m : Layout). given (move_table l m)) (λ (k : Numbers). given (table_by k (table_length k)))
       (λ l m e f. ap given (table_by_numbers l m (shared t l m e f)))
 
   pub table_refused : (n : ℕ) → refused n ≡ get_tunings t → refused n ≡ get_move_table t
-  table_refused n e = ap (λ (o : Outcome Tunings). and_then o (λ (k : Tunings). given (table_by k (table_length k)))) e ∙ table_from
+  table_refused n e = ap (λ (o : Outcome Numbers). and_then o (λ (k : Numbers). given (table_by k (table_length k)))) e ∙ table_from
 
-  pub table_given : (k : Tunings) → given k ≡ get_tunings t → given (table_by k (table_length k)) ≡ get_move_table t
-  table_given k e = ap (λ (o : Outcome Tunings). and_then o (λ (j : Tunings). given (table_by j (table_length j)))) e ∙ table_from
+  pub table_given : (k : Numbers) → given k ≡ get_tunings t → given (table_by k (table_length k)) ≡ get_move_table t
+  table_given k e = ap (λ (o : Outcome Numbers). and_then o (λ (j : Numbers). given (table_by j (table_length j)))) e ∙ table_from
 
   pub not_written : (n : ℕ) → refused n ≡ get_tunings t → (xs : List ℕ) → Filled (in_room (length xs) (get_move_table t)) (refused n) xs xs
   not_written n e xs = filled_refused n xs (sym (ap (in_room (length xs)) (table_refused n e))) refl
 
-  pub written_given : (k : Tunings) → given k ≡ get_tunings t → {a : Outcome ℕ} {xs ys : List ℕ}
+  pub written_given : (k : Numbers) → given k ≡ get_tunings t → {a : Outcome ℕ} {xs ys : List ℕ}
       → Filled (held_in (length xs) (table_by k (table_length k))) a xs ys → Filled (in_room (length xs) (get_move_table t)) a xs ys
   written_given k e {a} {xs} {ys} w =
       subst (λ (o : Outcome (List ℕ)). Filled o a xs ys) (ap (in_room (length xs)) (table_given k e)) w
@@ -143,7 +142,7 @@ module _ (t : Retuning) where
   pub count_refused : (n : ℕ) → refused n ≡ get_tunings t → refused n ≡ counted (get_move_table t)
   count_refused n e = ap counted (table_refused n e)
 
-  pub count_given : (k : Tunings) → given k ≡ get_tunings t → (c : ℕ) → c ≡ table_length k → given c ≡ counted (get_move_table t)
+  pub count_given : (k : Numbers) → given k ≡ get_tunings t → (c : ℕ) → c ≡ table_length k → given c ≡ counted (get_move_table t)
   count_given k e c q = ap given (q ∙ sym (length_table k (table_length k))) ∙ ap counted (table_given k e)
 
 -- ---- each entry is a single call's answer

@@ -1,5 +1,5 @@
 -- The place of a scale's name in the table, by what the code tests; from there to what the calls answer.
-use Prim.Native.Nat.{ℕ, ◌+◌, ◌*◌, ◌<◌, ◌≤◌}
+use Prim.Native.Nat.{ℕ, ◌+◌, ◌*◌, ◌<◌}
 use mathlib.Core.Path.{◌≡◌, ap, ◌∙◌}
 use mathlib.Core.List.{List}
 use native.Mathlib.Omega.{arith}
@@ -22,13 +22,17 @@ module _ (code : ℕ) (m : Mos) (h : code < 6) where
   unfolding scale_name
   place_above_lem a = record { below = omega arith; is = simp (lt-ltb _ _ a) (texts_at code h).above }
 
-  pub place_below : primary m ≤ secondary m → primary m < secondary m → PlaceOf (scale_name code m) (3 + 3 * code)
+  pub place_below : primary m < secondary m → PlaceOf (scale_name code m) (3 + 3 * code)
   unfolding scale_name
-  place_below a b = record { below = omega arith; is = simp (le-ltb (secondary m) (primary m) a, lt-ltb _ _ b) (texts_at code h).below }
+  place_below b = record { below = omega arith; is = simp (le-ltb (secondary m) (primary m) (omega (arith, b)), lt-ltb _ _ b) (texts_at code h).below }
 
-  pub place_equal : primary m ≤ secondary m → secondary m ≤ primary m → PlaceOf (scale_name code m) 0
+  pub place_equal : primary m ≡ secondary m → PlaceOf (scale_name code m) 0
   unfolding scale_name
-  place_equal a b = record { below = omega arith; is = simp (le-ltb (secondary m) (primary m) a, le-ltb (primary m) (secondary m) b) equalized_at }
+  place_equal e =
+      record {
+        below = omega arith;
+        is = simp (le-ltb (secondary m) (primary m) (omega (arith, e)), le-ltb (primary m) (secondary m) (omega (arith, e))) equalized_at;
+      }
 
 -- an accepted layout, and the place of its scale's name
 module _ (r : IsomorphicLayout) (l : Layout) (e : given l ≡ layout_outcome r) (place : ℕ) (p : PlaceOf (scale_name l.chain l.pattern) place) where

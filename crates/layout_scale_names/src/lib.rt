@@ -8,33 +8,26 @@
 pub mod parts;
 
 ghost use Rattle.std.specs.Prelude.{◌≡◌, length};
-ghost use Rattle.answer.specs.Refusals.{count_outcome};
+ghost use Rattle.answer.specs.Refusals.{outcome_of};
 ghost use Rattle.answer.specs.Lent.{in_room, counted, Filled};
 ghost use Rattle.layout.specs.Answers.{get_scale_name};
 
-use answer::CountAnswer;
+use answer::Refusal;
 use genchain::names;
 use layout::IsomorphicLayout;
-use layout::parts::FoundAnswer;
 
 // How many bytes the scale's name has (1, 2, 3, 4, 18).
-pub fn scale_name_len(layout: IsomorphicLayout) -> CountAnswer
-    ensures { count_outcome result ≡ counted (get_scale_name layout) }
+pub fn scale_name_len(layout: IsomorphicLayout) -> Result<usize, Refusal>
+    ensures { outcome_of result ≡ counted (get_scale_name layout) }
 {
-    match layout::parts::ask(layout) {
-        FoundAnswer::Refused(q) => CountAnswer::Refused(q),
-        FoundAnswer::Given(found) => {
-            CountAnswer::Given(names::text_len(parts::place_of(found.chain, found.pattern)))
-        }
-    }
+    let found = layout::parts::ask(layout)?;
+    Ok(names::text_len(parts::place_of(found.chain, found.pattern)))
 }
 
 // The scale's name, as "diatonic" (1, 2, 3, 4, 18, 10).
-pub fn get_scale_name(layout: IsomorphicLayout, out: &mut [u8]) -> CountAnswer
-    ensures { Filled (in_room (length out.old) (get_scale_name layout)) (count_outcome result) out.old out.new }
+pub fn get_scale_name(layout: IsomorphicLayout, out: &mut [u8]) -> Result<usize, Refusal>
+    ensures { Filled (in_room (length out.old) (get_scale_name layout)) (outcome_of result) out.old out.new }
 {
-    match layout::parts::ask(layout) {
-        FoundAnswer::Refused(q) => CountAnswer::Refused(q),
-        FoundAnswer::Given(found) => names::fill(parts::place_of(found.chain, found.pattern), out),
-    }
+    let found = layout::parts::ask(layout)?;
+    names::fill(parts::place_of(found.chain, found.pattern), out)
 }

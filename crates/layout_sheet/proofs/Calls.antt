@@ -2,26 +2,21 @@
 use Prim.Native.Nat.{ℕ}
 use mathlib.Core.Path.{◌≡◌, refl, sym, ap, ◌∙◌}
 use mathlib.Core.List.{List, [], ◌∷◌, ◌++◌, map}
-use native.Mathlib.Nat.{le_refl}
 use native.Mathlib.Omega.{arith}
 use lib.ListN.{length, drop, length-map}
 use Rattle.answer.specs.Outcome.{Outcome, given, refused, and_then}
-use Rattle.answer.specs.Lent.{in_room, counted, written}
+use Rattle.answer.specs.Lent.{Filled, in_room, counted, written}
 use Rattle.answer.proofs.Lent.{held}
-use Rattle.answer.specs.Refusals.{count_outcome}
-use Rattle.answer.specs.declared.CountAnswer.TheVariants.{Given}
-use Rattle.pergen.specs.declared.stepping.Key.{Key}
 use Rattle.layout.specs.declared.IsomorphicLayout.{IsomorphicLayout}
 use Rattle.layout.specs.Layouts.{Layout, layout_outcome}
 use Rattle.layout.specs.Parts.{layout_in}
 use Rattle.layout.proofs.Calls.{of_refused, of_given}
 use Rattle.layout_sheet.specs.declared.Record.{Record}
-use Rattle.layout_sheet.specs.declared.parts.Sheet.{Sheet}
-use Rattle.layout_sheet.specs.declared.parts.Source.{Source}
+use Rattle.layout_sheet.specs.declared.source.Source.{Source}
 use Rattle.layout_sheet.specs.Sheets.{record_in, sheet_in}
 use Rattle.layout_sheet.specs.Answers.{get_sheet}
-use Rattle.layout_sheet.specs.Parts.{Walking, filled_to, PreparedFor}
-use Rattle.layout_sheet.proofs.Changed.{changed_none, changed_all}
+use Rattle.layout_sheet.specs.Parts.{filled_to}
+use Rattle.layout_sheet.proofs.Changed.{changed_all}
 
 pub sheet_refused : (r : IsomorphicLayout) (n : ℕ) → refused n ≡ layout_outcome r → (records : List Record) → refused n ≡ get_sheet r records
 unfolding get_sheet
@@ -38,37 +33,27 @@ none_past f [] = refl
 none_past f (x ∷ records) = ap (λ (l : List Record). f x ∷ l) (none_past f records)
 
 -- a refused layout: no record is filled
-pub nothing_filled : (r : IsomorphicLayout) (n m : ℕ) → refused m ≡ layout_outcome r → (p : Sheet)
-    → (count_outcome p.answer ≡ refused m) × (p.count ≡ 0) → PreparedFor r n p
-nothing_filled r n m e p (refuses, none) =
+pub nothing_filled : (r : IsomorphicLayout) (m : ℕ) → refused m ≡ layout_outcome r → (records : List Record)
+    → Filled (get_sheet r records) (refused m) records records
+nothing_filled r m e records =
     record {
-      held = omega (arith, none);
-      walking = λ some. absurd (let z : ⊥ = omega (arith, some, none) in z);
-      fills = λ records long. record {
-        answered = refuses ∙ ap counted (sheet_refused r m e records);
-        content =
-            ap (λ (k : ℕ). filled_to p.source k records) none
-            ∙ changed_none (record_in (layout_in p.source.prepared)) records
-            ∙ ap (λ (o : Outcome (List Record)). written o records) (sheet_refused r m e records);
-      };
+      answered = ap counted (sheet_refused r m e records);
+      content = ap (λ (o : Outcome (List Record)). written o records) (sheet_refused r m e records);
     }
 
 -- an accepted layout: all are
-pub all_filled : (r : IsomorphicLayout) (n : ℕ) (s : Source) → given (layout_in s.prepared) ≡ layout_outcome r → (k : Key) → Walking s k
-    → PreparedFor r n (record { answer = Given n; source = s; first = k; count = n })
-all_filled r n s e k walking =
+pub all_filled : (r : IsomorphicLayout) (s : Source) → given (layout_in s.prepared) ≡ layout_outcome r → (records filled : List Record) (i n : ℕ)
+    → n ≡ length records → i ≡ length records → filled ≡ filled_to s i records → Filled (get_sheet r records) (given n) records filled
+all_filled r s e records filled i n long all are =
     let l = layout_in s.prepared in
     record {
-      held = le_refl n;
-      walking = λ some. walking;
-      fills = λ records long. record {
-        answered = ap given (sym long ∙ sym (length-map records (record_in l))) ∙ ap counted (sheet_given r l e records);
-        content =
-            ap (λ (m : ℕ). filled_to s m records) (sym long)
-            ∙ changed_all (record_in l) records
-            ∙ none_past (record_in l) records
-            ∙ ap (λ (o : Outcome (List Record)). written o records) (sheet_given r l e records);
-      };
+      answered = ap given (long ∙ sym (length-map records (record_in l))) ∙ ap counted (sheet_given r l e records);
+      content =
+          are
+          ∙ ap (λ (m : ℕ). filled_to s m records) all
+          ∙ changed_all (record_in l) records
+          ∙ none_past (record_in l) records
+          ∙ ap (λ (o : Outcome (List Record)). written o records) (sheet_given r l e records);
     }
 
 -- a sheet has room in its list

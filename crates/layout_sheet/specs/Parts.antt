@@ -1,25 +1,30 @@
 -- What the parts behind the call promise, and what they ask.
-use Rattle.std.specs.Prelude.{ℕ, zero, suc, ◌≤◌, ◌<◌, ◌≡◌, List, [], ◌∷◌, length}
-use Rattle.answer.specs.Lent.{Filled}
-use Rattle.answer.specs.Refusals.{count_outcome}
+use Rattle.std.specs.Prelude.{ℕ, zero, suc, ◌≤◌, ◌≡◌, List, [], ◌∷◌, ℤ, Result, Ok, Err}
+use Rattle.answer.specs.Outcome.{Outcome, given, refused}
+use Rattle.answer.specs.Refusals.{number_of}
+use Rattle.answer.specs.declared.Refusal.{Refusal}
+use Rattle.math.specs.Division.{remainder}
 use Rattle.pergen.specs.declared.stepping.Key.{Key}
 use Rattle.pergen.specs.Parts.{At}
-use Rattle.layout.specs.declared.IsomorphicLayout.{IsomorphicLayout}
-use Rattle.layout.specs.Parts.{layout_in, Ready}
-use Rattle.layout_layers.specs.KeyLayers.{count_in}
+use Rattle.layout.specs.Layouts.{Layout}
+use Rattle.layout.specs.Parts.{layout_in}
+use Rattle.layout_lamps.specs.Lamps.{strip_length_in}
 use Rattle.layout_sheet.specs.declared.Record.{Record}
-use Rattle.layout_sheet.specs.declared.parts.Sheet.{Sheet}
-use Rattle.layout_sheet.specs.declared.parts.Source.{Source}
+use Rattle.layout_sheet.specs.declared.source.Source.{Source}
 use Rattle.layout_sheet.specs.Sheets.{record_in}
-use Rattle.layout_sheet.specs.Answers.{get_sheet}
 
--- What records are filled from: a layout that was made ready, and how many layer numbers it has.
-abbrev pub Known : Source → Type 0
-Known s = Ready s.prepared × (s.total ≡ count_in (layout_in s.prepared))
+-- The layout that records are filled from, or the refusal.
+abbrev pub source_outcome : Result Source Refusal → Outcome Layout
+source_outcome (Ok s) = given (layout_in s.prepared)
+source_outcome (Err q) = refused (number_of q)
 
 -- On the way from record to record: the key of the last one, one of the longest strip's.
-abbrev pub Walking : Source → Key → Type 0
-Walking s k = Known s × At s.prepared.solved k × (k.number ≤ 131070)
+abbrev pub OnStrip : Source → Key → Type 0
+OnStrip s k = At s.prepared.solved k × (k.number ≤ 131070)
+
+-- The key of the strip that a number asks for.
+abbrev pub Asked : Source → ℤ → Key → Type 0
+Asked s number k = OnStrip s k × (k.number ≡ remainder number (strip_length_in (layout_in s.prepared)))
 
 -- The first elements of a list, each changed by f; the others as they are.
 unfoldable pub changed : {A : Type 0} → (A → A) → (count : ℕ) → List A → List A
@@ -30,10 +35,3 @@ changed f (suc count) (x ∷ xs) = f x ∷ changed f count xs
 -- The first records of a list, filled.
 abbrev pub filled_to : Source → (count : ℕ) → List Record → List Record
 filled_to s count records = changed (record_in (layout_in s.prepared)) count records
-
--- What a sheet of n records comes to: filling `count` of them, in order, keeps the call's promise.
-pub record PreparedFor (r : IsomorphicLayout) (n : ℕ) (p : Sheet) : Type 0 where
-  pub held : p.count ≤ n
-  pub walking : 0 < p.count → Walking p.source p.first
-  pub fills : (records : List Record) → length records ≡ n
-      → Filled (get_sheet r records) (count_outcome p.answer) records (filled_to p.source p.count records)

@@ -8,12 +8,13 @@
 #![tactic(auto)]
 
 mod parts;
+mod source;
 
 ghost use Rattle.answer.specs.Lent.{Filled};
-ghost use Rattle.answer.specs.Refusals.{count_outcome};
+ghost use Rattle.answer.specs.Refusals.{outcome_of};
 ghost use Rattle.layout_sheet.specs.Answers.{get_sheet};
 
-use answer::CountAnswer;
+use answer::Refusal;
 use layout::IsomorphicLayout;
 
 // One line of a sheet: the key that is asked for, and what the call writes beside it. Numbers only, as C has them: an index is counted
@@ -31,19 +32,15 @@ pub struct Record {
 }
 
 // Fills every record from its key, in list order; tells how many there are (1, 2, 3, 4, 18).
-pub fn fill_sheet(layout: IsomorphicLayout, records: &mut [Record]) -> CountAnswer
-    ensures { Filled (get_sheet layout records.old) (count_outcome result) records.old records.new }
+pub fn fill_sheet(layout: IsomorphicLayout, records: &mut [Record]) -> Result<usize, Refusal>
+    ensures { Filled (get_sheet layout records.old) (outcome_of result) records.old records.new }
 {
-    let sheet = parts::prepare(layout, records.len());
-    let source = sheet.source;
-    let count = sheet.count;
-    let mut key = sheet.first;
-    let mut place: usize = 0;
-    while place < count {
-        let turn = parts::filled(source, key, records[place]);
-        records[place] = turn.record;
-        key = turn.key;
-        place += 1;
+    let source = parts::source_of(layout)?;
+    let mut last = parts::first_key(source);
+    for record in records.iter_mut() {
+        let key = parts::key_asked(source, last, record.key);
+        *record = parts::record_at(source, key, *record);
+        last = key;
     }
-    sheet.answer
+    Ok(records.len())
 }

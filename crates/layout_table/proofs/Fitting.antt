@@ -1,9 +1,9 @@
 -- How long a line, a table and an output can be. A key has at most R / N + 1 signs and fewer stars than n, so at most P / 5 + 1 of both,
 -- since N is 5 at least and n × R is P; and the numbers of refusals are small.
+use Rattle.std.specs.Prelude.{Option, None, Some}
 use Prim.Native.Nat.{ℕ, zero, suc, ◌+◌, ◌*◌, ◌/◌, ◌%◌, ◌≤◌, ◌<◌}
 use mathlib.Core.Path.{◌≡◌, refl, sym, ap, subst}
 use mathlib.Core.Bool.{Bool, true, false}
-use mathlib.Core.Option.{Option, none, some}
 use mathlib.Core.List.{List}
 use native.Mathlib.Nat.{le_refl, one-mul, mul-one, mul-suc, mul-add, mul_comm, mul_assoc, mul-le-mul, mul-le-mul_left, mod-lt, div-add-mod', le-div_iff_mul-le}
 use native.Mathlib.Decide.{dec_lt}
@@ -196,8 +196,8 @@ generator_low code octave tritave =
     ask_low 1 (ltb code 6) _ (omega arith) (ask_low 2 (leb 1 octave) _ (omega arith) (rule_low code octave tritave))
 
 pattern_low : (r : IsomorphicLayout) (G : ℕ) (met : Option Mos) → Low (with_pattern r G met)
-pattern_low r G none = omega arith
-pattern_low r G (some m) = ask_low 18 (ltb r.start (letters_of r.genchain)) _ (omega arith) tt
+pattern_low r G None = omega arith
+pattern_low r G (Some m) = ask_low 18 (ltb r.start (letters_of r.genchain)) _ (omega arith) tt
 
 layout_low : (r : IsomorphicLayout) → Low (layout_outcome r)
 unfolding layout_outcome

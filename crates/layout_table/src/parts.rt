@@ -2,37 +2,37 @@
 //
 // The layout is prepared, its chain's row read and its layers counted once for all keys; degree and cycle are carried from key to key.
 ghost use Rattle.std.specs.Prelude.{◌≡◌, ◌+◌, ◌*◌, ◌≤◌, length, leb};
+ghost use Rattle.answer.specs.Refusals.{outcome_of};
 ghost use Rattle.answer.specs.Lent.{held_in, Filled};
-ghost use Rattle.answer.specs.Refusals.{count_outcome};
 ghost use Rattle.text.specs.Writing.{Room, Wrote, joined};
-ghost use Rattle.layout.specs.Parts.{layout_in, Ready};
+ghost use Rattle.layout.specs.Parts.{layout_in};
 ghost use Rattle.notes.specs.Parts.{plan_text, ShortLetters};
 ghost use Rattle.layout_table.specs.Tables.{key_line, table_in};
 ghost use Rattle.layout_table.specs.Parts.{numbers_in, line_from};
 
-use answer::{CountAnswer, Refusal};
+use answer::Refusal;
 use genchain::rows;
 use layout::prepared;
 use layout::prepared::Prepared;
+use layout_book::naming::Naming;
 use notes::plans::NamePlan;
 use notes::texts;
 use pergen::stepping;
 use text::decimal;
 use text::writer::put_byte;
 
-// How many bytes the lines of all keys have without their names.
+// How many bytes the lines of all keys have without their names. The walk over the keys is not shared with `put_lines`: a closure for each
+// key would change what it captures, of which a proof then knows nothing.
 fn numbers_length(prepared: Prepared) -> usize
-    requires { Ready prepared }
     ensures { (result ≡ length (joined (numbers_in (layout_in prepared)) prepared.found.octave)) × (result ≤ 13 * prepared.found.octave) }
 {
     let solved = prepared.solved;
     let layers = layout_layers::keys::total_of(prepared);
-    let octave = prepared.found.octave as u32;
     let mut total: usize = 0;
     let mut key = stepping::first(solved);
-    while key.number < octave {
+    for number in 0..prepared.found.octave {
         let lamp = layout_lamps::parts::lamp_of(prepared, layers, key);
-        total += decimal::number_len(key.number as u16) + decimal::number_len(lamp) + 3;
+        total += decimal::number_len(number) + decimal::number_len(lamp) + 3;
         key = stepping::next(solved, key);
     }
     total
@@ -40,11 +40,9 @@ fn numbers_length(prepared: Prepared) -> usize
 
 // How many bytes the lines of all keys have together: those of all names, and the others.
 pub(crate) fn lines_length(prepared: Prepared) -> usize
-    requires { Ready prepared }
     ensures { result ≡ length (table_in (layout_in prepared)) }
 {
-    let row = rows::row(prepared.found.chain);
-    layout_book::lengths::names_length(prepared, row) + numbers_length(prepared)
+    Naming::of(prepared).names_length() + numbers_length(prepared)
 }
 
 // A key's line; the place after it.
@@ -62,19 +60,18 @@ fn put_line(out: &mut [u8], at: usize, key: u16, name: NamePlan, lamp: u16) -> u
 
 // The lines of so many keys, from a key on, at the front of a slice that is known to hold them; the place after the last.
 pub fn put_lines(out: &mut [u8], prepared: Prepared, from: u16, count: u16) -> usize
-    requires { Ready prepared × (from + count ≤ prepared.found.octave) × Room out.old 0 (joined (line_from (layout_in prepared) from) count) }
+    requires { (from + count ≤ prepared.found.octave) × Room out.old 0 (joined (line_from (layout_in prepared) from) count) }
     ensures { Wrote out.old 0 (joined (line_from (layout_in prepared) from) count) out.new result }
 {
     let solved = prepared.solved;
     let row = rows::row(prepared.found.chain);
     let layers = layout_layers::keys::total_of(prepared);
-    let end = from as u32 + count as u32;
     let mut place: usize = 0;
     let mut key = stepping::key_at(solved, from as u32);
-    while key.number < end {
+    for number in from..from + count {
         let name = prepared::plan_name(prepared, row, key);
         let lamp = layout_lamps::parts::lamp_of(prepared, layers, key);
-        place = put_line(out, place, key.number as u16, name, lamp);
+        place = put_line(out, place, number, name, lamp);
         key = stepping::next(solved, key);
     }
     place
@@ -82,7 +79,6 @@ pub fn put_lines(out: &mut [u8], prepared: Prepared, from: u16, count: u16) -> u
 
 // Do so many bytes hold the lines of all keys? Where they hold any table of so many keys, the lines are not measured.
 fn has_room(prepared: Prepared, room: usize) -> bool
-    requires { Ready prepared }
     ensures { result ≡ leb (length (table_in (layout_in prepared))) room }
 {
     let keys = prepared.found.octave as usize;
@@ -93,12 +89,11 @@ fn has_room(prepared: Prepared, room: usize) -> bool
 }
 
 // The lines of all keys at the front of a slice that holds them (10).
-pub(crate) fn write_lines(prepared: Prepared, out: &mut [u8]) -> CountAnswer
-    requires { Ready prepared }
-    ensures { Filled (held_in (length out.old) (table_in (layout_in prepared))) (count_outcome result) out.old out.new }
+pub(crate) fn write_lines(prepared: Prepared, out: &mut [u8]) -> Result<usize, Refusal>
+    ensures { Filled (held_in (length out.old) (table_in (layout_in prepared))) (outcome_of result) out.old out.new }
 {
     if !has_room(prepared, out.len()) {
-        return CountAnswer::Refused(Refusal::Room);
+        return Err(Refusal::Room);
     }
-    CountAnswer::Given(put_lines(out, prepared, 0, prepared.found.octave))
+    Ok(put_lines(out, prepared, 0, prepared.found.octave))
 }

@@ -15,8 +15,8 @@ use Rattle.answer.specs.Choice.{pick}
 use Rattle.text.specs.Decimal.{is_digit, leading, value, digits_at, value_at, end_at}
 use Rattle.line.specs.Lines.{is_field, field_at, space, line_feed, line_outcome}
 use Rattle.line.specs.Theorems.{LaterBytesIgnored}
-use Rattle.text.specs.declared.decimal.Reading.{Reading}
-use Rattle.text.specs.declared.decimal.Reading.TheVariants.{Number, Nothing}
+use Rattle.std.specs.Prelude.{Option, None}
+use Rattle.text.specs.Decimal.{numeral}
 use Rattle.text.proofs.Digits.{leading_digit, leading_other, leading_none}
 use Rattle.text.proofs.Numbers.{length_is, digits_above}
 use Rattle.line.proofs.Fields.{no_number}
@@ -25,9 +25,9 @@ use Rattle.line.proofs.OneNumber.{same_number_line}
 
 -- ---- a reading depends on the digits and on the byte behind them
 
-abbrev reading_of : List ℕ → ℕ → ℕ → ℕ → Reading
+abbrev reading_of : List ℕ → ℕ → ℕ → ℕ → Option (ℕ × ℕ)
 reading_of text at byte behind =
-    pick (leb 1 (length text) && leb (length text) 5 && leb (value text) 65535 && eqb byte behind) (Number (value text) (at + length text + 1)) Nothing
+    pick (leb 1 (length text) && leb (length text) 5 && leb (value text) 65535 && eqb byte behind) (numeral (value text) (at + length text + 1)) None
 
 reading_is : (line : List ℕ) (at behind : ℕ) → field_at line at behind ≡ reading_of (digits_at line at) at (get_or line (at + length (digits_at line at)) 0) behind
 unfolding field_at
@@ -43,7 +43,7 @@ same_reading line other at behind text d e byte =
     ∙ sym (reading_is other at behind)
 
 -- a number that was read: at most 5 digits, and the byte behind
-module _ (line : List ℕ) (at behind number next : ℕ) (read : Number number next ≡ field_at line at behind) where
+module _ (line : List ℕ) (at behind number next : ℕ) (read : numeral number next ≡ field_at line at behind) where
   abbrev long : ℕ
   long = length (digits_at line at)
 
@@ -111,7 +111,7 @@ module _ (line after : List ℕ) where
     same_number = same_reading whole cut at behind (digits_at cut at) same_digits refl (same_byte (at + length (digits_at cut at)) short)
 
   -- a space stands before the line feed
-  goes_on : (at number next : ℕ) → at ≤ length line → Number number next ≡ field_at whole at space → next ≤ length line
+  goes_on : (at number next : ℕ) → at ≤ length line → numeral number next ≡ field_at whole at space → next ≤ length line
   goes_on at number next inside read =
       let cut-read = read ∙ same_number at space inside in
       let end = at + length (digits_at cut at) in
@@ -179,10 +179,10 @@ eighteen_bytes line =
     (λ a at e. front_number line at space 18 (omega (arith, second_at a at e)))
     (λ a b at next e f. front_number line next line_feed 18 (omega (arith, second_at a at e, third_at b at next f)))
   where
-    second_at : (a at : ℕ) → Number a at ≡ field_at (take 18 line) 0 space → at ≤ 6
+    second_at : (a at : ℕ) → numeral a at ≡ field_at (take 18 line) 0 space → at ≤ 6
     second_at a at e = omega (arith, next_is (take 18 line) 0 space a at e, few_digits (take 18 line) 0 space a at e)
 
-    third_at : (b at next : ℕ) → Number b next ≡ field_at (take 18 line) at space → next ≤ at + 6
+    third_at : (b at next : ℕ) → numeral b next ≡ field_at (take 18 line) at space → next ≤ at + 6
     third_at b at next f = omega (arith, next_is (take 18 line) at space b next f, few_digits (take 18 line) at space b next f)
 
 pub later_bytes_ignored : LaterBytesIgnored

@@ -10,7 +10,7 @@ use Rattle.answer.specs.Outcome.{given}
 use Rattle.text.specs.Decimal.{is_digit, digits, value_at, end_at}
 use Rattle.line.specs.Lines.{field_at, space, line_feed, line_text, line_outcome}
 use Rattle.line.specs.Theorems.{LinesReadBack}
-use Rattle.text.specs.declared.decimal.Reading.TheVariants.{Number}
+use Rattle.text.specs.Decimal.{numeral}
 use Rattle.text.proofs.ReadBack.{value_stands, end_stands, number_stands}
 use Rattle.line.proofs.Fields.{is_field_lem, a_field}
 use Rattle.line.proofs.WholeLine.{line_given}
@@ -31,10 +31,10 @@ module _ (line before rest : List ℕ) (at n behind : ℕ) (where-is : length be
       ∙ get_or-append-add before (digits n ++ behind ∷ rest) (length (digits n)) 0
       ∙ get_or-append_seam (digits n) behind rest 0
 
-  field_stands : n ≤ 65535 → Number n (at + length (digits n) + 1) ≡ field_at line at behind
+  field_stands : n ≤ 65535 → numeral n (at + length (digits n) + 1) ≡ field_at line at behind
   field_stands h =
-      ap (λ (k : ℕ). Number k (at + length (digits n) + 1)) (sym value_is)
-      ∙ ap (λ (k : ℕ). Number (value_at line at) (k + 1)) (sym end_is)
+      ap (λ (k : ℕ). numeral k (at + length (digits n) + 1)) (sym value_is)
+      ∙ ap (λ (k : ℕ). numeral (value_at line at) (k + 1)) (sym end_is)
       ∙ a_field line at behind (is_field_lem line at behind (number_stands line before rest at n behind where-is stands other (omega arith)) byte_behind)
 
 -- ---- the three numbers of a line

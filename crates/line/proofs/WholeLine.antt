@@ -10,8 +10,8 @@ use Rattle.answer.specs.Outcome.{given, refused, ask}
 use Rattle.line.specs.Lines.{is_field, field_at, space, line_feed, octave_at, tritave_at, is_line, line_outcome}
 use Rattle.text.specs.Decimal.{value_at, end_at}
 use Rattle.line.specs.declared.Line.{Line}
-use Rattle.text.specs.declared.decimal.Reading.{Reading}
-use Rattle.text.specs.declared.decimal.Reading.TheVariants.{Number, Nothing}
+use Rattle.std.specs.Prelude.{Option, Some, None}
+use Rattle.text.specs.Decimal.{numeral}
 use Rattle.text.proofs.Numbers.{Picked, picked, picked_none}
 
 -- ---- one reading, back to its tests
@@ -19,11 +19,11 @@ use Rattle.text.proofs.Numbers.{Picked, picked, picked_none}
 abbrev pub Is : List ℕ → ℕ → ℕ → ℕ → ℕ → Type 0
 Is line at behind number next = Picked (is_field line at behind) (value_at line at) (end_at line at + 1) number next
 
-pub field_is : (line : List ℕ) (at behind number next : ℕ) → Number number next ≡ field_at line at behind → Is line at behind number next
+pub field_is : (line : List ℕ) (at behind number next : ℕ) → numeral number next ≡ field_at line at behind → Is line at behind number next
 unfolding field_at
 field_is line at behind number next e = picked (is_field line at behind) (value_at line at) (end_at line at + 1) number next e
 
-pub nothing_is : (line : List ℕ) (at behind : ℕ) → Nothing ≡ field_at line at behind → is_field line at behind ≡ false
+pub nothing_is : (line : List ℕ) (at behind : ℕ) → None ≡ field_at line at behind → is_field line at behind ≡ false
 unfolding field_at
 nothing_is line at behind e = picked_none (is_field line at behind) (value_at line at) (end_at line at + 1) e
 
@@ -70,35 +70,35 @@ module _ (line : List ℕ) where
   unfolding line_outcome
   gives e = ap (λ (test : Bool). ask 14 test (given (line_of line))) e
 
-  pub no_first : Nothing ≡ field_at line 0 space → refused 14 ≡ line_outcome line
+  pub no_first : None ≡ field_at line 0 space → refused 14 ≡ line_outcome line
   no_first e = refuses (tests ∙ no_1 _ _ _ _ (nothing_is line 0 space e))
 
-  module _ (a second : ℕ) (first : Number a second ≡ field_at line 0 space) where
+  module _ (a second : ℕ) (first : numeral a second ≡ field_at line 0 space) where
     second_is : second ≡ octave_at line
     second_is = (field_is line 0 space a second first).is_next ∙ sym octave_at_lem
 
-    pub no_second : Nothing ≡ field_at line second space → refused 14 ≡ line_outcome line
+    pub no_second : None ≡ field_at line second space → refused 14 ≡ line_outcome line
     no_second e =
         refuses
         (tests
         ∙ no_2 (is_field line 0 space) _ _ _
         (ap (λ (at : ℕ). is_field line at space) (sym second_is) ∙ nothing_is line second space e))
 
-    module _ (b third : ℕ) (next : Number b third ≡ field_at line second space) where
+    module _ (b third : ℕ) (next : numeral b third ≡ field_at line second space) where
       octave_is : Is line (octave_at line) space b third
       octave_is = subst (λ (at : ℕ). Is line at space b third) second_is (field_is line second space b third next)
 
       third_is : third ≡ tritave_at line
       third_is = octave_is.is_next ∙ sym tritave_at_lem
 
-      pub no_third : Nothing ≡ field_at line third line_feed → refused 14 ≡ line_outcome line
+      pub no_third : None ≡ field_at line third line_feed → refused 14 ≡ line_outcome line
       no_third e =
           refuses
           (tests
           ∙ no_3 (is_field line 0 space) (is_field line (octave_at line) space) _ _
           (ap (λ (at : ℕ). is_field line at line_feed) (sym third_is) ∙ nothing_is line third line_feed e))
 
-      module _ (c end : ℕ) (last : Number c end ≡ field_at line third line_feed) where
+      module _ (c end : ℕ) (last : numeral c end ≡ field_at line third line_feed) where
         tritave_is : Is line (tritave_at line) line_feed c end
         tritave_is = subst (λ (at : ℕ). Is line at line_feed c end) third_is (field_is line third line_feed c end last)
 
@@ -123,10 +123,10 @@ module _ (line : List ℕ) where
 -- ---- two lines on which each number reads the same have the same outcome
 
 module _ (line other : List ℕ) (first : field_at line 0 space ≡ field_at other 0 space)
-    (second : (a at : ℕ) → Number a at ≡ field_at line 0 space → field_at line at space ≡ field_at other at space)
-    (third : (a b at next : ℕ) → Number a at ≡ field_at line 0 space → Number b next ≡ field_at line at space → field_at line next line_feed ≡ field_at other next line_feed)
+    (second : (a at : ℕ) → numeral a at ≡ field_at line 0 space → field_at line at space ≡ field_at other at space)
+    (third : (a b at next : ℕ) → numeral a at ≡ field_at line 0 space → numeral b next ≡ field_at line at space → field_at line next line_feed ≡ field_at other next line_feed)
   where
-    small_octave : (a at b next c end : ℕ) → Number a at ≡ field_at line 0 space → Number b next ≡ field_at line at space → Number c end ≡ field_at line next line_feed
+    small_octave : (a at b next c end : ℕ) → numeral a at ≡ field_at line 0 space → numeral b next ≡ field_at line at space → numeral c end ≡ field_at line next line_feed
         → (test : Bool) → leb b 4096 ≡ test → line_outcome line ≡ line_outcome other
     small_octave a at b next c end e f g true t =
         let h = leb-true b 4096 t in
@@ -137,20 +137,20 @@ module _ (line other : List ℕ) (first : field_at line 0 space ≡ field_at oth
         sym (octave_too_large line a at e b next f c end g h)
         ∙ octave_too_large other a at (e ∙ first) b next (f ∙ second a at e) c end (g ∙ third a b at next e f) h
 
-    by_third : (a at b next : ℕ) → Number a at ≡ field_at line 0 space → Number b next ≡ field_at line at space
-        → (r : Reading) → r ≡ field_at line next line_feed → line_outcome line ≡ line_outcome other
-    by_third a at b next e f Nothing g =
+    by_third : (a at b next : ℕ) → numeral a at ≡ field_at line 0 space → numeral b next ≡ field_at line at space
+        → (r : Option (ℕ × ℕ)) → r ≡ field_at line next line_feed → line_outcome line ≡ line_outcome other
+    by_third a at b next e f None g =
         sym (no_third line a at e b next f g)
         ∙ no_third other a at (e ∙ first) b next (f ∙ second a at e) (g ∙ third a b at next e f)
-    by_third a at b next e f (Number c end) g = small_octave a at b next c end e f g (leb b 4096) refl
+    by_third a at b next e f (Some (c, end)) g = small_octave a at b next c end e f g (leb b 4096) refl
 
-    by_second : (a at : ℕ) → Number a at ≡ field_at line 0 space → (r : Reading) → r ≡ field_at line at space → line_outcome line ≡ line_outcome other
-    by_second a at e Nothing f = sym (no_second line a at e f) ∙ no_second other a at (e ∙ first) (f ∙ second a at e)
-    by_second a at e (Number b next) f = by_third a at b next e f (field_at line next line_feed) refl
+    by_second : (a at : ℕ) → numeral a at ≡ field_at line 0 space → (r : Option (ℕ × ℕ)) → r ≡ field_at line at space → line_outcome line ≡ line_outcome other
+    by_second a at e None f = sym (no_second line a at e f) ∙ no_second other a at (e ∙ first) (f ∙ second a at e)
+    by_second a at e (Some (b, next)) f = by_third a at b next e f (field_at line next line_feed) refl
 
-    by_first : (r : Reading) → r ≡ field_at line 0 space → line_outcome line ≡ line_outcome other
-    by_first Nothing e = sym (no_first line e) ∙ no_first other (e ∙ first)
-    by_first (Number a at) e = by_second a at e (field_at line at space) refl
+    by_first : (r : Option (ℕ × ℕ)) → r ≡ field_at line 0 space → line_outcome line ≡ line_outcome other
+    by_first None e = sym (no_first line e) ∙ no_first other (e ∙ first)
+    by_first (Some (a, at)) e = by_second a at e (field_at line at space) refl
 
     pub same_outcome : line_outcome line ≡ line_outcome other
     same_outcome = by_first (field_at line 0 space) refl

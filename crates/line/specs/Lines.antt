@@ -1,15 +1,12 @@
 -- The program's line (document 01, question 14): "is the line three decimal numbers (chain code, octave, tritave) of 1 to 5 digits,
 -- each at most 65,535, one space between and a line feed after, octave at most 4,096?" Bytes after the line feed are ignored.
 use Rattle.std.specs.Prelude.{ℕ, ◌+◌, Bool, ◌&&◌, List, [], ◌∷◌, ◌++◌, get_or, leb, eqb}
-use Rattle.answer.specs.Outcome.{Outcome, given, refused, ask}
-use Rattle.answer.specs.Refusals.{number_of}
+use Rattle.answer.specs.Outcome.{Outcome, given, ask}
 use Rattle.answer.specs.Choice.{pick}
 use Rattle.text.specs.Decimal.{digits, value_at, end_at, is_number}
 use Rattle.line.specs.declared.Line.{Line}
-use Rattle.line.specs.declared.LineAnswer.{LineAnswer}
-use Rattle.line.specs.declared.LineAnswer.TheVariants as LineAnswer
-use Rattle.text.specs.declared.decimal.Reading.{Reading}
-use Rattle.text.specs.declared.decimal.Reading.TheVariants.{Number, Nothing}
+use Rattle.std.specs.Prelude.{Option, None}
+use Rattle.text.specs.Decimal.{numeral}
 
 -- ---- one number
 
@@ -53,10 +50,6 @@ line_outcome line =
     (given
     (record { genchain = value_at line 0; octave = value_at line (octave_at line); tritave = value_at line (tritave_at line) }))
 
-abbrev pub line_answered : LineAnswer → Outcome Line
-line_answered (LineAnswer.Given line) = given line
-line_answered (LineAnswer.Refused q) = refused (number_of q)
-
 -- The line that asks for three numbers.
 unfoldable pub line_text : ℕ → ℕ → ℕ → List ℕ
 unfolding digits
@@ -73,6 +66,6 @@ number_line line = ask 14 (is_field line 0 line_feed) (given (value_at line 0))
 -- ---- what the part behind the calls promises
 
 -- A number, and the place after the byte behind it.
-unfoldable pub field_at : List ℕ → ℕ → ℕ → Reading
+unfoldable pub field_at : List ℕ → ℕ → ℕ → Option (ℕ × ℕ)
 unfolding is_field value_at end_at
-field_at line at behind = pick (is_field line at behind) (Number (value_at line at) (end_at line at + 1)) Nothing
+field_at line at behind = pick (is_field line at behind) (numeral (value_at line at) (end_at line at + 1)) None

@@ -11,11 +11,11 @@ pub mod layouts;
 pub mod refusals;
 
 ghost use Rattle.std.specs.Prelude.{◌≡◌, ◌<◌};
-ghost use Rattle.answer.specs.Refusals.{number_outcome};
-ghost use Rattle.line.specs.Lines.{field_at, line_answered, line_outcome, number_line};
+ghost use Rattle.answer.specs.Refusals.{outcome_of};
+ghost use Rattle.line.specs.Lines.{field_at, line_outcome, number_line};
 
-use answer::{NumberAnswer, Refusal};
-use text::decimal::{Reading, read_number};
+use answer::Refusal;
+use text::decimal::read_number;
 
 // What the line asks for: a chain code, and the step counts of octave and tritave.
 #[derive(Clone, Copy)]
@@ -25,47 +25,29 @@ pub struct Line {
     pub tritave: u16,
 }
 
-// The three numbers, or a refusal.
-#[derive(Clone, Copy)]
-pub enum LineAnswer {
-    Given(Line),
-    Refused(Refusal),
-}
-
 // A number with the byte `behind` right behind it, and the place after that byte.
-fn read_field(line: &[u8], at: usize, behind: u8) -> Reading
+fn read_field(line: &[u8], at: usize, behind: u8) -> Option<(u16, usize)>
     requires { 0 < behind }
     ensures { result ≡ field_at line.now at behind }
 {
-    let Reading::Number(value, next) = read_number(line, at) else {
-        return Reading::Nothing;
-    };
-    if line.len() <= next {
-        return Reading::Nothing;
+    let (value, next) = read_number(line, at)?;
+    if *line.get(next)? != behind {
+        return None;
     }
-    if line[next] != behind {
-        return Reading::Nothing;
-    }
-    Reading::Number(value, next + 1)
+    Some((value, next + 1))
 }
 
 // The three numbers that a line asks a key table of; bytes after its line feed are ignored: 14.
-pub fn parse(line: &[u8]) -> LineAnswer
-    ensures { line_answered result ≡ line_outcome line.now }
+pub fn parse(line: &[u8]) -> Result<Line, Refusal>
+    ensures { outcome_of result ≡ line_outcome line.now }
 {
-    let Reading::Number(genchain, second) = read_field(line, 0, b' ') else {
-        return LineAnswer::Refused(Refusal::Line);
-    };
-    let Reading::Number(octave, third) = read_field(line, second, b' ') else {
-        return LineAnswer::Refused(Refusal::Line);
-    };
-    let Reading::Number(tritave, _) = read_field(line, third, b'\n') else {
-        return LineAnswer::Refused(Refusal::Line);
-    };
+    let (genchain, second) = read_field(line, 0, b' ').ok_or(Refusal::Line)?;
+    let (octave, third) = read_field(line, second, b' ').ok_or(Refusal::Line)?;
+    let (tritave, _) = read_field(line, third, b'\n').ok_or(Refusal::Line)?;
     if 4096 < octave {
-        return LineAnswer::Refused(Refusal::Line);
+        return Err(Refusal::Line);
     }
-    LineAnswer::Given(Line {
+    Ok(Line {
         genchain,
         octave,
         tritave,
@@ -73,11 +55,9 @@ pub fn parse(line: &[u8]) -> LineAnswer
 }
 
 // The number that stands alone on a line; bytes after its line feed are ignored: 14.
-pub fn parse_number(line: &[u8]) -> NumberAnswer
-    ensures { number_outcome result ≡ number_line line.now }
+pub fn parse_number(line: &[u8]) -> Result<u16, Refusal>
+    ensures { outcome_of result ≡ number_line line.now }
 {
-    let Reading::Number(number, _) = read_field(line, 0, b'\n') else {
-        return NumberAnswer::Refused(Refusal::Line);
-    };
-    NumberAnswer::Given(number)
+    let (number, _) = read_field(line, 0, b'\n').ok_or(Refusal::Line)?;
+    Ok(number)
 }

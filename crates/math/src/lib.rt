@@ -9,22 +9,15 @@
 
 pub mod parts;
 
-ghost use Rattle.std.specs.Prelude.{◌≡◌, ◌<◌};
-ghost use Rattle.answer.specs.Refusals.{number_outcome};
+ghost use Rattle.std.specs.Prelude.{◌≡◌, ◌<◌, MatchResult};
+ghost use Rattle.answer.specs.declared.Refusal.TheVariants.{Period};
+ghost use Rattle.answer.specs.Refusals.{outcome_of};
 ghost use Rattle.math.specs.Gcd.{GcdOf, lowest_terms};
 ghost use Rattle.math.specs.Division.{Divided};
 ghost use Rattle.math.specs.OddFactors.{odd_factors};
-ghost use Rattle.math.specs.Answers.{
-  divided_u16_outcome,
-  divided_u32_outcome,
-  quotient_outcome,
-  remainder_u32_outcome,
-  divide_outcome,
-  div_outcome,
-  rem_outcome,
-};
+ghost use Rattle.math.specs.Answers.{divided_outcome, divide_outcome, div_outcome, rem_outcome};
 
-use answer::{NumberAnswer, Refusal};
+use answer::Refusal;
 
 // The greatest common divisor; 0 and 0 give 1.
 pub fn gcd_u16(x: u16, y: u16) -> u16
@@ -72,122 +65,93 @@ pub fn odd_factors_u16(number: u16) -> u16
     odd
 }
 
-// Quotient and remainder of a division by a 16-bit denominator.
+// Quotient and remainder of a division; the remainder has the denominator's type.
 #[derive(Clone, Copy)]
-pub struct DividedU16 {
+pub struct DividedBy<R> {
     pub quotient: i32,
-    pub remainder: u16,
-}
-
-// Quotient and remainder of a division by a 32-bit denominator.
-#[derive(Clone, Copy)]
-pub struct DividedU32 {
-    pub quotient: i32,
-    pub remainder: u32,
-}
-
-#[derive(Clone, Copy)]
-pub enum DividedU16Answer {
-    Given(DividedU16),
-    Refused(Refusal),
-}
-
-#[derive(Clone, Copy)]
-pub enum DividedU32Answer {
-    Given(DividedU32),
-    Refused(Refusal),
-}
-
-#[derive(Clone, Copy)]
-pub enum QuotientAnswer {
-    Given(i32),
-    Refused(Refusal),
-}
-
-#[derive(Clone, Copy)]
-pub enum RemainderU32Answer {
-    Given(u32),
-    Refused(Refusal),
+    pub remainder: R,
 }
 
 // The division behind all of them. A negative number is -1 - mirror: its quotient and remainder are mirrored too.
-pub(crate) fn divide(numer: i32, denom: u32) -> DividedU32
+pub(crate) fn divide(numer: i32, denom: u32) -> DividedBy<u32>
     requires { 0 < denom }
     ensures { Divided numer denom result.quotient result.remainder }
 {
     if numer < 0 {
         let mirror = (-1 - numer) as u32;
         let turns = (mirror / denom) as i32;
-        return DividedU32 {
+        return DividedBy {
             quotient: -1 - turns,
             remainder: denom - 1 - mirror % denom,
         };
     }
     let number = numer as u32;
-    DividedU32 {
+    DividedBy {
         quotient: (number / denom) as i32,
         remainder: number % denom,
     }
 }
 
-// Quotient and remainder, the remainder never negative (2).
-pub fn i32_dr_u32(numer: i32, denom: u32) -> DividedU32Answer
-    ensures { divided_u32_outcome result ≡ divide_outcome numer denom }
+// Question 2, of a denominator.
+fn asked(denom: u32) -> Result<(), Refusal>
+    ensures { MatchResult result (λ _. 0 < denom) (λ q. (q ≡ Period) × (denom ≡ 0)) }
 {
     if denom == 0 {
-        return DividedU32Answer::Refused(Refusal::Period);
+        return Err(Refusal::Period);
     }
-    DividedU32Answer::Given(divide(numer, denom))
+    Ok(())
 }
 
 // Quotient and remainder, the remainder never negative (2).
-pub fn i32_dr_u16(numer: i32, denom: u16) -> DividedU16Answer
-    ensures { divided_u16_outcome result ≡ divide_outcome numer denom }
+//
+// The calls by 16 bits only narrow what those by 32 bits find: with both widths' names, a trait over denominators would be longer, not plainer.
+pub fn i32_dr_u32(numer: i32, denom: u32) -> Result<DividedBy<u32>, Refusal>
+    ensures { divided_outcome result ≡ divide_outcome numer denom }
 {
-    if denom == 0 {
-        return DividedU16Answer::Refused(Refusal::Period);
-    }
+    asked(denom)?;
+    Ok(divide(numer, denom))
+}
+
+// Quotient and remainder, the remainder never negative (2).
+pub fn i32_dr_u16(numer: i32, denom: u16) -> Result<DividedBy<u16>, Refusal>
+    ensures { divided_outcome result ≡ divide_outcome numer denom }
+{
+    asked(denom as u32)?;
     let divided = divide(numer, denom as u32);
-    DividedU16Answer::Given(DividedU16 {
+    Ok(DividedBy {
         quotient: divided.quotient,
         remainder: divided.remainder as u16,
     })
 }
 
 // The quotient that goes with the remainder that is never negative (2).
-pub fn i32_div_u32(numer: i32, denom: u32) -> QuotientAnswer
-    ensures { quotient_outcome result ≡ div_outcome numer denom }
+pub fn i32_div_u32(numer: i32, denom: u32) -> Result<i32, Refusal>
+    ensures { outcome_of result ≡ div_outcome numer denom }
 {
-    if denom == 0 {
-        return QuotientAnswer::Refused(Refusal::Period);
-    }
+    asked(denom)?;
     let divided = divide(numer, denom);
-    QuotientAnswer::Given(divided.quotient)
+    Ok(divided.quotient)
 }
 
 // The quotient that goes with the remainder that is never negative (2).
-pub fn i32_div_u16(numer: i32, denom: u16) -> QuotientAnswer
-    ensures { quotient_outcome result ≡ div_outcome numer denom }
+pub fn i32_div_u16(numer: i32, denom: u16) -> Result<i32, Refusal>
+    ensures { outcome_of result ≡ div_outcome numer denom }
 {
     i32_div_u32(numer, denom as u32)
 }
 
 // The remainder, never negative (2).
-pub fn i32_rem_u32(numer: i32, denom: u32) -> RemainderU32Answer
-    ensures { remainder_u32_outcome result ≡ rem_outcome numer denom }
+pub fn i32_rem_u32(numer: i32, denom: u32) -> Result<u32, Refusal>
+    ensures { outcome_of result ≡ rem_outcome numer denom }
 {
-    if denom == 0 {
-        return RemainderU32Answer::Refused(Refusal::Period);
-    }
-    RemainderU32Answer::Given(parts::rem_u32(numer, denom))
+    asked(denom)?;
+    Ok(parts::rem_u32(numer, denom))
 }
 
 // The remainder, never negative (2).
-pub fn i32_rem_u16(numer: i32, denom: u16) -> NumberAnswer
-    ensures { number_outcome result ≡ rem_outcome numer denom }
+pub fn i32_rem_u16(numer: i32, denom: u16) -> Result<u16, Refusal>
+    ensures { outcome_of result ≡ rem_outcome numer denom }
 {
-    if denom == 0 {
-        return NumberAnswer::Refused(Refusal::Period);
-    }
-    NumberAnswer::Given(parts::rem_u16(numer, denom))
+    asked(denom as u32)?;
+    Ok(parts::rem_u16(numer, denom))
 }

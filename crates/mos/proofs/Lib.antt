@@ -1,4 +1,5 @@
 pub mod Sizes
+pub mod Asking
 pub mod Descent
 pub mod Sequences
 pub mod Passes

@@ -2,14 +2,13 @@
 -- step (`Chain`). Then one step upward adds b places modulo a + b, and after i steps from place j, r of them primary and q secondary, j + i × b is
 -- q × (a + b) and the place reached (`Reached`): after a + b steps from place 0 that is place 0, a primary and b secondary steps up. The counts are
 -- coprime, so no place is met twice.
+use Rattle.std.specs.Prelude.{Some, slice_get}
 use mathlib.Core.Path.{◌≡◌, refl, ap, ap₂, sym, subst, ◌∙◌}
-use mathlib.Core.Option.{some}
 use mathlib.Core.Bool.{Bool, true, false}
 use Prim.Native.Nat.{ℕ, zero, suc, ◌+◌, ◌*◌, ◌-◌, ◌/◌, ◌%◌, ◌≤◌, ◌<◌}
 use native.Mathlib.Nat.{mod-lt, mod-mod, add-mod_right, mod-eq_of_lt, div-add-mod', mul-add, add-mul, mul_comm, mul_assoc, suc-mul, mul-one, mul-zero, zero-mul, zero-mod, add-zero, zero-add}
 use native.Mathlib.Omega.{arith}
 use lib.Arith.{digits_div, digits_mod}
-use lib.ListN.{get_elem?}
 use lib.Dec.{ltb}
 use borrow.Author.Tests.{ltb-true, ltb-false}
 use Rattle.answer.specs.Choice.{pick}
@@ -52,7 +51,7 @@ sum_is P G m c =
     ∙ ap (λ (n : ℕ). n % P) (omega arith)
     ∙ c.up
 
-chain_child : (P G : ℕ) (m c : Mos) → Child m (some c) → Chain P G m → Chain P G c
+chain_child : (P G : ℕ) (m c : Mos) → Child m (Some c) → Chain P G m → Chain P G c
 chain_child P G m c (longer_primary z h) x = record {
   size = child_keeps_size (longer_primary z h) ∙ x.size;
   up =
@@ -74,7 +73,7 @@ chain_child P G m c (longer_secondary z h) x = record {
   coprime = omega (arith, x.coprime, add-mul (primaries m) (secondaries m) x.u, mul-add (secondaries m) x.u x.v);
 }
 
-pub chain_walk : (P G : ℕ) → 0 < P → (k : ℕ) (m : Mos) → get_elem? (children (genesis P G)) k ≡ some m → Chain P G m
+pub chain_walk : (P G : ℕ) → 0 < P → (k : ℕ) (m : Mos) → slice_get (children (genesis P G)) k ≡ Some m → Chain P G m
 chain_walk P G h k m e =
     walk_keeps (Chain P G) (λ x c f. chain_child P G x c (child_at f)) k (genesis P G) m e (chain_genesis P G h)
 

@@ -5,8 +5,13 @@ use mathlib.Core.Bool.{Bool, true, false, ◌&&◌, and-false}
 use native.Mathlib.Nat.{le-mul_of_pos_right, mul-le-mul, mul_comm, lt_of_le_of_lt}
 use native.Mathlib.Omega.{arith}
 use lib.Dec.{leb, lit<}
-use borrow.Author.Tests.{leb-true, le-leb, lt-leb}
+use borrow.Author.Tests.{leb-true, le-leb}
 use Rattle.answer.specs.Outcome.{given, refused}
+use Rattle.std.specs.Prelude.{Result, IsErr, IsErrAnd}
+use Rattle.answer.specs.Refusals.{outcome_of, number_of}
+use Rattle.answer.specs.declared.Refusal.{Refusal}
+use Rattle.answer.specs.declared.Refusal.TheVariants.{Size}
+use Rattle.answer.proofs.Passing.{refusal_passed}
 use Rattle.mos.specs.declared.Mos.{Mos}
 use Rattle.mos.specs.Patterns.{primaries, secondaries, primary, secondary, count_of, size_of, is_pattern, dual_of}
 use Rattle.mos.specs.Answers.{of_pattern}
@@ -60,10 +65,11 @@ pub pattern_given : {A : Type 0} (m : Mos) {fact told : A} {test : Bool} → tes
 unfolding of_pattern
 pattern_given m e f g = simp (sym e ∙ f, g)
 
--- the same where the code tests the size
-pub size_refused : {A : Type 0} (m : Mos) (fact : A) {size : ℕ} → size ≡ size_of m → 65535 < size → refused 7 ≡ of_pattern m fact
-size_refused m fact e h =
-    pattern_refused m fact refl (size_decides m ∙ lt-leb (size_of m) 65535 (omega (arith, e)))
+-- the same where `?` asks it: the refusal that is handed on, and what is answered of the pattern n that was made of m
+pub size_passed : {A : Type 0} (m : Mos) (fact : A) {q : Refusal} (r : Result A Refusal) → IsErr r × IsErrAnd r (λ (e : Refusal). e ≡ q) → (q ≡ Size) × (is_pattern m ≡ false)
+    → outcome_of r ≡ of_pattern m fact
+size_passed m fact {q} r h e =
+    refusal_passed q r h ∙ ap (λ (x : Refusal). refused (number_of x)) e.0 ∙ pattern_refused m fact refl e.1
 
-pub size_given : {A : Type 0} (m : Mos) {fact told : A} {size : ℕ} → size ≡ size_of m → size ≤ 65535 → told ≡ fact → given told ≡ of_pattern m fact
-size_given m e h g = pattern_given m refl (fits_pattern m (omega (arith, e))) g
+pub size_given : {A : Type 0} {n : Mos} (m : Mos) {fact told : A} → n ≡ m → is_pattern n ≡ true → told ≡ fact → given told ≡ of_pattern m fact
+size_given m e f g = pattern_given m (ap is_pattern e) f g

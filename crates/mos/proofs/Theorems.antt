@@ -1,18 +1,16 @@
 -- Facts of a child carry over to whole walks by `walk_keeps`; parents are children of the dual.
+use Rattle.std.specs.Prelude.{Option, None, Some, option_map, slice_get, is_some}
 use mathlib.Core.Path.{◌≡◌, refl, ap, ap₂, sym, subst, ◌∙◌}
-use mathlib.Core.Option.{Option, none, some, map}
 use mathlib.Core.Bool.{false}
 use mathlib.Core.List.{List}
 use Prim.Native.Nat.{ℕ, zero, suc, ◌*◌, ◌-◌, ◌≤◌, ◌<◌, ◌∣◌}
 use native.Mathlib.Nat.{le_refl, le_of_lt, le_of_dvd, mod-lt, dvd-add, dvd-sub, dvd_antisymm, sub-add_cancel, add-sub_cancel_left, add-mul, mul-le-mul_left, le-div_iff_mul-le}
 use native.Mathlib.Omega.{arith}
-use lib.ListN.{get_elem?}
 use Rattle.math.specs.Gcd.{gcd}
 use Rattle.math.proofs.Gcd.{gcd_is, gcd_positive, gcd_or_one_lem}
 use Rattle.mos.specs.declared.Mos.{Mos}
 use Rattle.mos.specs.Patterns.{mos, primaries, secondaries, primary, secondary, count_of, size_of, genesis, collapsed, child_of, parent_of, dual_of, cycles_of, reduced_size_of}
 use Rattle.mos.specs.Walks.{onward, children, genesis_of}
-use Rattle.mos.specs.Parts.{is_some}
 use Rattle.mos.specs.Theorems.{ChildKeeps, ParentUndoesChild, WalksAreWhole, CountsGrow, StepsStayAbove, LettersFit, GenesisIsFoundAgain, CoprimeEnds, MadePatterns}
 use Rattle.mos.proofs.Sizes.{fits_pattern}
 use Rattle.mos.proofs.Descent.{Child, longer_primary, longer_secondary, child_at, child_keeps_size, child_counts, child_steps, child_equal, child_longer_primary, child_longer_secondary, dual_child, dual_parent, parent_there}
@@ -22,15 +20,15 @@ use Rattle.mos.proofs.Passes as Passes
 -- ---- one child
 
 -- a number divides both steps of a pattern exactly where it divides both of its child
-divides_down : {m c : Mos} → Child m (some c) → (d : ℕ) → d ∣ primary m → d ∣ secondary m → (d ∣ primary c) × (d ∣ secondary c)
+divides_down : {m c : Mos} → Child m (Some c) → (d : ℕ) → d ∣ primary m → d ∣ secondary m → (d ∣ primary c) × (d ∣ secondary c)
 divides_down (longer_primary z h) d p s = (dvd-sub d p s, s)
 divides_down (longer_secondary z h) d p s = (p, dvd-sub d s p)
 
-divides_up : {m c : Mos} → Child m (some c) → (d : ℕ) → d ∣ primary c → d ∣ secondary c → (d ∣ primary m) × (d ∣ secondary m)
+divides_up : {m c : Mos} → Child m (Some c) → (d : ℕ) → d ∣ primary c → d ∣ secondary c → (d ∣ primary m) × (d ∣ secondary m)
 divides_up (longer_primary z h) d p s = (subst (λ (n : ℕ). d ∣ n) (sub-add_cancel (le_of_lt h)) (dvd-add d p s), s)
 divides_up (longer_secondary z h) d p s = (p, subst (λ (n : ℕ). d ∣ n) (sub-add_cancel (le_of_lt h)) (dvd-add d s p))
 
-child_keeps_divisor : {m c : Mos} → Child m (some c) → gcd (primary c) (secondary c) ≡ gcd (primary m) (secondary m)
+child_keeps_divisor : {m c : Mos} → Child m (Some c) → gcd (primary c) (secondary c) ≡ gcd (primary m) (secondary m)
 child_keeps_divisor {m} {c} v =
     let here = gcd_is (primary m) (secondary m) in
     let there = gcd_is (primary c) (secondary c) in
@@ -43,19 +41,19 @@ child_keeps = record { size = λ m c e. child_keeps_size (child_at e); divisor =
 
 -- ---- parent and child
 
-parent_of_child : (m c : Mos) → 0 < primaries m → 0 < secondaries m → Child m (some c) → parent_of c ≡ some m
+parent_of_child : (m c : Mos) → 0 < primaries m → 0 < secondaries m → Child m (Some c) → parent_of c ≡ Some m
 parent_of_child m c ha hb (longer_primary z h) =
     dual_parent _ _ (child_longer_secondary (mos (primary m - secondary m) (secondary m) (primaries m) (count_of m)) ha (omega arith))
-    ∙ ap₂ (λ (x y : ℕ). some (mos (primaries m) x y (secondary m))) (add-sub_cancel_left (primaries m) (secondaries m)) (sub-add_cancel (le_of_lt h))
+    ∙ ap₂ (λ (x y : ℕ). Some (mos (primaries m) x y (secondary m))) (add-sub_cancel_left (primaries m) (secondaries m)) (sub-add_cancel (le_of_lt h))
 parent_of_child m c ha hb (longer_secondary z h) =
     dual_parent _ _ (child_longer_primary (mos (primary m) (secondary m - primary m) (count_of m) (secondaries m)) hb (omega arith))
-    ∙ ap₂ (λ (x y : ℕ). some (mos x (secondaries m) (primary m) y)) (omega arith) (omega arith)
+    ∙ ap₂ (λ (x y : ℕ). Some (mos x (secondaries m) (primary m) y)) (omega arith) (omega arith)
 
-back : (o : Option Mos) (m : Mos) → map dual_of o ≡ some (dual_of m) → o ≡ some m
-back none m e = absurd (let z : ◌≡◌ {A = ℕ} 0 1 = cc in omega arith)
-back (some n) m e = let f : dual_of n ≡ dual_of m = cc in ap (λ (x : Mos). some (dual_of x)) f
+back : (o : Option Mos) (m : Mos) → option_map dual_of o ≡ Some (dual_of m) → o ≡ Some m
+back None m e = absurd (let z : ◌≡◌ {A = ℕ} 0 1 = cc in omega arith)
+back (Some n) m e = let f : dual_of n ≡ dual_of m = cc in ap (λ (x : Mos). Some (dual_of x)) f
 
-child_of_parent : (m q : Mos) → 0 < primary m → 0 < secondary m → parent_of m ≡ some q → child_of q ≡ some m
+child_of_parent : (m q : Mos) → 0 < primary m → 0 < secondary m → parent_of m ≡ Some q → child_of q ≡ Some m
 unfolding parent_of
 child_of_parent m q hp hs e =
     back (child_of q) m (parent_of_child (dual_of m) (dual_of q) hp hs (child_at (dual_child m q e)))
@@ -69,19 +67,19 @@ pub walks_are_whole : WalksAreWhole
 walks_are_whole = record { down = children_follow; up = parents_follow }
 
 -- what a child keeps, the whole walk keeps
-module _ (Q : Mos → Type 0) (keeps : (m c : Mos) → child_of m ≡ some c → Q m → Q c) where
-  keeps_at : (k : ℕ) (m q : Mos) → ((c : Mos) → get_elem? (children c) k ≡ some q → Q c → Q q) → (o : Option Mos) → child_of m ≡ o
-      → get_elem? (onward o children) k ≡ some q → Q m → Q q
-  keeps_at k m q ih none f e x = absurd (let z : ◌≡◌ {A = ℕ} 0 1 = cc in omega arith)
-  keeps_at k m q ih (some c) f e x = ih c e (keeps m c f x)
+module _ (Q : Mos → Type 0) (keeps : (m c : Mos) → child_of m ≡ Some c → Q m → Q c) where
+  keeps_at : (k : ℕ) (m q : Mos) → ((c : Mos) → slice_get (children c) k ≡ Some q → Q c → Q q) → (o : Option Mos) → child_of m ≡ o
+      → slice_get (onward o children) k ≡ Some q → Q m → Q q
+  keeps_at k m q ih None f e x = absurd (let z : ◌≡◌ {A = ℕ} 0 1 = cc in omega arith)
+  keeps_at k m q ih (Some c) f e x = ih c e (keeps m c f x)
 
-  pub walk_keeps : (k : ℕ) (m q : Mos) → get_elem? (children m) k ≡ some q → Q m → Q q
+  pub walk_keeps : (k : ℕ) (m q : Mos) → slice_get (children m) k ≡ Some q → Q m → Q q
   walk_keeps zero m q e x =
-      let f : some m ≡ some q = sym (ap (λ (l : List Mos). get_elem? l 0) (children_follow m)) ∙ e in
+      let f : Some m ≡ Some q = sym (ap (λ (l : List Mos). slice_get l 0) (children_follow m)) ∙ e in
       let g : m ≡ q = cc in
       subst Q g x
   walk_keeps (suc k) m q e x =
-      keeps_at k m q (λ c. walk_keeps k c q) (child_of m) refl (sym (ap (λ (l : List Mos). get_elem? l (suc k)) (children_follow m)) ∙ e) x
+      keeps_at k m q (λ c. walk_keeps k c q) (child_of m) refl (sym (ap (λ (l : List Mos). slice_get l (suc k)) (children_follow m)) ∙ e) x
 
 pub counts_grow : CountsGrow
 counts_grow = record {
@@ -90,7 +88,7 @@ counts_grow = record {
   grow = λ m c ha hb e. grows (child_at e) ha hb;
 }
   where
-    grows : {m c : Mos} → Child m (some c) → 0 < primaries m → 0 < secondaries m → count_of m < count_of c
+    grows : {m c : Mos} → Child m (Some c) → 0 < primaries m → 0 < secondaries m → count_of m < count_of c
     grows (longer_primary z h) ha hb = omega arith
     grows (longer_secondary z h) ha hb = omega arith
 
@@ -137,7 +135,7 @@ record Descends (g m : Mos) : Type 0 where
   pub above_secondaries : 0 < secondaries m
   pub from : genesis_of m ≡ g
 
-descends_on : (g m c : Mos) → child_of m ≡ some c → Descends g m → Descends g c
+descends_on : (g m c : Mos) → child_of m ≡ Some c → Descends g m → Descends g c
 descends_on g m c e d =
     record {
       above_primaries = omega (arith, d.above_primaries, child_counts (child_at e));

@@ -1,20 +1,8 @@
 -- What each call answers: the questions with their numbers, in rising order, and what an answer means.
-use Rattle.std.specs.Prelude.{ℕ, List, leb, ℤ}
-use Rattle.std.proofs.Math.Option.{Option, none, some}
-use Rattle.answer.specs.Outcome.{Outcome, given, refused, ask}
+use Rattle.std.specs.Prelude.{ℕ, List, leb}
+use Rattle.answer.specs.Outcome.{Outcome, given, ask}
 use Rattle.answer.specs.Lent.{held_in}
-use Rattle.answer.specs.Refusals.{number_of}
 use Rattle.mos.specs.declared.Mos.{Mos}
-use Rattle.mos.specs.declared.MosAnswer.{MosAnswer}
-use Rattle.mos.specs.declared.MosAnswer.TheVariants as Made
-use Rattle.mos.specs.declared.WalkAnswer.{WalkAnswer}
-use Rattle.mos.specs.declared.WalkAnswer.TheVariants as Walked
-use Rattle.mos.specs.declared.TotalAnswer.{TotalAnswer}
-use Rattle.mos.specs.declared.TotalAnswer.TheVariants as Total
-use Rattle.mos.specs.declared.SharpnessAnswer.{SharpnessAnswer}
-use Rattle.mos.specs.declared.SharpnessAnswer.TheVariants as Sharp
-use Rattle.mos.specs.declared.KeyAnswer.{KeyAnswer}
-use Rattle.mos.specs.declared.KeyAnswer.TheVariants as Key
 use Rattle.mos.specs.Patterns.{mos, size_of, is_pattern, genesis}
 use Rattle.mos.specs.Walks.{listed}
 use Rattle.mos.specs.Coprime.{coprime_of, coprime_step}
@@ -41,26 +29,3 @@ coprime_outcome m = ask 7 (is_pattern m) (ask 8 (leb (size_of (coprime_of m)) 65
 unfoldable pub listing_outcome : Mos → List Mos → ℕ → Outcome (List ℕ)
 unfolding is_pattern
 listing_outcome m patterns room = ask 7 (is_pattern m) (held_in room (listed patterns))
-
--- What each answer means.
-abbrev pub mos_outcome : MosAnswer → Outcome Mos
-mos_outcome (Made.Given m) = given m
-mos_outcome (Made.Refused q) = refused (number_of q)
-
--- "No child" and "no parent" are ordinary answers.
-abbrev pub walk_outcome : WalkAnswer → Outcome (Option Mos)
-walk_outcome (Walked.Found m) = given (some m)
-walk_outcome Walked.Nothing = given none
-walk_outcome (Walked.Refused q) = refused (number_of q)
-
-abbrev pub total_outcome : TotalAnswer → Outcome ℕ
-total_outcome (Total.Given n) = given n
-total_outcome (Total.Refused q) = refused (number_of q)
-
-abbrev pub sharpness_outcome : SharpnessAnswer → Outcome ℤ
-sharpness_outcome (Sharp.Given z) = given z
-sharpness_outcome (Sharp.Refused q) = refused (number_of q)
-
-abbrev pub key_outcome : KeyAnswer → Outcome ℤ
-key_outcome (Key.Given z) = given z
-key_outcome (Key.Refused q) = refused (number_of q)

@@ -1,7 +1,6 @@
 -- Worked examples of the definitions: inputs and answers, and one theorem that each definition gives its column.
 -- Those of document 01's bench are named with their chain code, octave and tritave; most others are the original's.
-use Rattle.std.specs.Prelude.{ℕ, ◌≡◌, Bool, true, false, List, [], ◌∷◌, map, ℤ, pos, negsuc}
-use Rattle.std.proofs.Math.Option.{Option, none, some}
+use Rattle.std.specs.Prelude.{ℕ, ◌≡◌, Bool, true, false, List, [], ◌∷◌, map, ℤ, pos, negsuc, Option, None, Some}
 use Rattle.answer.specs.Outcome.{Outcome, given, refused}
 use Rattle.mos.specs.declared.Mos.{Mos}
 use Rattle.mos.specs.Patterns.{mos, is_pattern, genesis, child_of, parent_of, dual_of, mirror_of, sharpness_of, cycles_of, reduced_size_of, key_at}
@@ -19,26 +18,26 @@ pub record SearchExample : Type 0 where
 abbrev pub search_examples : List SearchExample
 search_examples =
     -- 1 12 19: counts 5 and 2, steps 2 and 1
-    record { period = 12; generator = 7; letters = 7; pattern = some (mos 5 2 2 1) }
+    record { period = 12; generator = 7; letters = 7; pattern = Some (mos 5 2 2 1) }
     -- 1 31 49: steps 5 and 3
-    ∷ record { period = 31; generator = 18; letters = 7; pattern = some (mos 5 2 5 3) }
+    ∷ record { period = 31; generator = 18; letters = 7; pattern = Some (mos 5 2 5 3) }
     -- 1 19 30
-    ∷ record { period = 19; generator = 11; letters = 7; pattern = some (mos 5 2 3 2) }
+    ∷ record { period = 19; generator = 11; letters = 7; pattern = Some (mos 5 2 3 2) }
     -- 0 12 19: none, so 4
-    ∷ record { period = 12; generator = 7; letters = 9; pattern = none }
+    ∷ record { period = 12; generator = 7; letters = 9; pattern = None }
     -- 1 24 38
-    ∷ record { period = 24; generator = 14; letters = 7; pattern = some (mos 5 2 4 2) }
+    ∷ record { period = 24; generator = 14; letters = 7; pattern = Some (mos 5 2 4 2) }
     -- 5 19 30: counts 4 and 3, steps 4 and 1
-    ∷ record { period = 19; generator = 14; letters = 7; pattern = some (mos 4 3 4 1) }
+    ∷ record { period = 19; generator = 14; letters = 7; pattern = Some (mos 4 3 4 1) }
     -- 1 7 11: equalized
-    ∷ record { period = 7; generator = 4; letters = 7; pattern = some (mos 5 2 1 1) }
+    ∷ record { period = 7; generator = 4; letters = 7; pattern = Some (mos 5 2 1 1) }
     -- 3 15 24
-    ∷ record { period = 15; generator = 2; letters = 8; pattern = some (mos 7 1 2 1) }
+    ∷ record { period = 15; generator = 2; letters = 8; pattern = Some (mos 7 1 2 1) }
     -- 0 16 25
-    ∷ record { period = 16; generator = 9; letters = 9; pattern = some (mos 7 2 2 1) }
+    ∷ record { period = 16; generator = 9; letters = 9; pattern = Some (mos 7 2 2 1) }
     -- a generator that is a multiple of the period
-    ∷ record { period = 5; generator = 10; letters = 2; pattern = some (mos 1 1 0 5) }
-    ∷ record { period = 5; generator = 10; letters = 3; pattern = none }
+    ∷ record { period = 5; generator = 10; letters = 2; pattern = Some (mos 1 1 0 5) }
+    ∷ record { period = 5; generator = 10; letters = 3; pattern = None }
     ∷ []
 
 -- A pattern with its child, its parent and its genesis.
@@ -50,13 +49,13 @@ pub record FamilyExample : Type 0 where
 
 abbrev pub family_examples : List FamilyExample
 family_examples =
-    record { pattern = mos 1 1 7 5; child = some (mos 1 2 2 5); parent = none; genesis = mos 1 1 7 5 }
-    ∷ record { pattern = mos 1 2 2 5; child = some (mos 3 2 2 3); parent = some (mos 1 1 7 5); genesis = mos 1 1 7 5 }
-    ∷ record { pattern = mos 5 2 2 1; child = some (mos 5 7 1 1); parent = some (mos 3 2 2 3); genesis = mos 1 1 7 5 }
-    ∷ record { pattern = mos 5 7 1 1; child = none; parent = some (mos 5 2 2 1); genesis = mos 1 1 7 5 }
-    ∷ record { pattern = mos 5 2 1 0; child = none; parent = some (mos 3 2 1 1); genesis = mos 1 1 3 2 }
-    ∷ record { pattern = mos 2 5 1 0; child = none; parent = some (mos 2 3 1 0); genesis = mos 1 1 1 1 }
-    ∷ record { pattern = mos 0 3 5 2; child = some (mos 0 3 3 2); parent = none; genesis = mos 0 3 5 2 }
+    record { pattern = mos 1 1 7 5; child = Some (mos 1 2 2 5); parent = None; genesis = mos 1 1 7 5 }
+    ∷ record { pattern = mos 1 2 2 5; child = Some (mos 3 2 2 3); parent = Some (mos 1 1 7 5); genesis = mos 1 1 7 5 }
+    ∷ record { pattern = mos 5 2 2 1; child = Some (mos 5 7 1 1); parent = Some (mos 3 2 2 3); genesis = mos 1 1 7 5 }
+    ∷ record { pattern = mos 5 7 1 1; child = None; parent = Some (mos 5 2 2 1); genesis = mos 1 1 7 5 }
+    ∷ record { pattern = mos 5 2 1 0; child = None; parent = Some (mos 3 2 1 1); genesis = mos 1 1 3 2 }
+    ∷ record { pattern = mos 2 5 1 0; child = None; parent = Some (mos 2 3 1 0); genesis = mos 1 1 1 1 }
+    ∷ record { pattern = mos 0 3 5 2; child = Some (mos 0 3 3 2); parent = None; genesis = mos 0 3 5 2 }
     ∷ []
 
 -- A pattern with its dual, its mirror, sharpness, cycles and reduced size; `negsuc 1` is −2.

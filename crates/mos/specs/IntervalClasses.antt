@@ -1,8 +1,6 @@
 -- The Xenharmonic Wiki's usual definition of a moment of symmetry: each interval class, that is all intervals of so many steps of the scale,
 -- fewer than all, comes in two sizes. (Of steps that are equal the two are one.)
-use Rattle.std.specs.Prelude.{ℕ, ◌+◌, ◌*◌, ◌-◌, ◌%◌, ◌<◌, ◌≡◌, ◌↔◌, ◌⊎◌}
-use Rattle.std.proofs.Math.Option.{some}
-use Rattle.std.proofs.Math.ListN.{get_elem?}
+use Rattle.std.specs.Prelude.{ℕ, ◌+◌, ◌*◌, ◌-◌, ◌%◌, ◌<◌, ◌≡◌, ◌↔◌, ◌⊎◌, Some, slice_get}
 use Rattle.mos.specs.declared.Mos.{Mos}
 use Rattle.mos.specs.Patterns.{secondaries, primary, secondary, count_of, genesis}
 use Rattle.mos.specs.Walks.{children}
@@ -37,6 +35,6 @@ pub record TwoSizes (P G : ℕ) (m : Mos) (k : ℕ) : Type 0 where
 
 -- Theorem: of each pattern on the walk from the genesis of P and G.
 pub record IntervalClassesHaveTwoSizes : Type 0 where
-  pub leads : (P G : ℕ) → 0 < P → (n : ℕ) (m : Mos) → get_elem? (children (genesis P G)) n ≡ some m → (k : ℕ) → LeadsOn P G m k
-  pub sizes : (P G : ℕ) → 0 < P → (n : ℕ) (m : Mos) → get_elem? (children (genesis P G)) n ≡ some m
+  pub leads : (P G : ℕ) → 0 < P → (n : ℕ) (m : Mos) → slice_get (children (genesis P G)) n ≡ Some m → (k : ℕ) → LeadsOn P G m k
+  pub sizes : (P G : ℕ) → 0 < P → (n : ℕ) (m : Mos) → slice_get (children (genesis P G)) n ≡ Some m
       → (k : ℕ) → 0 < k → k < count_of m → TwoSizes P G m k

@@ -2,7 +2,6 @@ pub mod Patterns
 pub mod Walks
 pub mod Coprime
 pub mod Answers
-pub mod Parts
 pub mod Theorems
 pub mod Scale
 pub mod IntervalClasses

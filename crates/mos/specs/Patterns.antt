@@ -1,6 +1,5 @@
 -- Step patterns (document 01, "Step patterns").
-use Rattle.std.specs.Prelude.{ℕ, ◌+◌, ◌*◌, ◌-◌, ◌/◌, ◌%◌, Bool, ◌&&◌, eqb, ltb, leb, ℤ, pos, ◌+ℤ◌, ◌-ℤ◌, ◌*ℤ◌}
-use Rattle.std.proofs.Math.Option.{Option, none, some, map}
+use Rattle.std.specs.Prelude.{ℕ, ◌+◌, ◌*◌, ◌-◌, ◌/◌, ◌%◌, Bool, ◌&&◌, eqb, ltb, leb, ℤ, pos, ◌+ℤ◌, ◌-ℤ◌, ◌*ℤ◌, Option, None, Some, option_map}
 use Rattle.answer.specs.Choice.{pick}
 use Rattle.math.specs.Gcd.{gcd_or_one}
 use Rattle.mos.specs.declared.Mos.{Mos}
@@ -51,11 +50,11 @@ collapsed large small = mos large small 1 0
 -- There is none if a step is 0 or both are equal."
 unfoldable pub child_of : Mos → Option Mos
 child_of m =
-    pick (eqb (primary m) 0) none
-    (pick (eqb (secondary m) 0) none
-    (pick (ltb (secondary m) (primary m)) (some (mos (primaries m) (count_of m) (primary m - secondary m) (secondary m)))
-    (pick (ltb (primary m) (secondary m)) (some (mos (count_of m) (secondaries m) (primary m) (secondary m - primary m)))
-    none)))
+    pick (eqb (primary m) 0) None
+    (pick (eqb (secondary m) 0) None
+    (pick (ltb (secondary m) (primary m)) (Some (mos (primaries m) (count_of m) (primary m - secondary m) (secondary m)))
+    (pick (ltb (primary m) (secondary m)) (Some (mos (count_of m) (secondaries m) (primary m) (secondary m - primary m)))
+    None)))
 
 -- Counts and steps change places (`dual`).
 abbrev pub dual_of : Mos → Mos
@@ -68,7 +67,7 @@ mirror_of m = mos (secondaries m) (primaries m) (secondary m) (primary m)
 -- "Parent: swap counts with steps, child, swap back."
 unfoldable pub parent_of : Mos → Option Mos
 unfolding child_of
-parent_of m = map dual_of (child_of (dual_of m))
+parent_of m = option_map dual_of (child_of (dual_of m))
 
 -- "Sharpness is primary minus secondary step, −65,535 to 65,535."
 abbrev pub sharpness_of : Mos → ℤ

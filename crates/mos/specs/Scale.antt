@@ -1,7 +1,5 @@
 -- The pattern is the scale: the moment of symmetry of the Xenharmonic Wiki, tied to the numbers of every walk.
-use Rattle.std.specs.Prelude.{ℕ, zero, suc, ◌+◌, ◌*◌, ◌-◌, ◌%◌, ◌≤◌, ◌<◌, ◌≡◌, ltb}
-use Rattle.std.proofs.Math.Option.{some}
-use Rattle.std.proofs.Math.ListN.{get_elem?}
+use Rattle.std.specs.Prelude.{ℕ, zero, suc, ◌+◌, ◌*◌, ◌-◌, ◌%◌, ◌≤◌, ◌<◌, ◌≡◌, ltb, Some, slice_get}
 use Rattle.answer.specs.Choice.{pick}
 use Rattle.mos.specs.declared.Mos.{Mos}
 use Rattle.mos.specs.Patterns.{primaries, secondaries, primary, secondary, count_of, genesis}
@@ -59,5 +57,5 @@ pub record InOrderOfPitch (P G : ℕ) (m : Mos) : Type 0 where
 -- Theorem: each pattern on the walk from the genesis of P and G is the scale of its first notes of the chain,
 -- in order of pitch unless the generator is a multiple of the period.
 pub record PatternIsScale : Type 0 where
-  pub scale : (P G : ℕ) → 0 < P → (k : ℕ) (m : Mos) → get_elem? (children (genesis P G)) k ≡ some m → MomentOfSymmetry P G m
-  pub order : (P G : ℕ) → 0 < P → 0 < G % P → (k : ℕ) (m : Mos) → get_elem? (children (genesis P G)) k ≡ some m → InOrderOfPitch P G m
+  pub scale : (P G : ℕ) → 0 < P → (k : ℕ) (m : Mos) → slice_get (children (genesis P G)) k ≡ Some m → MomentOfSymmetry P G m
+  pub order : (P G : ℕ) → 0 < P → 0 < G % P → (k : ℕ) (m : Mos) → slice_get (children (genesis P G)) k ≡ Some m → InOrderOfPitch P G m

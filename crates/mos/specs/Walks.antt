@@ -1,13 +1,12 @@
 -- Walks of step patterns: the sequence of children, and the sequence of parents (document 01, "Step patterns" and "Port order").
-use Rattle.std.specs.Prelude.{ℕ, zero, suc, true, false, List, [], ◌∷◌, ◌++◌, eqb}
-use Rattle.std.proofs.Math.Option.{Option, none, some}
+use Rattle.std.specs.Prelude.{ℕ, zero, suc, true, false, List, [], ◌∷◌, ◌++◌, eqb, Option, None, Some}
 use Rattle.mos.specs.declared.Mos.{Mos}
 use Rattle.mos.specs.Patterns.{primaries, secondaries, primary, secondary, count_of, steps_of, child_of, parent_of}
 
 -- The rest of a walk, where there is a next pattern.
 abbrev pub onward : Option Mos → (Mos → List Mos) → List Mos
-onward none rest = []
-onward (some m) rest = rest m
+onward None rest = []
+onward (Some m) rest = rest m
 
 -- A pattern, the next one after it, and so on to the end. The number bounds the walk's length; the theorems say that it is never met.
 unfoldable pub walk : (Mos → Option Mos) → ℕ → Mos → List Mos
@@ -26,8 +25,8 @@ parents m = walk parent_of (count_of m) m
 
 -- The first pattern with n steps, if there is one ("does the walk meet one with as many steps as the chain has letters").
 abbrev pub first_with : ℕ → List Mos → Option Mos
-first_with n [] = none
-first_with n (m ∷ ms) = elim (eqb (count_of m) n) [ true ↦ some m | false ↦ first_with n ms ]
+first_with n [] = None
+first_with n (m ∷ ms) = elim (eqb (count_of m) n) [ true ↦ Some m | false ↦ first_with n ms ]
 
 -- The last pattern of a walk that begins at m.
 abbrev pub last_after : Mos → List Mos → Mos

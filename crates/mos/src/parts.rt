@@ -1,11 +1,8 @@
-// What the entry points are made of: sizes, the genesis, the child and the parent of a pattern.
+// What `pattern` is made of: the size of any four numbers, question 7, the dual, and the child.
 //
-// Parts, and no entry points: those with a `requires` ask for a pattern by question 7, or for a period above 0. An entry point first
-// answers that question.
-ghost use Rattle.std.specs.Prelude.{◌≡◌, true, ◌*◌, ◌≤◌, ◌<◌};
-ghost use Rattle.std.proofs.Math.Option.{some};
-ghost use Rattle.mos.specs.Patterns.{size_of, is_pattern, count_of, genesis, dual_of, child_of, parent_of};
-ghost use Rattle.mos.specs.Parts.{is_some};
+// Parts, and no entry points: the child is asked for only where there is one.
+ghost use Rattle.std.specs.Prelude.{◌≡◌, true, ◌*◌, ◌≤◌, ◌<◌, Some, is_some};
+ghost use Rattle.mos.specs.Patterns.{size_of, is_pattern, count_of, dual_of, child_of};
 
 use crate::Mos;
 
@@ -36,20 +33,6 @@ pub fn count_of(m: Mos) -> u32
     (m.num_primary_steps as u32) + (m.num_secondary_steps as u32)
 }
 
-// The pattern that a generator starts from.
-pub fn genesis_of(period: u16, generator: u16) -> Mos
-    requires { 1 ≤ period }
-    ensures { result ≡ genesis period generator }
-{
-    let step = generator % period;
-    Mos {
-        num_primary_steps: 1,
-        num_secondary_steps: 1,
-        primary_step: step,
-        secondary_step: period - step,
-    }
-}
-
 // Counts and steps change places.
 pub fn dual_of(m: Mos) -> Mos
     ensures { result ≡ dual_of m }
@@ -78,7 +61,7 @@ pub fn has_child(m: Mos) -> bool
 // The child of a pattern that has one.
 pub fn child_of(m: Mos) -> Mos
     requires { (is_pattern m ≡ true) × (is_some (child_of m) ≡ true) }
-    ensures { child_of m ≡ some result }
+    ensures { child_of m ≡ Some result }
 {
     let a = m.num_primary_steps;
     let b = m.num_secondary_steps;
@@ -98,19 +81,4 @@ pub fn child_of(m: Mos) -> Mos
         primary_step: p,
         secondary_step: s - p,
     }
-}
-
-// Is there a parent?
-pub fn has_parent(m: Mos) -> bool
-    ensures { result ≡ is_some (parent_of m) }
-{
-    has_child(dual_of(m))
-}
-
-// The parent of a pattern that has one.
-pub fn parent_of(m: Mos) -> Mos
-    requires { (is_pattern m ≡ true) × (is_some (parent_of m) ≡ true) }
-    ensures { parent_of m ≡ some result }
-{
-    dual_of(child_of(dual_of(m)))
 }

@@ -1,6 +1,6 @@
 -- The genesis and the child, by what the code tests; and the ways to a child, each with what holds of its counts.
+use Rattle.std.specs.Prelude.{Option, None, Some}
 use mathlib.Core.Path.{◌≡◌, refl, sym, ap, subst, ◌∙◌}
-use mathlib.Core.Option.{Option, none, some}
 use mathlib.Core.Bool.{Bool, true, false}
 use Prim.Native.Nat.{ℕ, ◌≤◌, ◌<◌}
 use native.Mathlib.Omega.{arith}
@@ -83,39 +83,39 @@ fact_told g fact e f = ap given (f ∙ ap fact (told_genesis g e)) ∙ same_give
 -- ---- the child
 
 module _ (m : FractionalMos) where
-  pub no_primary : eq (primary m) nought ≡ true → none ≡ child_of m
+  pub no_primary : eq (primary m) nought ≡ true → None ≡ child_of m
   unfolding child_of
   no_primary h = simp h
 
   module _ (h : eq (primary m) nought ≡ false) where
-    pub no_secondary : eq (secondary m) nought ≡ true → none ≡ child_of m
+    pub no_secondary : eq (secondary m) nought ≡ true → None ≡ child_of m
     unfolding child_of
     no_secondary i = simp (h, i)
 
     module _ (i : eq (secondary m) nought ≡ false) where
-      pub full : 65535 < count_of m → none ≡ child_of m
+      pub full : 65535 < count_of m → None ≡ child_of m
       unfolding child_of
       full k = simp (h, i, lt-ltb _ _ k)
 
       module _ (k : count_of m ≤ 65535) where
-        pub longer_primary : lt (secondary m) (primary m) ≡ true → some (off_primary m) ≡ child_of m
+        pub longer_primary : lt (secondary m) (primary m) ≡ true → Some (off_primary m) ≡ child_of m
         unfolding child_of
         longer_primary l = simp (h, i, le-ltb _ _ k, l)
 
         module _ (l : lt (secondary m) (primary m) ≡ false) where
-          pub longer_secondary : lt (primary m) (secondary m) ≡ true → some (off_secondary m) ≡ child_of m
+          pub longer_secondary : lt (primary m) (secondary m) ≡ true → Some (off_secondary m) ≡ child_of m
           unfolding child_of
           longer_secondary j = simp (h, i, le-ltb _ _ k, l, j)
 
-          pub none_longer : lt (primary m) (secondary m) ≡ false → none ≡ child_of m
+          pub none_longer : lt (primary m) (secondary m) ≡ false → None ≡ child_of m
           unfolding child_of
           none_longer j = simp (h, i, le-ltb _ _ k, l, j)
 
 -- the ways to a child
 pub data Child (m : FractionalMos) : Option FractionalMos → Type 0 where
-  no_child : Child m none
-  off_primary_lem : count_of m ≤ 65535 → Child m (some (off_primary m))
-  off_secondary_lem : count_of m ≤ 65535 → Child m (some (off_secondary m))
+  no_child : Child m None
+  off_primary_lem : count_of m ≤ 65535 → Child m (Some (off_primary m))
+  off_secondary_lem : count_of m ≤ 65535 → Child m (Some (off_secondary m))
 
 pub child_view : (m : FractionalMos) → Child m (child_of m)
 unfolding child_of
@@ -124,7 +124,7 @@ child_view m =
     (lt (primary m) (secondary m))
   where
     go : (t u v : Bool) → ltb 65535 (count_of m) ≡ v → (w y : Bool)
-        → Child m (pick t none (pick u none (pick v none (pick w (some (off_primary m)) (pick y (some (off_secondary m)) none)))))
+        → Child m (pick t None (pick u None (pick v None (pick w (Some (off_primary m)) (pick y (Some (off_secondary m)) None)))))
     go true u v e w y = no_child
     go false true v e w y = no_child
     go false false true e w y = no_child
@@ -133,24 +133,24 @@ child_view m =
     go false false false e false false = no_child
 
 -- a child that is known to be there
-pub child_at : {m c : FractionalMos} → child_of m ≡ some c → Child m (some c)
+pub child_at : {m c : FractionalMos} → child_of m ≡ Some c → Child m (Some c)
 child_at {m} e = subst (Child m) e (child_view m)
 
 -- counts do not fall, and a child's fit 16 bits
-pub child_counts : {m c : FractionalMos} → Child m (some c) → (primaries m ≤ primaries c) × (secondaries m ≤ secondaries c)
+pub child_counts : {m c : FractionalMos} → Child m (Some c) → (primaries m ≤ primaries c) × (secondaries m ≤ secondaries c)
 child_counts (off_primary_lem h) = (omega arith, omega arith)
 child_counts (off_secondary_lem h) = (omega arith, omega arith)
 
-pub child_fits : {m c : FractionalMos} → Child m (some c) → (primaries c ≤ 65535) × (secondaries c ≤ 65535)
+pub child_fits : {m c : FractionalMos} → Child m (Some c) → (primaries c ≤ 65535) × (secondaries c ≤ 65535)
 child_fits (off_primary_lem h) = (omega arith, omega arith)
 child_fits (off_secondary_lem h) = (omega arith, omega arith)
 
 -- there is a child only where the counts sum to at most 65,535
-pub child_room : {m c : FractionalMos} → Child m (some c) → count_of m ≤ 65535
+pub child_room : {m c : FractionalMos} → Child m (Some c) → count_of m ≤ 65535
 child_room (off_primary_lem h) = h
 child_room (off_secondary_lem h) = h
 
 -- where both counts are above 0, their sum grows
-pub child_grows : {m c : FractionalMos} → Child m (some c) → 0 < primaries m → 0 < secondaries m → count_of m < count_of c
+pub child_grows : {m c : FractionalMos} → Child m (Some c) → 0 < primaries m → 0 < secondaries m → count_of m < count_of c
 child_grows (off_primary_lem h) p s = omega arith
 child_grows (off_secondary_lem h) p s = omega arith

@@ -1,7 +1,7 @@
 -- Where the generator is k 65,536ths, k below 65,536, the walk is that of period 65,536 and generator k: no subtraction loses anything, and
 -- no count passes 65,535.
+use Rattle.std.specs.Prelude.{Option, None, Some, slice_get}
 use mathlib.Core.Path.{◌≡◌, refl, ap, sym, subst, ◌∙◌}
-use mathlib.Core.Option.{Option, none, some}
 use mathlib.Core.List.{List, [], ◌∷◌}
 use Prim.Native.Nat.{ℕ, zero, suc, ◌+◌, ◌*◌, ◌-◌, ◌%◌, ◌≤◌, ◌<◌}
 use native.Mathlib.Nat.{le_refl, le_of_eq, le_of_lt, le_trans, lt_of_le_of_lt, lt_of_lt_of_le, mul-pos, mul-one, one-mul, zero-mul, mul_comm, mul-le-mul_left, mul-lt-mul_of_pos_right, lt_of_mul-lt-mul_right, eq_of_mul-eq-mul_right, mod-eq_of_lt, add-zero, le-mul_of_pos_right, pos_of_ne-zero}
@@ -9,7 +9,7 @@ use native.Mathlib.Omega.{arith}
 use mathlib.Core.Bool.{Bool, true, false}
 use lib.IntN.{ℤ}
 use lib.Dec.{eqb, ltb, lit<, eqb-suc-zero}
-use lib.ListN.{length, get_elem?}
+use lib.ListN.{length}
 use lib.Ieee.{Float, nan, inf, fin, binary64, up, down, round, sum, add, neg, sub, rem, lt, eq, level, below}
 use lib.Arith.{lt_of_le-ne}
 use lib.Ieee.Exact.{HasValue}
@@ -159,10 +159,10 @@ step_bound m z p s =
 
 -- both have a child, which agree, or neither has
 abbrev SameChild : Option FractionalMos → Option Mos → Type 0
-SameChild none none = Unit {0}
-SameChild none (some m) = ⊥
-SameChild (some x) none = ⊥
-SameChild (some x) (some m) = Same x m
+SameChild None None = Unit {0}
+SameChild None (Some m) = ⊥
+SameChild (Some x) None = ⊥
+SameChild (Some x) (Some m) = Same x m
 
 -- what the walks keep
 record Along (x : FractionalMos) (m : Mos) : Type 0 where
@@ -200,7 +200,7 @@ module _ (x : FractionalMos) (m : Mos) (along : Along x m) where
       let a : 0 < p = omega arith in
       let A = positive_primary a in
       let B = positive_secondary b in
-      subst (λ (o : Option FractionalMos). SameChild o (some (whole.mos (whole.primaries m) (whole.count_of m) (p - s) s)))
+      subst (λ (o : Option FractionalMos). SameChild o (Some (whole.mos (whole.primaries m) (whole.count_of m) (p - s) s)))
       (longer_primary x (some_primary a) (some_secondary b) (not_cut a b (λ q. omega arith))
       (lt_parts (secondary x) (primary x) s p B A ∙ lt-ltb s p l))
       (record {
@@ -216,7 +216,7 @@ module _ (x : FractionalMos) (m : Mos) (along : Along x m) where
       let b : 0 < s = omega arith in
       let A = positive_primary a in
       let B = positive_secondary b in
-      subst (λ (o : Option FractionalMos). SameChild o (some (whole.mos (whole.count_of m) (whole.secondaries m) p (s - p))))
+      subst (λ (o : Option FractionalMos). SameChild o (Some (whole.mos (whole.count_of m) (whole.secondaries m) p (s - p))))
       (longer_secondary x (some_primary a) (some_secondary b) (not_cut a b (λ q. omega arith))
       (lt_parts (secondary x) (primary x) s p B A ∙ le-ltb s p (le_of_lt l))
       (lt_parts (primary x) (secondary x) p s A B ∙ lt-ltb p s l))
@@ -229,18 +229,18 @@ module _ (x : FractionalMos) (m : Mos) (along : Along x m) where
             (sub_parts (secondary x) (primary x) s p B A (le_of_lt l) (step_bound m along.size counts.0 counts.1).1)
             (λ q. absurd (let y : ◌≡◌ {A = ℕ} 0 1 = cc in omega arith));
       })
-  child_same (whole-child.no_child h) = subst (λ (o : Option FractionalMos). SameChild o none) (go (eqb p 0) refl (eqb s 0) refl) tt
+  child_same (whole-child.no_child h) = subst (λ (o : Option FractionalMos). SameChild o None) (go (eqb p 0) refl (eqb s 0) refl) tt
     where
-      go : (u : Bool) → eqb p 0 ≡ u → (v : Bool) → eqb s 0 ≡ v → none ≡ child_of x
+      go : (u : Bool) → eqb p 0 ≡ u → (v : Bool) → eqb s 0 ≡ v → None ≡ child_of x
       go true e v f = no_primary x (eq_parts (primary x) p along.same.first_step ∙ e)
       go false e true f =
           no_secondary x (eq_parts (primary x) p along.same.first_step ∙ e) (eq_parts (secondary x) s along.same.second_step ∙ f)
       go false e false f = equal (pos_of_ne-zero (eqb-false _ _ e)) (pos_of_ne-zero (eqb-false _ _ f))
         where
-          equal : 0 < p → 0 < s → none ≡ child_of x
+          equal : 0 < p → 0 < s → None ≡ child_of x
           equal a b = full_or (ltb 65535 (count_of x)) refl
             where
-              full_or : (t : Bool) → ltb 65535 (count_of x) ≡ t → none ≡ child_of x
+              full_or : (t : Bool) → ltb 65535 (count_of x) ≡ t → None ≡ child_of x
               full_or true w = full x (some_primary a) (some_secondary b) (ltb-true 65535 (count_of x) w)
               full_or false w =
                   none_longer x (some_primary a) (some_secondary b) (ltb-false 65535 (count_of x) w)
@@ -260,10 +260,10 @@ same_rest : (x : FractionalMos) (m : Mos) → Along x m → (o : Option Fraction
     → SameChild o w
     → ((y : FractionalMos) (c : Mos) → Along y c → whole.steps_of c < whole.steps_of m → SameWalk (children y) (whole-walk.children c))
     → SameWalk (onward o children) (whole-walk.onward w whole-walk.children)
-same_rest x m along none none e f h ih = tt
-same_rest x m along none (some c) e f h ih = absurd h
-same_rest x m along (some y) none e f h ih = absurd h
-same_rest x m along (some y) (some c) e f h ih =
+same_rest x m along None None e f h ih = tt
+same_rest x m along None (Some c) e f h ih = absurd h
+same_rest x m along (Some y) None e f h ih = absurd h
+same_rest x m along (Some y) (Some c) e f h ih =
     ih y c
     (record { same = h; size = whole-child.child_keeps_size (whole-child.child_at f) ∙ along.size; growing = growing_child x y along.growing e })
     (whole-child.child_falls (whole-child.child_at f))
@@ -297,8 +297,8 @@ length_same [] (m ∷ ms) h = absurd h
 length_same (x ∷ xs) [] h = absurd h
 length_same (x ∷ xs) (m ∷ ms) h = ap suc (length_same xs ms h.1)
 
-at_same : (xs : List FractionalMos) (ms : List Mos) → SameWalk xs ms → (j : ℕ) (x : FractionalMos) (m : Mos) → get_elem? xs j ≡ some x
-    → get_elem? ms j ≡ some m → Same x m
+at_same : (xs : List FractionalMos) (ms : List Mos) → SameWalk xs ms → (j : ℕ) (x : FractionalMos) (m : Mos) → slice_get xs j ≡ Some x
+    → slice_get ms j ≡ Some m → Same x m
 at_same [] ms h j x m e f = absurd (let z : ◌≡◌ {A = ℕ} 0 1 = cc in omega arith)
 at_same (y ∷ xs) [] h j x m e f = absurd h
 at_same (y ∷ xs) (c ∷ ms) h zero x m e f =
@@ -311,6 +311,6 @@ module _ (g : Float) (k : ℕ) (h : Parts g k) (l : k < 65536) where
   pub walks_equally_long : length (children_from g) ≡ length (whole-walk.children (whole.genesis 65536 k))
   walks_equally_long = length_same (children_from g) (whole-walk.children (whole.genesis 65536 k)) (walk_same g k h l)
 
-  pub patterns_agree : (j : ℕ) (x : FractionalMos) (m : Mos) → get_elem? (children_from g) j ≡ some x
-      → get_elem? (whole-walk.children (whole.genesis 65536 k)) j ≡ some m → Same x m
+  pub patterns_agree : (j : ℕ) (x : FractionalMos) (m : Mos) → slice_get (children_from g) j ≡ Some x
+      → slice_get (whole-walk.children (whole.genesis 65536 k)) j ≡ Some m → Same x m
   patterns_agree = at_same (children_from g) (whole-walk.children (whole.genesis 65536 k)) (walk_same g k h l)

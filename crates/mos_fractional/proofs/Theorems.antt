@@ -1,11 +1,10 @@
 -- The theorems, each from its laws.
+use Rattle.std.specs.Prelude.{Option, None, Some, slice_get}
 use mathlib.Core.Path.{◌≡◌, refl, subst}
-use mathlib.Core.Option.{Option, none, some}
 use Prim.Native.Nat.{ℕ, zero, suc, ◌≤◌}
 use native.Mathlib.Omega.{arith}
 use lib.Dec.{lit≤}
 use lib.Ieee.{Float}
-use lib.ListN.{get_elem?}
 use Rattle.mos_fractional.specs.declared.FractionalMos.{FractionalMos}
 use Rattle.mos_fractional.specs.Fractional.{primaries, secondaries, genesis, child_of}
 use Rattle.mos_fractional.specs.Walk.{onward, walk, children, children_from}
@@ -19,20 +18,20 @@ use Rattle.mos_fractional.proofs.Products.{generator_of_lem, times}
 use Rattle.mos_fractional.proofs.Remainders.{rem_exact}
 
 -- a fact that a child keeps holds all along a walk
-module _ (Holds : FractionalMos → Type 0) (keeps : (m c : FractionalMos) → Holds m → child_of m ≡ some c → Holds c) where
+module _ (Holds : FractionalMos → Type 0) (keeps : (m c : FractionalMos) → Holds m → child_of m ≡ Some c → Holds c) where
   rest_keeps : (k : ℕ) (m q : FractionalMos) (j : ℕ) (o : Option FractionalMos) → child_of m ≡ o → Holds m
-      → ((c : FractionalMos) → Holds c → get_elem? (walk k c) j ≡ some q → Holds q) → get_elem? (onward o (walk k)) j ≡ some q → Holds q
-  rest_keeps k m q j none e h ih f = absurd (let z : ◌≡◌ {A = ℕ} 0 1 = cc in omega arith)
-  rest_keeps k m q j (some c) e h ih f = ih c (keeps m c h e) f
+      → ((c : FractionalMos) → Holds c → slice_get (walk k c) j ≡ Some q → Holds q) → slice_get (onward o (walk k)) j ≡ Some q → Holds q
+  rest_keeps k m q j None e h ih f = absurd (let z : ◌≡◌ {A = ℕ} 0 1 = cc in omega arith)
+  rest_keeps k m q j (Some c) e h ih f = ih c (keeps m c h e) f
 
-  walk_keeps : (k : ℕ) (m q : FractionalMos) (j : ℕ) → Holds m → get_elem? (walk k m) j ≡ some q → Holds q
+  walk_keeps : (k : ℕ) (m q : FractionalMos) (j : ℕ) → Holds m → slice_get (walk k m) j ≡ Some q → Holds q
   unfolding walk
   walk_keeps zero m q zero h e = subst Holds (let d : m ≡ q = cc in d) h
   walk_keeps zero m q (suc j) h e = absurd (let z : ◌≡◌ {A = ℕ} 0 1 = cc in omega arith)
   walk_keeps (suc k) m q zero h e = subst Holds (let d : m ≡ q = cc in d) h
   walk_keeps (suc k) m q (suc j) h e = rest_keeps k m q j (child_of m) refl h (λ c. walk_keeps k c q j) e
 
-  from_keeps : (g : Float) (k : ℕ) (m : FractionalMos) → Holds (genesis g) → get_elem? (children_from g) k ≡ some m → Holds m
+  from_keeps : (g : Float) (k : ℕ) (m : FractionalMos) → Holds (genesis g) → slice_get (children_from g) k ≡ Some m → Holds m
   unfolding children
   from_keeps g k m h e = walk_keeps (left (genesis g)) (genesis g) m k h e
 

@@ -1,13 +1,13 @@
 -- The walk without its bound: one equation gives it from the walk of the child. What falls is 65,536 less the counts.
+use Rattle.std.specs.Prelude.{Option, None, Some, slice_get}
 use mathlib.Core.Path.{◌≡◌, refl, ap, sym, subst, ◌∙◌}
-use mathlib.Core.Option.{Option, none, some}
 use mathlib.Core.List.{List, [], ◌∷◌}
 use Prim.Native.Nat.{ℕ, zero, suc, ◌-◌, ◌≤◌, ◌<◌}
 use native.Mathlib.Nat.{le_refl}
 use native.Mathlib.Omega.{arith}
 use lib.Dec.{lit<}
 use lib.Ieee.{Float}
-use lib.ListN.{length, get_elem?}
+use lib.ListN.{length}
 use Rattle.answer.specs.Outcome.{given}
 use Rattle.mos_fractional.specs.declared.FractionalMos.{FractionalMos}
 use Rattle.mos_fractional.specs.Fractional.{count_of, genesis, child_of}
@@ -21,7 +21,7 @@ abbrev pub left : FractionalMos → ℕ
 left m = 65536 - count_of m
 
 -- a child's counts are above 0 too, and fewer patterns may still come
-module _ (m c : FractionalMos) (u : Growing m) (e : child_of m ≡ some c) where
+module _ (m c : FractionalMos) (u : Growing m) (e : child_of m ≡ Some c) where
   pub growing_child : Growing c
   growing_child = (omega (arith, (child_counts (child_at e)).0, u.0), omega (arith, (child_counts (child_at e)).1, u.1))
 
@@ -40,12 +40,12 @@ growing_told g e = subst Growing (sym (told_genesis g e)) (growing_genesis g)
 module _ (m : FractionalMos) (u : Growing m) where
   same_rest : (f g : FractionalMos → List FractionalMos) (o : Option FractionalMos) → child_of m ≡ o
       → ((c : FractionalMos) → Growing c → left c < left m → f c ≡ g c) → onward o f ≡ onward o g
-  same_rest f g none e h = refl
-  same_rest f g (some c) e h = h c (growing_child m c u e) (fewer_left m c u e)
+  same_rest f g None e h = refl
+  same_rest f g (Some c) e h = h c (growing_child m c u e) (fewer_left m c u e)
 
   no_rest : (f : FractionalMos → List FractionalMos) (o : Option FractionalMos) → child_of m ≡ o → left m ≤ 0 → onward o f ≡ []
-  no_rest f none e h = refl
-  no_rest f (some c) e h = absurd (let z : ⊥ = omega (arith, fewer_left m c u e) in z)
+  no_rest f None e h = refl
+  no_rest f (Some c) e h = absurd (let z : ⊥ = omega (arith, fewer_left m c u e) in z)
 
 walk_enough : (k l : ℕ) (m : FractionalMos) → Growing m → left m ≤ k → left m ≤ l → walk k m ≡ walk l m
 unfolding walk
@@ -64,29 +64,29 @@ module _ (m : FractionalMos) (u : Growing m) where
       ∙ ap (λ (r : List FractionalMos). m ∷ r)
       (same_rest m u (walk (left m)) children (child_of m) refl (λ c v f. walk_enough (left m) (left c) c v (omega arith) (le_refl _)))
 
-  pub children_next : (c : FractionalMos) → child_of m ≡ some c → children m ≡ m ∷ children c
+  pub children_next : (c : FractionalMos) → child_of m ≡ Some c → children m ≡ m ∷ children c
   children_next c e = children_follow ∙ ap (λ (o : Option FractionalMos). m ∷ onward o children) e
 
-  pub children_end : child_of m ≡ none → children m ≡ m ∷ []
+  pub children_end : child_of m ≡ None → children m ≡ m ∷ []
   children_end e = children_follow ∙ ap (λ (o : Option FractionalMos). m ∷ onward o children) e
 
   -- the k-th pattern, by what the code tests
-  pub nth_here : (k : ℕ) → k ≡ 0 → some m ≡ get_elem? (children m) k
-  nth_here k e = sym (ap (λ (n : ℕ). get_elem? (children m) n) e ∙ ap (λ (l : List FractionalMos). get_elem? l 0) children_follow)
+  pub nth_here : (k : ℕ) → k ≡ 0 → Some m ≡ slice_get (children m) k
+  nth_here k e = sym (ap (λ (n : ℕ). slice_get (children m) n) e ∙ ap (λ (l : List FractionalMos). slice_get l 0) children_follow)
 
-  pub nth_end : (k : ℕ) → (k ≡ 0 → ⊥) → child_of m ≡ none → none ≡ get_elem? (children m) k
+  pub nth_end : (k : ℕ) → (k ≡ 0 → ⊥) → child_of m ≡ None → None ≡ slice_get (children m) k
   nth_end zero d e = absurd (d refl)
-  nth_end (suc k) d e = sym (ap (λ (l : List FractionalMos). get_elem? l (suc k)) (children_end e))
+  nth_end (suc k) d e = sym (ap (λ (l : List FractionalMos). slice_get l (suc k)) (children_end e))
 
-  pub nth_next : (c : FractionalMos) (k j : ℕ) → child_of m ≡ some c → k ≡ suc j → get_elem? (children c) j ≡ get_elem? (children m) k
+  pub nth_next : (c : FractionalMos) (k j : ℕ) → child_of m ≡ Some c → k ≡ suc j → slice_get (children c) j ≡ slice_get (children m) k
   nth_next c k j e f =
-      sym (ap (λ (l : List FractionalMos). get_elem? l (suc j)) (children_next c e)) ∙ ap (λ (n : ℕ). get_elem? (children m) n) (sym f)
+      sym (ap (λ (l : List FractionalMos). slice_get l (suc j)) (children_next c e)) ∙ ap (λ (n : ℕ). slice_get (children m) n) (sym f)
 
   -- how many there are
-  pub length_next : (c : FractionalMos) → child_of m ≡ some c → length (children m) ≡ suc (length (children c))
+  pub length_next : (c : FractionalMos) → child_of m ≡ Some c → length (children m) ≡ suc (length (children c))
   length_next c e = ap length (children_next c e)
 
-  pub length_end : child_of m ≡ none → length (children m) ≡ 1
+  pub length_end : child_of m ≡ None → length (children m) ≡ 1
   length_end e = ap length (children_end e)
 
   pub length_some : 0 < length (children m)
@@ -94,8 +94,8 @@ module _ (m : FractionalMos) (u : Growing m) where
 
 -- a walk is no longer than its bound
 rest_length : (k : ℕ) (o : Option FractionalMos) → ((c : FractionalMos) → length (walk k c) ≤ suc k) → length (onward o (walk k)) ≤ suc k
-rest_length k none h = omega arith
-rest_length k (some c) h = h c
+rest_length k None h = omega arith
+rest_length k (Some c) h = h c
 
 walk_length : (k : ℕ) (m : FractionalMos) → length (walk k m) ≤ suc k
 unfolding walk

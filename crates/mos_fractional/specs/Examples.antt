@@ -1,9 +1,6 @@
 -- Worked examples of the definitions, and one theorem that they hold. `fin s m e` is the number m × 2ᵉ, below 0 where s is true; `pos k` is
 -- k and `negsuc k` is −1 − k.
-use Rattle.std.specs.Prelude.{ℕ, ◌≡◌, true, false, List, [], ◌∷◌, map, pos, negsuc, Float}
-use Rattle.std.proofs.Math.Option
-use Rattle.std.proofs.Math.Option.{Option, none, some}
-use Rattle.std.proofs.Math.ListN.{get_elem?}
+use Rattle.std.specs.Prelude.{ℕ, ◌≡◌, true, false, List, [], ◌∷◌, map, pos, negsuc, Float, Option, None, Some, slice_get, option_map}
 use Rattle.std.specs.Float.{nan, inf, fin, binary64}
 use Rattle.std.specs.Float.Ieee.{of_bits}
 use Rattle.answer.specs.Outcome.{Outcome, given, refused}
@@ -65,19 +62,19 @@ pub record ChildExample : Type 0 where
 
 abbrev pub child_examples : List ChildExample
 child_examples =
-    record { pattern = fractional 1 1 five_eighths three_eighths; child = some (fractional 1 2 quarter three_eighths) }
-    ∷ record { pattern = fractional 1 2 quarter three_eighths; child = some (fractional 3 2 quarter eighth) }
+    record { pattern = fractional 1 1 five_eighths three_eighths; child = Some (fractional 1 2 quarter three_eighths) }
+    ∷ record { pattern = fractional 1 2 quarter three_eighths; child = Some (fractional 3 2 quarter eighth) }
     -- equal steps, and a step of 0 of either sign
-    ∷ record { pattern = fractional 3 5 one one; child = none }
-    ∷ record { pattern = fractional 1 1 nought one; child = none }
-    ∷ record { pattern = fractional 1 1 one (fin true 0 (pos 0)); child = none }
+    ∷ record { pattern = fractional 3 5 one one; child = None }
+    ∷ record { pattern = fractional 1 1 nought one; child = None }
+    ∷ record { pattern = fractional 1 1 one (fin true 0 (pos 0)); child = None }
     -- counts that sum to 65,535, and to one more
-    ∷ record { pattern = fractional 65534 1 one (fin false 1 (pos 1)); child = some (fractional 65535 1 one one) }
-    ∷ record { pattern = fractional 65535 1 one (fin false 1 (pos 1)); child = none }
+    ∷ record { pattern = fractional 65534 1 one (fin false 1 (pos 1)); child = Some (fractional 65535 1 one one) }
+    ∷ record { pattern = fractional 65535 1 one (fin false 1 (pos 1)); child = None }
     -- an infinite step, a step that is not a number, and one below 0
-    ∷ record { pattern = fractional 1 1 (inf false) one; child = some (fractional 1 2 (inf false) one) }
-    ∷ record { pattern = fractional 1 1 nan one; child = none }
-    ∷ record { pattern = fractional 1 1 (fin true 1 (pos 0)) one; child = some (fractional 2 1 (fin true 1 (pos 0)) (fin false 1 (pos 1))) }
+    ∷ record { pattern = fractional 1 1 (inf false) one; child = Some (fractional 1 2 (inf false) one) }
+    ∷ record { pattern = fractional 1 1 nan one; child = None }
+    ∷ record { pattern = fractional 1 1 (fin true 1 (pos 0)) one; child = Some (fractional 2 1 (fin true 1 (pos 0)) (fin false 1 (pos 1))) }
     ∷ []
 
 -- The walk of 5/8.
@@ -96,8 +93,8 @@ pub record ExamplesHold : Type 0 where
   pub kids : map (λ (e : ChildExample). child_of e.pattern) child_examples ≡ map (λ (e : ChildExample). e.child) child_examples
   pub walk : children_from five_eighths ≡ walk_of_five_eighths
   -- the fifth's patterns: 2, 3, 5, 7, 12 and 17 notes
-  pub fifths : map (λ (k : ℕ). Option.map counts (get_elem? (children_from fifth) k)) (0 ∷ 1 ∷ 2 ∷ 3 ∷ 4 ∷ 5 ∷ [])
-      ≡ some (1 ∷ 1 ∷ []) ∷ some (1 ∷ 2 ∷ []) ∷ some (3 ∷ 2 ∷ []) ∷ some (5 ∷ 2 ∷ []) ∷ some (5 ∷ 7 ∷ []) ∷ some (5 ∷ 12 ∷ []) ∷ []
+  pub fifths : map (λ (k : ℕ). option_map counts (slice_get (children_from fifth) k)) (0 ∷ 1 ∷ 2 ∷ 3 ∷ 4 ∷ 5 ∷ [])
+      ≡ Some (1 ∷ 1 ∷ []) ∷ Some (1 ∷ 2 ∷ []) ∷ Some (3 ∷ 2 ∷ []) ∷ Some (5 ∷ 2 ∷ []) ∷ Some (5 ∷ 7 ∷ []) ∷ Some (5 ∷ 12 ∷ []) ∷ []
   -- a listing with one pattern of room to spare, with just enough, with one too few, and of no number, however short the slice
   pub spare : written (listing_outcome five_eighths 5) (genesis one ∷ genesis one ∷ genesis one ∷ genesis one ∷ fractional 7 8 one one ∷ [])
       ≡ fractional 1 1 five_eighths three_eighths

@@ -1,7 +1,6 @@
 -- Step patterns with fractional steps (document 02, W-213). Steps go by IEEE 754 at double precision: `add`, `sub` and `rem` of the kit's
 -- library, of which each is the exact result rounded once.
-use Rattle.std.specs.Prelude.{ℕ, ◌+◌, Bool, true, false, ltb, pos, Float}
-use Rattle.std.proofs.Math.Option.{Option, none, some}
+use Rattle.std.specs.Prelude.{ℕ, ◌+◌, Bool, true, false, ltb, pos, Float, Option, None, Some}
 use Rattle.std.specs.Float.{nan, inf, fin, binary64}
 use Rattle.std.specs.Float.Ieee.{add, sub, rem, lt, eq}
 use Rattle.answer.specs.Choice.{pick}
@@ -61,8 +60,8 @@ off_secondary m = fractional (count_of m) (secondaries m) (primary m) (sub binar
 -- neither is the shorter, and there is none.
 unfoldable pub child_of : FractionalMos → Option FractionalMos
 child_of m =
-    pick (eq (primary m) nought) none
-    (pick (eq (secondary m) nought) none
-    (pick (ltb 65535 (count_of m)) none
-    (pick (lt (secondary m) (primary m)) (some (off_primary m))
-    (pick (lt (primary m) (secondary m)) (some (off_secondary m)) none))))
+    pick (eq (primary m) nought) None
+    (pick (eq (secondary m) nought) None
+    (pick (ltb 65535 (count_of m)) None
+    (pick (lt (secondary m) (primary m)) (Some (off_primary m))
+    (pick (lt (primary m) (secondary m)) (Some (off_secondary m)) None))))

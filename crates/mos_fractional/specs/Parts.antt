@@ -1,34 +1,23 @@
 -- What the inner functions promise to the entry points.
-use Rattle.std.specs.Prelude.{ℕ, ◌<◌, true, false, List, [], ◌∷◌, ltb, Float}
-use Rattle.std.proofs.Math.Option.{Option, none, some}
+use Rattle.std.specs.Prelude.{ℕ, ◌<◌, List, [], ◌∷◌, ltb, Float, Option, None, Some}
 use Rattle.answer.specs.Choice.{pick}
 use Rattle.answer.specs.Outcome.{Outcome, given, refused, ask}
 use Rattle.mos_fractional.specs.declared.FractionalMos.{FractionalMos}
-use Rattle.mos_fractional.specs.declared.walks.Turn.{Turn}
 use Rattle.mos_fractional.specs.Fractional.{is_finite, primaries, secondaries, child_of}
 
 -- Both counts are above 0, as of all patterns of a walk: so the counts' sum grows with each child.
 abbrev pub Growing : FractionalMos → Type 0
 Growing m = (0 < primaries m) × (0 < secondaries m)
 
--- A turn of a listing that stores m, one that stores nothing, and the one after that of m: the child is stored, if there is one.
-abbrev pub stores : FractionalMos → Turn
-stores m = record { stores = true; pattern = m }
-
-abbrev pub ends : FractionalMos → Turn
-ends m = record { stores = false; pattern = m }
-
-abbrev pub turn_to : FractionalMos → Option FractionalMos → Turn
-turn_to m none = ends m
-turn_to m (some c) = stores c
-
-abbrev pub next_turn : FractionalMos → Turn
-next_turn m = turn_to m (child_of m)
+-- The turn of a listing after this one: the child is stored, if there is one. A turn that stores nothing is the last.
+abbrev pub next_turn : Option FractionalMos → Option FractionalMos
+next_turn None = None
+next_turn (Some m) = child_of m
 
 -- From this turn on these patterns are stored, and no more.
-pub data Turns : Turn → List FractionalMos → Type 0 where
-  ended : (m : FractionalMos) → Turns (ends m) []
-  turned : (m : FractionalMos) (ms : List FractionalMos) → Turns (next_turn m) ms → Turns (stores m) (m ∷ ms)
+pub data Turns : Option FractionalMos → List FractionalMos → Type 0 where
+  ended : Turns None []
+  turned : (m : FractionalMos) (ms : List FractionalMos) → Turns (child_of m) ms → Turns (Some m) (m ∷ ms)
 
 -- What a listing stores: nothing where it is refused.
 abbrev pub stored_of : Outcome (List FractionalMos) → List FractionalMos

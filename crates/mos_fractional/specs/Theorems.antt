@@ -1,7 +1,5 @@
 -- What holds of every walk from a fractional generator. Each statement is proved in proofs/Theorems.antt.
-use Rattle.std.specs.Prelude.{ℕ, ◌*◌, ◌%◌, ◌≤◌, ◌<◌, ◌≡◌, Bool, false, ◌∷◌, T, ℤ, pos, length, Float}
-use Rattle.std.proofs.Math.Option.{some}
-use Rattle.std.proofs.Math.ListN.{get_elem?}
+use Rattle.std.specs.Prelude.{ℕ, ◌*◌, ◌%◌, ◌≤◌, ◌<◌, ◌≡◌, Bool, false, ◌∷◌, T, ℤ, pos, length, Float, Some, slice_get}
 use Rattle.std.specs.Float.{fin, binary64}
 use Rattle.std.specs.Float.Ieee.{up, down, fits, rem, mul, div, of_int}
 use Rattle.std.specs.Float.Ieee.Exact.{HasValue}
@@ -17,15 +15,15 @@ use Rattle.mos_fractional.specs.WholeParts.{Parts, Same}
 -- it ends for every generator, after 65,535 patterns at most.
 pub record WalkIsWhole : Type 0 where
   pub follows : (m : FractionalMos) → 0 < primaries m → 0 < secondaries m → children m ≡ m ∷ onward (child_of m) children
-  pub counts : (g : Float) (k : ℕ) (m : FractionalMos) → get_elem? (children_from g) k ≡ some m → (0 < primaries m) × (0 < secondaries m)
+  pub counts : (g : Float) (k : ℕ) (m : FractionalMos) → slice_get (children_from g) k ≡ Some m → (0 < primaries m) × (0 < secondaries m)
   pub ends : (g : Float) → length (children_from g) ≤ 65535
 
 -- Theorem: counts only grow, from any record to its child; with each child of a walk their sum does; and "two counts up to 65,535" they
 -- stay.
 pub record FractionalCountsGrow : Type 0 where
-  pub never_fall : (m c : FractionalMos) → child_of m ≡ some c → (primaries m ≤ primaries c) × (secondaries m ≤ secondaries c)
-  pub grow : (m c : FractionalMos) → 0 < primaries m → 0 < secondaries m → child_of m ≡ some c → count_of m < count_of c
-  pub fit : (g : Float) (k : ℕ) (m : FractionalMos) → get_elem? (children_from g) k ≡ some m → (primaries m ≤ 65535) × (secondaries m ≤ 65535)
+  pub never_fall : (m c : FractionalMos) → child_of m ≡ Some c → (primaries m ≤ primaries c) × (secondaries m ≤ secondaries c)
+  pub grow : (m c : FractionalMos) → 0 < primaries m → 0 < secondaries m → child_of m ≡ Some c → count_of m < count_of c
+  pub fit : (g : Float) (k : ℕ) (m : FractionalMos) → slice_get (children_from g) k ≡ Some m → (primaries m ≤ 65535) × (secondaries m ≤ 65535)
 
 -- 65,536 as a double.
 abbrev pub scale : Float
@@ -37,7 +35,7 @@ pub record WholePartsAreExact : Type 0 where
   pub same_length : (g : Float) (k : ℕ) → Parts g k → k < 65536
       → length (children_from g) ≡ length (whole-walk.children (whole.genesis 65536 k))
   pub same_patterns : (g : Float) (k : ℕ) → Parts g k → k < 65536 → (j : ℕ) (x : FractionalMos) (m : Mos)
-      → get_elem? (children_from g) j ≡ some x → get_elem? (whole-walk.children (whole.genesis 65536 k)) j ≡ some m → Same x m
+      → slice_get (children_from g) j ≡ Some x → slice_get (whole-walk.children (whole.genesis 65536 k)) j ≡ Some m → Same x m
   -- each k has such a generator: k as a double, divided by 65,536
   pub generator : (k : ℕ) → k < 65536 → Parts (div binary64 (of_int binary64 (pos k)) scale) k
   -- and a step above 0 that is k 65,536ths, multiplied by 65,536 in double precision, is k as a double

@@ -1,13 +1,12 @@
 -- The walk of children from a fractional generator.
-use Rattle.std.specs.Prelude.{ℕ, zero, suc, ◌-◌, List, [], ◌∷◌, Float}
-use Rattle.std.proofs.Math.Option.{Option, none, some}
+use Rattle.std.specs.Prelude.{ℕ, zero, suc, ◌-◌, List, [], ◌∷◌, Float, Option, None, Some}
 use Rattle.mos_fractional.specs.declared.FractionalMos.{FractionalMos}
 use Rattle.mos_fractional.specs.Fractional.{count_of, genesis, child_of}
 
 -- The rest of a walk, where there is a next pattern.
 abbrev pub onward : Option FractionalMos → (FractionalMos → List FractionalMos) → List FractionalMos
-onward none rest = []
-onward (some m) rest = rest m
+onward None rest = []
+onward (Some m) rest = rest m
 
 -- A pattern, its child, and so on to the end. The number bounds the walk's length; `WalkIsWhole` says that it is never met.
 unfoldable pub walk : ℕ → FractionalMos → List FractionalMos

@@ -11,14 +11,14 @@
 mod walks;
 
 ghost use Rattle.std.specs.Prelude.{◌≡◌, true, length};
+ghost use Rattle.answer.specs.Refusals.{outcome_of};
 ghost use Rattle.std.specs.Float.{binary64};
 ghost use Rattle.std.specs.Float.Ieee.{rem};
 ghost use Rattle.answer.specs.Lent.{Filled};
-ghost use Rattle.answer.specs.Refusals.{count_outcome};
 ghost use Rattle.mos_fractional.specs.Fractional.{one, is_finite, child_of};
-ghost use Rattle.mos_fractional.specs.Answers.{genesis_outcome, nth_outcome, length_outcome, listing_outcome, fractional_outcome, child_in, walk_outcome};
+ghost use Rattle.mos_fractional.specs.Answers.{genesis_outcome, nth_outcome, length_outcome, listing_outcome};
 
-use answer::{CountAnswer, Refusal};
+use answer::Refusal;
 
 // A pattern: how many primary and secondary steps it has, and how large they are, as parts of the octave.
 #[repr(C)]
@@ -30,32 +30,10 @@ pub struct FractionalMos {
     pub secondary_step: f64,
 }
 
-// A pattern, or a refusal.
-#[derive(Clone, Copy)]
-pub enum FractionalAnswer {
-    Given(FractionalMos),
-    Refused(Refusal),
-}
-
-// The child, or that there is none.
-#[derive(Clone, Copy)]
-pub enum ChildAnswer {
-    Child(FractionalMos),
-    Nothing,
-}
-
-// A pattern of a walk, that the walk does not reach so far, or a refusal.
-#[derive(Clone, Copy)]
-pub enum FractionalWalkAnswer {
-    Found(FractionalMos),
-    Nothing,
-    Refused(Refusal),
-}
-
 impl FractionalMos {
     // The pattern that a generator's walk begins with: one primary step, the generator within the octave, and one secondary, the rest (22).
-    pub fn new_genesis(generator: f64) -> FractionalAnswer
-        ensures { fractional_outcome result ≡ genesis_outcome generator }
+    pub fn new_genesis(generator: f64) -> Result<FractionalMos, Refusal>
+        ensures { outcome_of result ≡ genesis_outcome generator }
     {
         let infinity = 1.0 / 0.0;
         if generator < infinity {
@@ -63,14 +41,14 @@ impl FractionalMos {
                 let rest = remainder_by_one(generator);
                 if rest < 0.0 {
                     let raised = rest + 1.0;
-                    return FractionalAnswer::Given(FractionalMos {
+                    return Ok(FractionalMos {
                         num_primary_steps: 1,
                         num_secondary_steps: 1,
                         primary_step: raised,
                         secondary_step: 1.0 - raised,
                     });
                 }
-                return FractionalAnswer::Given(FractionalMos {
+                return Ok(FractionalMos {
                     num_primary_steps: 1,
                     num_secondary_steps: 1,
                     primary_step: rest,
@@ -78,29 +56,29 @@ impl FractionalMos {
                 });
             }
         }
-        FractionalAnswer::Refused(Refusal::FractionalGenerator)
+        Err(Refusal::FractionalGenerator)
     }
 
     // The next pattern: as many steps more as the longer step has, which are split off it. Any record is answered; infinite steps, and
     // steps that are not numbers, by IEEE 754's comparisons.
-    pub fn child(self) -> ChildAnswer
-        ensures { child_in result ≡ child_of self }
+    pub fn child(self) -> Option<FractionalMos>
+        ensures { result ≡ child_of self }
     {
         let a = self.num_primary_steps;
         let b = self.num_secondary_steps;
         let p = self.primary_step;
         let s = self.secondary_step;
         if p == 0.0 {
-            return ChildAnswer::Nothing;
+            return None;
         }
         if s == 0.0 {
-            return ChildAnswer::Nothing;
+            return None;
         }
         if 65535 - a < b {
-            return ChildAnswer::Nothing;
+            return None;
         }
         if s < p {
-            return ChildAnswer::Child(FractionalMos {
+            return Some(FractionalMos {
                 num_primary_steps: a,
                 num_secondary_steps: a + b,
                 primary_step: p - s,
@@ -108,14 +86,14 @@ impl FractionalMos {
             });
         }
         if p < s {
-            return ChildAnswer::Child(FractionalMos {
+            return Some(FractionalMos {
                 num_primary_steps: a + b,
                 num_secondary_steps: b,
                 primary_step: p,
                 secondary_step: s - p,
             });
         }
-        ChildAnswer::Nothing
+        None
     }
 }
 
@@ -129,43 +107,31 @@ fn remainder_by_one(x: f64) -> f64
 }
 
 // The k-th pattern of a generator's walk, the genesis for 0 (22).
-pub fn nth_child(generator: f64, k: u32) -> FractionalWalkAnswer
-    ensures { walk_outcome result ≡ nth_outcome generator k }
+pub fn nth_child(generator: f64, k: u32) -> Result<Option<FractionalMos>, Refusal>
+    ensures { outcome_of result ≡ nth_outcome generator k }
 {
-    let genesis = FractionalMos::new_genesis(generator);
-    match genesis {
-        FractionalAnswer::Refused(question) => FractionalWalkAnswer::Refused(question),
-        FractionalAnswer::Given(first) => {
-            let found = walks::nth_from(first, k);
-            match found {
-                ChildAnswer::Child(m) => FractionalWalkAnswer::Found(m),
-                ChildAnswer::Nothing => FractionalWalkAnswer::Nothing,
-            }
-        }
-    }
+    let first = FractionalMos::new_genesis(generator)?;
+    Ok(walks::nth_from(first, k))
 }
 
 // How many patterns a generator's walk has, and `children` writes: 65,535 at most (22).
-pub fn children_len(generator: f64) -> CountAnswer
-    ensures { count_outcome result ≡ length_outcome generator }
+pub fn children_len(generator: f64) -> Result<usize, Refusal>
+    ensures { outcome_of result ≡ length_outcome generator }
 {
-    let genesis = FractionalMos::new_genesis(generator);
-    match genesis {
-        FractionalAnswer::Refused(question) => CountAnswer::Refused(question),
-        FractionalAnswer::Given(first) => CountAnswer::Given(walks::count_from(first)),
-    }
+    let first = FractionalMos::new_genesis(generator)?;
+    Ok(walks::count_from(first))
 }
 
 // All patterns of a generator's walk, the genesis first (22, 10).
-pub fn children(generator: f64, out: &mut [FractionalMos]) -> CountAnswer
-    ensures { Filled (listing_outcome generator (length out.old)) (count_outcome result) out.old out.new }
+pub fn children(generator: f64, out: &mut [FractionalMos]) -> Result<usize, Refusal>
+    ensures { Filled (listing_outcome generator (length out.old)) (outcome_of result) out.old out.new }
 {
     let mut turn = walks::first(generator, out.len());
     let mut i: usize = 0;
-    while turn.stores {
-        out[i] = turn.pattern;
-        turn = walks::next(turn.pattern);
-        i = i + 1;
+    while let Some(pattern) = turn {
+        out[i] = pattern;
+        turn = pattern.child();
+        i += 1;
     }
     walks::answer(generator, i)
 }

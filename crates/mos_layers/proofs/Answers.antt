@@ -1,17 +1,21 @@
 -- The answers of the calls, by what the code tests; runs are the eight runs that it works from.
 use Prim.Native.Nat.{ℕ, ◌/◌, ◌≤◌, ◌<◌}
-use mathlib.Core.Path.{◌≡◌, refl, sym, ap, ap₂, ◌∙◌}
+use mathlib.Core.Path.{◌≡◌, refl, sym, ap, ap₂, subst, ◌∙◌}
 use mathlib.Core.Bool.{Bool, true, false}
 use mathlib.Core.List.{List}
 use native.Mathlib.Nat.{div-le_self}
 use native.Mathlib.Omega.{arith}
 use lib.ListN.{length}
-use Rattle.answer.specs.Outcome.{given, refused}
+use Rattle.std.specs.Prelude.{Result, IsErr, IsErrAnd}
+use Rattle.answer.specs.Outcome.{Outcome, given, refused}
+use Rattle.answer.specs.Refusals.{outcome_of}
+use Rattle.answer.specs.declared.Refusal.{Refusal}
+use Rattle.answer.specs.declared.Refusal.TheVariants.{Size}
+use Rattle.answer.proofs.Passing.{refusal_passed}
 use Rattle.answer.specs.Lent.{Filled}
 use Rattle.text.specs.Writing.{Wrote}
 use Rattle.answer.proofs.Lent.{held, not_held, filled_refused}
 use Rattle.text.proofs.Writing.{wrote_as, filled_given}
-use Rattle.math.specs.Gcd.{gcd_or_one}
 use Rattle.mos.specs.declared.Mos.{Mos}
 use Rattle.mos.specs.Patterns.{primaries, secondaries, primary, secondary, size_of, is_pattern, cycles_of, reduced_size_of}
 use Rattle.mos.proofs.Sizes.{pattern_fits}
@@ -23,14 +27,22 @@ use Rattle.mos_layers.specs.Parts.{run_sizes}
 use Rattle.mos_layers.proofs.Plans.{all_sum}
 use Rattle.mos_layers.proofs.Theorems.{reduced_is, layers_fill_the_reduced_size}
 
-module _ (m : Mos) (xs : List ℕ) {test : Bool} (e : test ≡ is_pattern m) (f : test ≡ false) where
-  pub sizes_no_pattern : Filled (layer_sizes_outcome m (length xs)) (refused 7) xs xs
+-- question 7, where `?` asks it, and the answers of the pattern n that was made of m
+module _ (m : Mos) (xs : List ℕ) {q : Refusal} (r : Result ℕ Refusal) (h : IsErr r × IsErrAnd r (λ (e : Refusal). e ≡ q)) (e : (q ≡ Size) × (is_pattern m ≡ false)) where
+  pub sizes_passed : Filled (layer_sizes_outcome m (length xs)) (outcome_of r) xs xs
   unfolding layer_sizes_outcome
-  sizes_no_pattern = filled_refused 7 xs (simp (sym e ∙ f)) refl
+  sizes_passed = rw (refusal_passed q r h, e.0) (filled_refused 7 xs (simp e.1) refl)
 
-  pub layers_no_pattern : Filled (layers_outcome m (length xs)) (refused 7) xs xs
+  pub layers_passed : Filled (layers_outcome m (length xs)) (outcome_of r) xs xs
   unfolding layers_outcome
-  layers_no_pattern = filled_refused 7 xs (simp (sym e ∙ f)) refl
+  layers_passed = rw (refusal_passed q r h, e.0) (filled_refused 7 xs (simp e.1) refl)
+
+module _ {n m : Mos} (e : n ≡ m) {told : Outcome ℕ} {xs ys : List ℕ} where
+  pub sizes_of : Filled (layer_sizes_outcome n (length xs)) told xs ys → Filled (layer_sizes_outcome m (length xs)) told xs ys
+  sizes_of f = subst (λ (x : Mos). Filled (layer_sizes_outcome x (length xs)) told xs ys) e f
+
+  pub layers_of_lem : Filled (layers_outcome n (length xs)) told xs ys → Filled (layers_outcome m (length xs)) told xs ys
+  layers_of_lem f = subst (λ (x : Mos). Filled (layers_outcome x (length xs)) told xs ys) e f
 
 reduced_fits : (m : Mos) → is_pattern m ≡ true → reduced_size_of m ≤ 65535
 unfolding reduced_size_of
@@ -88,6 +100,6 @@ module _ (m : Mos) (xs : List ℕ) {test : Bool} (e : test ≡ is_pattern m) (f 
       filled_refused 10 xs (simp (sym e ∙ f) (not_held (length xs) (layers_of m) (omega arith))) refl
 
 -- the reduced size as the code divides it
-pub code_reduced : (m : Mos) {size g : ℕ} → size ≡ size_of m → g ≡ gcd_or_one (primary m) (secondary m) → size / g ≡ reduced_size_of m
-unfolding reduced_size_of cycles_of
+pub code_reduced : (m : Mos) {size g : ℕ} → size ≡ size_of m → g ≡ cycles_of m → size / g ≡ reduced_size_of m
+unfolding reduced_size_of
 code_reduced m e f = ap₂ (λ (x y : ℕ). x / y) e f

@@ -10,16 +10,18 @@
 pub mod parts;
 
 ghost use Rattle.std.specs.Prelude.{◌≡◌, length};
+ghost use Rattle.answer.specs.Refusals.{outcome_of};
 ghost use Rattle.answer.specs.Lent.{Filled};
-ghost use Rattle.answer.specs.Refusals.{count_outcome};
 ghost use Rattle.mos.specs.Answers.{of_pattern};
 ghost use Rattle.mos_layers.specs.Layers.{layer_sizes, layers_of};
 ghost use Rattle.mos_layers.specs.Answers.{layer_sizes_outcome, layers_outcome};
 
-use answer::{CountAnswer, Refusal};
+use answer::Refusal;
 use mos::Mos;
+use mos::pattern::Pattern;
 
-// The layers as eight runs of layers of one size: how large they are, and how many.
+// The layers as eight runs of layers of one size: how large they are, and how many. Two arrays and no array of pairs: `run_at` and
+// `run_sizes`, on which the theorems rest, go by these fields.
 #[derive(Clone, Copy)]
 pub struct Runs {
     pub sizes: [u16; 8],
@@ -34,43 +36,37 @@ pub struct Cursor {
 }
 
 // The size of each layer, in the order of the chain: natural, sharp, enharmonic, flat (7, 10).
-pub fn layer_sizes(mos: Mos, out: &mut [u16]) -> CountAnswer
-    ensures { Filled (layer_sizes_outcome mos (length out.old)) (count_outcome result) out.old out.new }
+pub fn layer_sizes(mos: Mos, out: &mut [u16]) -> Result<usize, Refusal>
+    ensures { Filled (layer_sizes_outcome mos (length out.old)) (outcome_of result) out.old out.new }
 {
-    if mos::parts::is_pattern(mos) {
-        let runs = parts::runs_in(mos);
-        let len = parts::count_sizes(runs) as usize;
-        if out.len() < len {
-            return CountAnswer::Refused(Refusal::Room);
-        }
-        parts::put_all_sizes(out, runs);
-        return CountAnswer::Given(len);
+    let pattern = Pattern::of(mos)?;
+    let runs = parts::runs_in(pattern);
+    let len = parts::count_sizes(runs) as usize;
+    if out.len() < len {
+        return Err(Refusal::Room);
     }
-    CountAnswer::Refused(Refusal::Size)
+    parts::put_all_sizes(out, runs);
+    Ok(len)
 }
 
 // How many numbers `layer_sizes` writes (7).
-pub fn layer_sizes_len(mos: Mos) -> CountAnswer
-    ensures { count_outcome result ≡ of_pattern mos (length (layer_sizes mos)) }
+pub fn layer_sizes_len(mos: Mos) -> Result<usize, Refusal>
+    ensures { outcome_of result ≡ of_pattern mos (length (layer_sizes mos)) }
 {
-    if mos::parts::is_pattern(mos) {
-        return CountAnswer::Given(parts::count_sizes(parts::runs_in(mos)) as usize);
-    }
-    CountAnswer::Refused(Refusal::Size)
+    let pattern = Pattern::of(mos)?;
+    Ok(parts::count_sizes(parts::runs_in(pattern)) as usize)
 }
 
 // Each layer's number as often as its size: the layer of each note of the chain, as many as `Mos::reduced_size` says (7, 10).
-pub fn get_layers(mos: Mos, out: &mut [u16]) -> CountAnswer
-    ensures { Filled (layers_outcome mos (length out.old)) (count_outcome result) out.old out.new }
+pub fn get_layers(mos: Mos, out: &mut [u16]) -> Result<usize, Refusal>
+    ensures { Filled (layers_outcome mos (length out.old)) (outcome_of result) out.old out.new }
 {
-    if mos::parts::is_pattern(mos) {
-        let cycles = math::gcd_u16(mos.primary_step, mos.secondary_step);
-        let len = (mos::parts::wide_size(mos) / (cycles as u64)) as usize;
-        if out.len() < len {
-            return CountAnswer::Refused(Refusal::Room);
-        }
-        parts::put_all_layers(out, parts::runs_over(mos, cycles));
-        return CountAnswer::Given(len);
+    let pattern = Pattern::of(mos)?;
+    let cycles = pattern.num_cycles();
+    let len = (pattern.size() / cycles) as usize;
+    if out.len() < len {
+        return Err(Refusal::Room);
     }
-    CountAnswer::Refused(Refusal::Size)
+    parts::put_all_layers(out, parts::runs_over(pattern.mos, cycles));
+    Ok(len)
 }

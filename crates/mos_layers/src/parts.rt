@@ -10,19 +10,8 @@ ghost use Rattle.mos_layers.specs.Parts.{run_sizes, Laid, Space};
 
 use crate::{Cursor, Runs};
 use mos::Mos;
-
-// The difference, or 0.
-fn less(x: u16, y: u16) -> u16
-    ensures { result ≡ x - y }
-{
-    if y < x { x - y } else { 0 }
-}
-
-fn smaller(x: u16, y: u16) -> u16
-    ensures { result ≡ min x y }
-{
-    if x < y { x } else { y }
-}
+use mos::pattern::Pattern;
+use text::writer::put_run;
 
 // Of two counts, those whose number is above 0. Unused counts are not added.
 fn held(a: u16, b: u16, x: u16, y: u16) -> u16
@@ -40,14 +29,14 @@ fn runs_of(a: u16, b: u16, x: u16, y: u16) -> Runs
     requires { a * x + b * y ≤ 65535 }
     ensures { run_sizes result ≡ all_sizes a b x y }
 {
-    let e = less(x, 1);
-    let f = less(y, 1);
+    let e = x.saturating_sub(1);
+    let f = y.saturating_sub(1);
     let natural = held(a, b, x, y);
     let enharmonic = held(a, b, e % 2, f % 2);
-    let times = smaller(e / 2, f / 2);
+    let times = (e / 2).min(f / 2);
     let full = held(a, b, times, times);
-    let first = less(e / 2, f / 2);
-    let second = less(f / 2, e / 2);
+    let first = (e / 2).saturating_sub(f / 2);
+    let second = (f / 2).saturating_sub(e / 2);
     Runs {
         sizes: [natural, full, a, b, enharmonic, b, a, full],
         times: [1, times, first, second, 1, second, first, times],
@@ -76,26 +65,10 @@ pub fn runs_over(m: Mos, cycles: u16) -> Runs
 }
 
 // The layers of a pattern.
-pub(crate) fn runs_in(m: Mos) -> Runs
-    requires { is_pattern m ≡ true }
-    ensures { run_sizes result ≡ all_sizes (primaries m) (secondaries m) (primary m / cycles_of m) (secondary m / cycles_of m) }
+pub(crate) fn runs_in(m: Pattern) -> Runs
+    ensures { run_sizes result ≡ all_sizes (primaries m.mos) (secondaries m.mos) (primary m.mos / cycles_of m.mos) (secondary m.mos / cycles_of m.mos) }
 {
-    runs_over(m, math::gcd_u16(m.primary_step, m.secondary_step))
-}
-
-// A number as often as `count` says; the place after the last.
-fn put_run(out: &mut [u16], at: usize, number: u16, count: u16) -> usize
-    requires { Room out.old at (replicate count number) }
-    ensures { Wrote out.old at (replicate count number) out.new result }
-{
-    let mut written: u16 = 0;
-    let mut place = at;
-    while written < count {
-        out[place] = number;
-        place += 1;
-        written += 1;
-    }
-    place
+    runs_over(m.mos, m.num_cycles())
 }
 
 // As many layers of one size as `times` says; none where they are empty.
@@ -107,16 +80,12 @@ fn put_layers(out: &mut [u16], c: Cursor, size: u16, times: u16) -> Cursor
         return c;
     }
     let mut next = c;
-    let mut i: u16 = 0;
-    while i < times {
-        let at = next.at;
-        let number = next.number;
-        let end = put_run(out, at, number, size);
+    for _ in 0..times {
+        let end = put_run(out, next.at, next.number, size);
         next = Cursor {
             at: end,
-            number: number + 1,
+            number: next.number + 1,
         };
-        i += 1;
     }
     next
 }
@@ -129,10 +98,8 @@ pub(crate) fn put_all_layers(out: &mut [u16], runs: Runs)
     let sizes = runs.sizes;
     let times = runs.times;
     let mut c = Cursor { at: 0, number: 0 };
-    let mut i: usize = 0;
-    while i < 8 {
+    for i in 0..8 {
         c = put_layers(out, c, sizes[i], times[i]);
-        i += 1;
     }
 }
 
@@ -153,10 +120,8 @@ pub fn count_sizes(runs: Runs) -> u32
     let sizes = runs.sizes;
     let times = runs.times;
     let mut count: u32 = 0;
-    let mut i: usize = 0;
-    while i < 8 {
+    for i in 0..8 {
         count += count_run(sizes[i], times[i]);
-        i += 1;
     }
     count
 }
@@ -180,9 +145,7 @@ pub(crate) fn put_all_sizes(out: &mut [u16], runs: Runs)
     let sizes = runs.sizes;
     let times = runs.times;
     let mut at: usize = 0;
-    let mut i: usize = 0;
-    while i < 8 {
+    for i in 0..8 {
         at = put_sizes(out, at, sizes[i], times[i]);
-        i += 1;
     }
 }

@@ -1,14 +1,17 @@
 -- Leaping over a run of children: k of them take k times the shorter step from the longer one, and add k times its count.
+use Rattle.std.specs.Prelude.{Option, None, Some, option_map}
 use Prim.Native.Nat.{ℕ, zero, suc, ◌+◌, ◌*◌, ◌-◌, ◌/◌, ◌≤◌, ◌<◌}
 use mathlib.Core.Path.{◌≡◌, refl, sym, ap, ◌∙◌, subst}
 use mathlib.Core.Bool.{true}
-use mathlib.Core.Option.{Option, none, some, map}
 use native.Mathlib.Nat.{suc-mul, div-mul-le_self, lt-div-mul-add}
 use native.Mathlib.Omega.{arith}
 use lib.ListN.{length}
 use Rattle.mos.specs.declared.Mos.{Mos}
 use Rattle.mos.specs.Patterns.{mos, primaries, secondaries, primary, secondary, count_of, is_pattern, child_of, dual_of, parent_of}
 use Rattle.mos.specs.Walks.{onward, walk, children, parents, listed}
+use Rattle.mos_listings.specs.declared.Walk.{Walk}
+use Rattle.mos_listings.specs.declared.Walk.TheVariants.{Children, Parents}
+use Rattle.mos_listings.specs.Listed.{walk_of}
 use Rattle.mos_listings.specs.Parts.{Leaps}
 use Rattle.mos.proofs.Sizes.{counts_fit, pattern_fits}
 use Rattle.mos.proofs.Descent.{child_at, child_longer_primary, child_longer_secondary, child_keeps_pattern}
@@ -28,7 +31,7 @@ on_start m to p e = record {
   pattern = subst (λ (x : Mos). is_pattern x ≡ true) e p;
 }
 
-on_more : {m q to : Mos} (k : ℕ) → On m q k → child_of q ≡ some to → On m to (suc k)
+on_more : {m q to : Mos} (k : ℕ) → On m q k → child_of q ≡ Some to → On m to (suc k)
 on_more {m} {q} {to} k o e = record {
   counted = omega (arith, o.counted, children_count q to e);
   pattern = child_keeps_pattern (child_at e) o.pattern;
@@ -44,7 +47,7 @@ module _ (m : Mos) (is : is_pattern m ≡ true) where
   on_down z (suc k) h =
       on_more k (on_down z k (omega (arith, suc-mul k (secondary m))))
       (child_longer_primary (down k) z (omega (arith, suc-mul k (secondary m)))
-      ∙ ap some
+      ∙ ap Some
       (same_mos refl (omega (arith, suc-mul k (primaries m))) (omega (arith, suc-mul k (secondary m))) refl))
 
   -- the secondary step is the longer one
@@ -56,7 +59,7 @@ module _ (m : Mos) (is : is_pattern m ≡ true) where
   on_up z (suc k) h =
       on_more k (on_up z k (omega (arith, suc-mul k (primary m))))
       (child_longer_secondary (up k) z (omega (arith, suc-mul k (primary m)))
-      ∙ ap some
+      ∙ ap Some
       (same_mos (omega (arith, suc-mul k (secondaries m))) refl refl (omega (arith, suc-mul k (primary m)))))
 
   -- as many turns as leave the longer step above 0
@@ -105,9 +108,9 @@ module _ (m : Mos) (is : is_pattern m ≡ true) where
 -- ---- a pattern has as many parents as its dual has children
 
 parents_rest : (k : ℕ) (o : Option Mos) → ((c : Mos) → length (walk parent_of k (dual_of c)) ≡ length (walk child_of k c))
-    → length (onward (map dual_of o) (walk parent_of k)) ≡ length (onward o (walk child_of k))
-parents_rest k none h = refl
-parents_rest k (some c) h = h c
+    → length (onward (option_map dual_of o) (walk parent_of k)) ≡ length (onward o (walk child_of k))
+parents_rest k None h = refl
+parents_rest k (Some c) h = h c
 
 dual_walk : (k : ℕ) (m : Mos) → length (walk parent_of k (dual_of m)) ≡ length (walk child_of k m)
 unfolding walk parent_of
@@ -120,3 +123,8 @@ dual_count m = sym (dual_walk (count_of m) (dual_of m))
 
 pub dual_listed : (m : Mos) → length (listed (children (dual_of m))) ≡ length (listed (parents m))
 dual_listed m = omega (arith, length_listed (children (dual_of m)), length_listed (parents m), dual_count m)
+
+-- both walks have as many patterns as there are children to go along
+pub walk_long : (w : Walk) (m : Mos) → length (listed (walk_of w m)) ≡ length (listed (children m))
+walk_long Children m = refl
+walk_long Parents m = sym (dual_listed (dual_of m))

@@ -1,4 +1,3 @@
 pub mod Listings
 pub mod Runs
 pub mod Leaping
-pub mod Shortening

@@ -8,8 +8,13 @@ use native.Mathlib.Omega.{arith}
 use lib.ListN.{length, set}
 use lib.Dec.{leb}
 use borrow.Author.Tests.{le-leb, leb-true}
-use Rattle.answer.specs.Outcome.{given, refused}
-use Rattle.answer.specs.Lent.{Filled}
+use Rattle.std.specs.Prelude.{Result, IsErr, IsErrAnd}
+use Rattle.answer.specs.Outcome.{Outcome, given, refused}
+use Rattle.answer.specs.Refusals.{outcome_of}
+use Rattle.answer.specs.declared.Refusal.{Refusal}
+use Rattle.answer.specs.declared.Refusal.TheVariants.{Size}
+use Rattle.answer.proofs.Passing.{refusal_passed}
+use Rattle.answer.specs.Lent.{held_in, Filled}
 use Rattle.text.specs.Writing.{Room, Wrote}
 use Rattle.answer.proofs.Lent.{filled_refused}
 use Rattle.text.proofs.Writing.{filled_given}
@@ -35,20 +40,25 @@ module _ (ms : List Mos) (room : ℕ) where
   fits_count n e = ap (λ (k : ℕ). leb k room) (let q : n * 4 ≡ length (listed ms) = omega (arith, e, length_listed ms) in q)
 
 -- the answers of a listing, by what the code tests
+module _ (ms : List Mos) (xs : List ℕ) {fit : Bool} (g : fit ≡ leb (length (listed ms)) (length xs)) where
+  pub listing_no_room : fit ≡ false → Filled (held_in (length xs) (listed ms)) (refused 10) xs xs
+  listing_no_room h = filled_refused 10 xs (simp (sym g ∙ h)) refl
+
+  pub listing_fits : fit ≡ true → Room xs 0 (listed ms)
+  listing_fits h = omega (arith, leb-true (length (listed ms)) (length xs) (sym g ∙ h))
+
+  pub listing_given : fit ≡ true → {ys : List ℕ} {next : ℕ} → Wrote xs 0 (listed ms) ys next → Filled (held_in (length xs) (listed ms)) (given next) xs ys
+  listing_given h w =
+      filled_given (simp (sym g ∙ h)) (ap given (w.end ∙ zero-add _)) (leb-true (length (listed ms)) (length xs) (sym g ∙ h)) w
+
+-- question 7 before them, where `?` asks it
 module _ (m : Mos) (ms : List Mos) (xs : List ℕ) where
-  pub listing_no_pattern : {test : Bool} → test ≡ is_pattern m → test ≡ false → Filled (listing_outcome m ms (length xs)) (refused 7) xs xs
+  pub listing_passed : {q : Refusal} (r : Result ℕ Refusal) → IsErr r × IsErrAnd r (λ (e : Refusal). e ≡ q) → (q ≡ Size) × (is_pattern m ≡ false)
+      → Filled (listing_outcome m ms (length xs)) (outcome_of r) xs xs
   unfolding listing_outcome
-  listing_no_pattern e f = filled_refused 7 xs (simp (sym e ∙ f)) refl
+  listing_passed {q} r h e =
+      rw (refusal_passed q r h, e.0) (filled_refused 7 xs (simp e.1) refl)
 
-  module _ {test fit : Bool} (e : test ≡ is_pattern m) (f : test ≡ true) (g : fit ≡ leb (length (listed ms)) (length xs)) where
-    pub listing_no_room : fit ≡ false → Filled (listing_outcome m ms (length xs)) (refused 10) xs xs
-    unfolding listing_outcome
-    listing_no_room h = filled_refused 10 xs (simp (sym e ∙ f, sym g ∙ h)) refl
-
-    pub listing_room : fit ≡ true → Room xs 0 (listed ms)
-    listing_room h = omega (arith, leb-true (length (listed ms)) (length xs) (sym g ∙ h))
-
-    pub listing_given : fit ≡ true → {ys : List ℕ} {next : ℕ} → Wrote xs 0 (listed ms) ys next → Filled (listing_outcome m ms (length xs)) (given next) xs ys
-    unfolding listing_outcome
-    listing_given h w =
-        filled_given (simp (sym e ∙ f, sym g ∙ h)) (ap given (w.end ∙ zero-add _)) (leb-true (length (listed ms)) (length xs) (sym g ∙ h)) w
+  pub listing_of : {n : Mos} {ys : List ℕ} {told : Outcome ℕ} → n ≡ m → is_pattern n ≡ true → Filled (held_in (length xs) (listed ms)) told xs ys → Filled (listing_outcome m ms (length xs)) told xs ys
+  unfolding listing_outcome
+  listing_of e f h = simp (sym (ap is_pattern e) ∙ f) h

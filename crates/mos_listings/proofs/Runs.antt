@@ -1,8 +1,8 @@
 -- Listing a walk in runs: what is listed and what is still to come make up the whole walk, pattern after pattern.
+use Rattle.std.specs.Prelude.{Option, None, Some, option_map}
 use Prim.Native.Nat.{ℕ}
 use mathlib.Core.Path.{◌≡◌, refl, sym, ap, ◌∙◌}
-use mathlib.Core.Option.{Option, none, some, map}
-use mathlib.Core.Bool.{Bool, true, false, ◌&&◌}
+use mathlib.Core.Bool.{true}
 use mathlib.Core.List.{List, [], ◌∷◌, ◌++◌, append_assoc}
 use native.Mathlib.Nat.{le_refl}
 use native.Mathlib.Omega.{arith}
@@ -12,23 +12,25 @@ use Rattle.text.proofs.Writing.{then, wrote_as, wrote_none, wrote_length}
 use Rattle.mos.specs.declared.Mos.{Mos}
 use Rattle.mos.specs.Patterns.{is_pattern, child_of, dual_of, parent_of}
 use Rattle.mos.specs.Walks.{onward, parents, fields, listed}
+use Rattle.mos_listings.specs.declared.Walk.{Walk}
+use Rattle.mos_listings.specs.declared.Walk.TheVariants.{Children, Parents}
+use Rattle.mos_listings.specs.Listed.{walk_of, shown}
 use Rattle.mos_listings.specs.Parts.{Listing, dual_parents}
 use Rattle.mos.proofs.Descent.{child_at, child_falls, child_keeps_pattern}
-use Rattle.mos.proofs.Sequences.{parents_follow}
-
--- a run's test tells that there is a next pattern
-pub both_left : (x y : Bool) {test : Bool} → test ≡ (x && y) → test ≡ true → x ≡ true
-both_left true y e f = refl
-both_left false y e f = absurd (let z : ◌≡◌ {A = ℕ} 0 1 = cc in omega arith)
+use Rattle.mos.proofs.Sequences.{children_follow, parents_follow}
 
 -- the walk of parents goes on with the child of the dual
 pub dual_follow : (d : Mos) → dual_parents d ≡ dual_of d ∷ onward (child_of d) dual_parents
 unfolding parent_of
 dual_follow d = parents_follow (dual_of d) ∙ ap (λ (rest : List Mos). dual_of d ∷ rest) (go (child_of d))
   where
-    go : (o : Option Mos) → onward (map dual_of o) parents ≡ onward o dual_parents
-    go none = refl
-    go (some c) = refl
+    go : (o : Option Mos) → onward (option_map dual_of o) parents ≡ onward o dual_parents
+    go None = refl
+    go (Some c) = refl
+
+pub follow_of : (w : Walk) (m : Mos) → walk_of w m ≡ shown w m ∷ onward (child_of m) (walk_of w)
+follow_of Children m = children_follow m
+follow_of Parents m = dual_follow m
 
 -- any walk that goes on with the child, with what it shows of each pattern: the pattern, or its dual
 module _ (walk : Mos → List Mos) (shown : Mos → Mos) (follow : (m : Mos) → walk m ≡ shown m ∷ onward (child_of m) walk) where
@@ -50,7 +52,7 @@ module _ (walk : Mos → List Mos) (shown : Mos → Mos) (follow : (m : Mos) →
         )
 
     -- one pattern more
-    pub listing_more : (c : Mos) → child_of q ≡ some c → {zs : List ℕ} {end : ℕ} → Wrote ys place (fields (shown q)) zs end → Listing walk m xs at c zs end
+    pub listing_more : (c : Mos) → child_of q ≡ Some c → {zs : List ℕ} {end : ℕ} → Wrote ys place (fields (shown q)) zs end → Listing walk m xs at c zs end
     listing_more c e w = record {
       part = l.part ++ fields (shown q);
       wrote = then l.wrote w;
@@ -64,7 +66,7 @@ module _ (walk : Mos → List Mos) (shown : Mos → Mos) (follow : (m : Mos) →
     }
 
     -- the last pattern
-    pub listing_end : child_of q ≡ none → {zs : List ℕ} {end : ℕ} → Wrote ys place (fields (shown q)) zs end → Wrote xs at (listed (walk m)) zs end
+    pub listing_end : child_of q ≡ None → {zs : List ℕ} {end : ℕ} → Wrote ys place (fields (shown q)) zs end → Wrote xs at (listed (walk m)) zs end
     listing_end e w =
         wrote_as
         (ap (λ (rest : List ℕ). l.part ++ rest) (sym (ap listed (follow q ∙ ap (λ (o : Option Mos). shown q ∷ onward o walk) e)))

@@ -1,8 +1,8 @@
 -- What each pattern of the walk keeps, over naturals: the generators are the other row's count, the octaves are −u and v.
+use Rattle.std.specs.Prelude.{Some}
 use Prim.Native.Nat.{ℕ, zero, suc, ◌+◌, ◌*◌, ◌-◌, ◌/◌, ◌≤◌, ◌<◌}
 use mathlib.Core.Path.{◌≡◌, refl, sym, ap, ap₂, ◌∙◌, subst}
 use mathlib.Core.Bool.{true}
-use mathlib.Core.Option.{some}
 use mathlib.Core.List.{[], ◌∷◌}
 use lib.IntN.{ℤ, pos, negsuc, neg_ℤ, nat_abs, ◌+ℤ◌, ◌-ℤ◌, ◌*ℤ◌, *ℤ_comm, zero-*ℤ, *ℤ-zero, negsuc-*ℤ-negsuc}
 use borrow.Author.Tests.{lt-ltb, le-ltb}
@@ -85,7 +85,7 @@ shape_secondary m u v h =
     sym (moves_longer_secondary m (shape m u v) h refl)
     ∙ ap₂ (λ (x y : ℤ). row (neg_ℤ (pos u)) (pos (secondaries m)) ∷ row x y ∷ []) (pos_less v u) (neg_less (primaries m) (secondaries m))
 
-going_on : (P G : ℕ) (m c : Mos) (t : Table ℤ) → Child m (some c) → size_of c ≡ P → count_of c ≤ P → Going P G m t → Going P G c (child_moves m t)
+going_on : (P G : ℕ) (m c : Mos) (t : Table ℤ) → Child m (Some c) → size_of c ≡ P → count_of c ≤ P → Going P G m t → Going P G c (child_moves m t)
 going_on P G m c t (longer_primary z h) s n g =
     record {
       u = g.u + g.v;
@@ -113,7 +113,7 @@ going_on P G m c t (longer_secondary z h) s n g =
       step_fits = omega (arith, g.step_fits);
     }
 
-pub going_child : (P G : ℕ) (m c : Mos) (t : Table ℤ) → child_of m ≡ some c → Going P G m t → Going P G c (child_moves m t)
+pub going_child : (P G : ℕ) (m c : Mos) (t : Table ℤ) → child_of m ≡ Some c → Going P G m t → Going P G c (child_moves m t)
 going_child P G m c t e g =
     let s : size_of c ≡ P = child_keeps_size (child_at e) ∙ g.size in
     going_on P G m c t (child_at e) s (omega (arith, counts_fit c (child_steps (child_at e)).0 (child_steps (child_at e)).1)) g

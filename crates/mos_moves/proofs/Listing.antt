@@ -1,8 +1,8 @@
 -- Storing signed numbers in a row, and listing a walk's moves: what is listed and what is still to come make up the whole.
+use Rattle.std.specs.Prelude.{Some, is_some}
 use Prim.Native.Nat.{ℕ, suc, ◌+◌, ◌≤◌}
 use mathlib.Core.Path.{◌≡◌, refl, sym, ap, ◌∙◌, subst}
 use mathlib.Core.Bool.{false}
-use mathlib.Core.Option.{some}
 use mathlib.Core.List.{List, [], ◌∷◌, ◌++◌, append_assoc, append-nil}
 use native.Mathlib.Omega.{arith}
 use lib.IntN.{ℤ}
@@ -12,7 +12,6 @@ use Rattle.text.proofs.Writing.{wrote_none, then, wrote_as, wrote_length}
 use Rattle.mos.specs.declared.Mos.{Mos}
 use Rattle.mos.specs.Patterns.{genesis, child_of}
 use Rattle.mos.specs.Walks.{children}
-use Rattle.mos.specs.Parts.{is_some}
 use Rattle.mos_moves.specs.Moves.{Table, child_moves, genesis_moves, moves_along, walk_moves, numbers_of, listed_moves}
 use Rattle.mos_moves.proofs.Going.{Going, going_genesis, going_child}
 use Rattle.mos_moves.proofs.Walking.{rest_of, moves_follow, rest_next, rest_end, walk_starts}
@@ -73,7 +72,7 @@ module _ {P G : ℕ} {xs ys : List ℤ} {m : Mos} {t : Table ℤ} {place : ℕ} 
     behind =
         append_assoc l.part (numbers_of t) (listed_moves (rest_of m t)) ∙ ap (λ (r : List ℤ). l.part ++ r) (sym here) ∙ l.whole
 
-    pub listing_more : (c : Mos) → child_of m ≡ some c → (u : Table ℤ) → u ≡ child_moves m t → Listing P G xs zs c u next
+    pub listing_more : (c : Mos) → child_of m ≡ Some c → (u : Table ℤ) → u ≡ child_moves m t → Listing P G xs zs c u next
     listing_more c e u f =
         subst (λ (v : Table ℤ). Listing P G xs zs c v next) (sym f)
         (record {

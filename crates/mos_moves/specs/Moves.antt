@@ -1,7 +1,6 @@
 -- The board's primary and secondary moves "in octaves and generators, as a two by two table of whole numbers, octaves first, for each
 -- pattern of the walk" (document 02, W-214). P is the octave, or the period of a free pergen, and G the generator.
-use Rattle.std.specs.Prelude.{ℕ, ◌+◌, ◌*◌, ◌-◌, ◌/◌, ◌≤◌, true, false, List, [], ◌∷◌, ◌++◌, eqb, ltb, get_or, ℤ, pos, negsuc, nat_abs, neg_ℤ, ◌+ℤ◌, ◌-ℤ◌, ◌*ℤ◌}
-use Rattle.std.proofs.Math.Option.{Option, none, some}
+use Rattle.std.specs.Prelude.{ℕ, ◌+◌, ◌*◌, ◌-◌, ◌/◌, ◌≤◌, true, false, List, [], ◌∷◌, ◌++◌, eqb, ltb, get_or, ℤ, pos, negsuc, nat_abs, neg_ℤ, ◌+ℤ◌, ◌-ℤ◌, ◌*ℤ◌, Option, None, Some}
 use Rattle.answer.specs.Choice.{pick}
 use Rattle.mos.specs.declared.Mos.{Mos}
 use Rattle.mos.specs.Patterns.{primaries, secondaries, primary, secondary, count_of, genesis}
@@ -62,8 +61,8 @@ walk_moves P G = moves_along (children (genesis P G)) (genesis_moves P G)
 -- The moves of the first pattern with n steps, where such a walk has one.
 unfoldable pub moves_with : ℕ → List Mos → Table ℤ → Option (Table ℤ)
 unfolding child_moves
-moves_with n [] t = none
-moves_with n (m ∷ ms) t = elim (eqb (count_of m) n) [ true ↦ some t | false ↦ moves_with n ms (child_moves m t) ]
+moves_with n [] t = None
+moves_with n (m ∷ ms) t = elim (eqb (count_of m) n) [ true ↦ Some t | false ↦ moves_with n ms (child_moves m t) ]
 
 -- The moves of a pattern of the walk, by its own numbers: `PatternsTellTheirMoves` says that they are.
 unfoldable pub pattern_moves : ℕ → ℕ → Mos → Table ℤ

@@ -1,7 +1,5 @@
 -- What holds of the moves of every pattern of every walk, for a period P above 0 and a generator G, both of 16 bits. Proofs: proofs/.
-use Rattle.std.specs.Prelude.{ℕ, ◌≤◌, ◌≡◌, ℤ, pos, negsuc, ◌+ℤ◌, ◌*ℤ◌, length}
-use Rattle.std.proofs.Math.Option.{some}
-use Rattle.std.proofs.Math.ListN.{get_elem?}
+use Rattle.std.specs.Prelude.{ℕ, ◌≤◌, ◌≡◌, ℤ, pos, negsuc, ◌+ℤ◌, ◌*ℤ◌, length, Some, slice_get}
 use Rattle.mos.specs.declared.Mos.{Mos}
 use Rattle.mos.specs.Patterns.{primary, secondary, genesis, key_at}
 use Rattle.mos.specs.Walks.{children, first_with, listed}
@@ -9,12 +7,12 @@ use Rattle.mos_moves.specs.Moves.{Table, octaves, generators, primary_row, secon
 
 -- The k-th pattern of the walk from the genesis is m, and its moves are t.
 pub record MovesAt (P G k : ℕ) (m : Mos) (t : Table ℤ) : Type 0 where
-  pub pattern : get_elem? (children (genesis P G)) k ≡ some m
-  pub moves : get_elem? (walk_moves P G) k ≡ some t
+  pub pattern : slice_get (children (genesis P G)) k ≡ Some m
+  pub moves : slice_get (walk_moves P G) k ≡ Some t
 
 -- Theorem: every pattern of the walk has its moves, and as many are listed as patterns are.
 pub record EveryPatternHasMoves (P G : ℕ) : Type 0 where
-  pub some_moves : (k : ℕ) (m : Mos) → get_elem? (children (genesis P G)) k ≡ some m → (t : Table ℤ) × MovesAt P G k m t
+  pub some_moves : (k : ℕ) (m : Mos) → slice_get (children (genesis P G)) k ≡ Some m → (t : Table ℤ) × MovesAt P G k m t
   pub as_many : length (walk_moves P G) ≡ length (children (genesis P G))
   pub as_long : length (listed_moves (walk_moves P G)) ≡ length (listed (children (genesis P G)))
 
@@ -58,5 +56,5 @@ PatternsTellTheirMoves = (P G k : ℕ) (m : Mos) (t : Table ℤ) → 1 ≤ P →
 -- Theorem: beside the first pattern with n steps stand the moves that `moves_with` finds.
 abbrev pub MovesStandBesideThePattern : Type 0
 MovesStandBesideThePattern =
-    (P G n : ℕ) (m : Mos) → first_with n (children (genesis P G)) ≡ some m
-    → (k : ℕ) × (t : Table ℤ) × MovesAt P G k m t × (moves_with n (children (genesis P G)) (genesis_moves P G) ≡ some t)
+    (P G n : ℕ) (m : Mos) → first_with n (children (genesis P G)) ≡ Some m
+    → (k : ℕ) × (t : Table ℤ) × MovesAt P G k m t × (moves_with n (children (genesis P G)) (genesis_moves P G) ≡ Some t)

@@ -10,9 +10,9 @@
 pub mod parts;
 
 ghost use Rattle.std.specs.Prelude.{length};
+ghost use Rattle.answer.specs.Refusals.{outcome_of};
 ghost use Rattle.answer.specs.Lent.{in_room, Filled};
-ghost use Rattle.answer.specs.Refusals.{count_outcome};
-ghost use Rattle.mos.specs.Answers.{genesis_outcome, mos_outcome, walk_outcome};
+ghost use Rattle.mos.specs.Answers.{genesis_outcome};
 ghost use Rattle.mos_moves.specs.Answers.{
   Tabled,
   genesis_table,
@@ -21,55 +21,52 @@ ghost use Rattle.mos_moves.specs.Answers.{
   get_walk_moves,
 };
 
-use answer::{CountAnswer, Refusal};
-use mos::{Mos, MosAnswer, WalkAnswer};
+use answer::Refusal;
+use mos::Mos;
+use mos::pattern::Pattern;
 
 // A table: the primary row first, and in each row octaves before generators.
 pub type Moves = [[i32; 2]; 2];
 
 // The genesis of a period and a generator, with its moves in the lent table (2).
-pub fn genesis_moves(period: u16, generator: u16, moves: &mut Moves) -> MosAnswer
-    ensures { Tabled (mos_outcome result) (genesis_outcome period generator) (genesis_table period generator) moves.old moves.new }
+pub fn genesis_moves(period: u16, generator: u16, moves: &mut Moves) -> Result<Mos, Refusal>
+    ensures { Tabled (outcome_of result) (genesis_outcome period generator) (genesis_table period generator) moves.old moves.new }
 {
-    if period == 0 {
-        return MosAnswer::Refused(Refusal::Period);
-    }
+    let genesis = Pattern::genesis(period, generator)?;
     *moves = parts::start(period, generator);
-    MosAnswer::Given(mos::parts::genesis_of(period, generator))
+    Ok(genesis.mos)
 }
 
 // The k-th pattern of the walk of children from the genesis, the genesis for 0, with its moves in the lent table (2).
-pub fn nth_moves(period: u16, generator: u16, k: u32, moves: &mut Moves) -> WalkAnswer
-    ensures { Tabled (walk_outcome result) (nth_outcome period generator k) (nth_table period generator k) moves.old moves.new }
+pub fn nth_moves(
+    period: u16,
+    generator: u16,
+    k: u32,
+    moves: &mut Moves,
+) -> Result<Option<Mos>, Refusal>
+    ensures { Tabled (outcome_of result) (nth_outcome period generator k) (nth_table period generator k) moves.old moves.new }
 {
-    if period == 0 {
-        return WalkAnswer::Refused(Refusal::Period);
-    }
-    let mut pattern = mos::parts::genesis_of(period, generator);
+    let mut pattern = Pattern::genesis(period, generator)?;
     let mut table = parts::start(period, generator);
-    let mut left = k;
-    while left != 0 {
-        if !mos::parts::has_child(pattern) {
-            return WalkAnswer::Nothing;
-        }
-        let next = parts::child_moves(pattern, table);
+    for _ in 0..k {
+        let Some(child) = pattern.child() else {
+            return Ok(None);
+        };
+        let next = parts::child_moves(pattern.mos, table);
         table = next;
-        pattern = mos::parts::child_of(pattern);
-        left -= 1;
+        pattern = child;
     }
     *moves = table;
-    WalkAnswer::Found(pattern)
+    Ok(Some(pattern.mos))
 }
 
 // The moves of all patterns of that walk, four numbers each: the primary row's octaves and generators, then the secondary row's (2, 10).
-pub fn walk_moves(period: u16, generator: u16, out: &mut [i32]) -> CountAnswer
-    ensures { Filled (in_room (length out.old) (get_walk_moves period generator)) (count_outcome result) out.old out.new }
+pub fn walk_moves(period: u16, generator: u16, out: &mut [i32]) -> Result<usize, Refusal>
+    ensures { Filled (in_room (length out.old) (get_walk_moves period generator)) (outcome_of result) out.old out.new }
 {
-    if period == 0 {
-        return CountAnswer::Refused(Refusal::Period);
+    let genesis = Pattern::genesis(period, generator)?;
+    if !mos_listings::parts::children_fit(genesis, out.len()) {
+        return Err(Refusal::Room);
     }
-    if !mos_listings::parts::children_fit(mos::parts::genesis_of(period, generator), out.len()) {
-        return CountAnswer::Refused(Refusal::Room);
-    }
-    CountAnswer::Given(parts::list_moves(period, generator, out))
+    Ok(parts::list_moves(period, generator, genesis, out))
 }

@@ -2,6 +2,7 @@
 //
 // Parts, and no entry points: each asks for a period above 0, for a table whose numbers are small, or for a pattern of the walk.
 ghost use Rattle.std.specs.Prelude.{◌≡◌, ◌+◌, ◌≤◌, length};
+ghost use Rattle.mos.specs.Patterns.{genesis};
 ghost use Rattle.text.specs.Writing.{Wrote};
 ghost use Rattle.mos_moves.specs.Moves.{
   genesis_moves,
@@ -18,6 +19,7 @@ ghost use Rattle.mos_moves.specs.Parts.{OnWalk};
 
 use crate::Moves;
 use mos::Mos;
+use mos::pattern::Pattern;
 
 // The moves of the genesis.
 pub fn start(period: u16, generator: u16) -> Moves
@@ -79,19 +81,21 @@ pub fn put_moves(out: &mut [i32], at: usize, moves: Moves) -> usize
     at + 4
 }
 
-// The moves of the whole walk from the slice's front on; how many numbers that are.
-pub(crate) fn list_moves(period: u16, generator: u16, out: &mut [i32]) -> usize
-    requires { (1 ≤ period) × (length (listed_moves (walk_moves period generator)) ≤ length out.old) }
+// The moves of the whole walk from its genesis, from the slice's front on; how many numbers that are.
+pub(crate) fn list_moves(period: u16, generator: u16, first: Pattern, out: &mut [i32]) -> usize
+    requires { (1 ≤ period) × (first.mos ≡ genesis period generator) × (length (listed_moves (walk_moves period generator)) ≤ length out.old) }
     ensures { Wrote out.old 0 (listed_moves (walk_moves period generator)) out.new result }
 {
-    let mut pattern = mos::parts::genesis_of(period, generator);
+    let mut pattern = first;
     let mut table = start(period, generator);
-    let mut place: usize = 0;
-    while mos::parts::has_child(pattern) {
+    let mut place = 0;
+    loop {
         place = put_moves(out, place, table);
-        let next = child_moves(pattern, table);
+        let Some(child) = pattern.child() else {
+            return place;
+        };
+        let next = child_moves(pattern.mos, table);
         table = next;
-        pattern = mos::parts::child_of(pattern);
+        pattern = child;
     }
-    put_moves(out, place, table)
 }

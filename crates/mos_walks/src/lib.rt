@@ -11,71 +11,58 @@
 pub mod parts;
 pub mod search;
 
-ghost use Rattle.std.specs.Prelude.{◌≡◌};
-ghost use Rattle.std.proofs.Math.ListN.{get_elem?};
+ghost use Rattle.std.specs.Prelude.{◌≡◌, slice_get};
+ghost use Rattle.answer.specs.Refusals.{outcome_of};
 ghost use Rattle.mos.specs.Walks.{children, parents, first_with, genesis_of};
-ghost use Rattle.mos.specs.Answers.{of_pattern, mos_outcome, walk_outcome};
+ghost use Rattle.mos.specs.Answers.{of_pattern};
 
 use answer::Refusal;
-use mos::{Mos, MosAnswer, WalkAnswer};
+use mos::Mos;
+use mos::pattern::Pattern;
 
 // The first pattern of the walk of children with so many steps: as many as the chain has letters (7).
-pub fn find_child(mos: Mos, num_steps: u32) -> WalkAnswer
-    ensures { walk_outcome result ≡ of_pattern mos (first_with num_steps (children mos)) }
+pub fn find_child(mos: Mos, num_steps: u32) -> Result<Option<Mos>, Refusal>
+    ensures { outcome_of result ≡ of_pattern mos (first_with num_steps (children mos)) }
 {
-    if mos::parts::is_pattern(mos) {
-        let mut found: [u16; 4] = [0, 0, 0, 0];
-        if parts::seek(
-            mos.num_primary_steps,
-            mos.num_secondary_steps,
-            mos.primary_step,
-            mos.secondary_step,
-            num_steps,
-            &mut found,
-        ) {
-            return WalkAnswer::Found(parts::pattern_of(found));
-        }
-        return WalkAnswer::Nothing;
-    }
-    WalkAnswer::Refused(Refusal::Size)
+    let pattern = Pattern::of(mos)?;
+    let mut found = None;
+    parts::seek(
+        pattern.mos.num_primary_steps,
+        pattern.mos.num_secondary_steps,
+        pattern.mos.primary_step,
+        pattern.mos.secondary_step,
+        num_steps,
+        &mut found,
+    );
+    Ok(found)
 }
 
 // The k-th pattern of the walk of children, this one for 0 (7).
-pub fn nth_child(mos: Mos, k: u32) -> WalkAnswer
-    ensures { walk_outcome result ≡ of_pattern mos (get_elem? (children mos) k) }
+pub fn nth_child(mos: Mos, k: u32) -> Result<Option<Mos>, Refusal>
+    ensures { outcome_of result ≡ of_pattern mos (slice_get (children mos) k) }
 {
-    if mos::parts::is_pattern(mos) {
-        let mut found: [u16; 4] = [0, 0, 0, 0];
-        if parts::descend(mos, k, &mut found) {
-            return WalkAnswer::Found(parts::pattern_of(found));
-        }
-        return WalkAnswer::Nothing;
-    }
-    WalkAnswer::Refused(Refusal::Size)
+    let pattern = Pattern::of(mos)?;
+    let mut found = None;
+    parts::descend(pattern, k, &mut found);
+    Ok(found)
 }
 
 // The k-th pattern of the walk of parents, this one for 0 (7).
-pub fn nth_parent(mos: Mos, k: u32) -> WalkAnswer
-    ensures { walk_outcome result ≡ of_pattern mos (get_elem? (parents mos) k) }
+pub fn nth_parent(mos: Mos, k: u32) -> Result<Option<Mos>, Refusal>
+    ensures { outcome_of result ≡ of_pattern mos (slice_get (parents mos) k) }
 {
-    if mos::parts::is_pattern(mos) {
-        let mut found: [u16; 4] = [0, 0, 0, 0];
-        if parts::ascend(mos, k, &mut found) {
-            return WalkAnswer::Found(parts::pattern_of(found));
-        }
-        return WalkAnswer::Nothing;
-    }
-    WalkAnswer::Refused(Refusal::Size)
+    let pattern = Pattern::of(mos)?;
+    let mut found = None;
+    parts::ascend(pattern, k, &mut found);
+    Ok(found)
 }
 
 // The last of its parents, itself where it has none (7). For a pattern on the walk from a genesis, that genesis, which shows the generator.
-pub fn genesis(mos: Mos) -> MosAnswer
-    ensures { mos_outcome result ≡ of_pattern mos (genesis_of mos) }
+pub fn genesis(mos: Mos) -> Result<Mos, Refusal>
+    ensures { outcome_of result ≡ of_pattern mos (genesis_of mos) }
 {
-    if mos::parts::is_pattern(mos) {
-        let mut found: [u16; 4] = [0, 0, 0, 0];
-        parts::root(mos, &mut found);
-        return MosAnswer::Given(parts::pattern_of(found));
-    }
-    MosAnswer::Refused(Refusal::Size)
+    let pattern = Pattern::of(mos)?;
+    let mut last = pattern.mos;
+    parts::root(pattern, &mut last);
+    Ok(last)
 }

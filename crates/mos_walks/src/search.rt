@@ -5,32 +5,22 @@
 ghost use Rattle.std.specs.Prelude.{◌≡◌, true};
 ghost use Rattle.mos.specs.Patterns.{is_pattern};
 ghost use Rattle.mos.specs.Walks.{children, first_with};
-ghost use Rattle.mos_walks.specs.Answers.{found_by};
 
 use mos::Mos;
-
-// The pattern that was searched for, or that there is none.
-#[derive(Clone, Copy)]
-pub enum SearchAnswer {
-    Found(Mos),
-    Nothing,
-}
+use mos::pattern::Pattern;
 
 // The first pattern with n steps of the walk of children from m, m itself included. Counts only grow, so a pattern with more ends the
 // search. Each end has a return of its own: where they met behind the loop, the counts would be packed in every turn.
-pub fn first_with(m: Mos, n: u32) -> SearchAnswer
+pub fn first_with(m: Mos, n: u32) -> Option<Mos>
     requires { is_pattern m ≡ true }
-    ensures { found_by result ≡ first_with n (children m) }
+    ensures { result ≡ first_with n (children m) }
 {
-    let mut pattern = m;
-    while mos::parts::count_of(pattern) != n {
-        if n < mos::parts::count_of(pattern) {
-            return SearchAnswer::Nothing;
+    let mut pattern = Pattern { mos: m };
+    while mos::parts::count_of(pattern.mos) != n {
+        if n < mos::parts::count_of(pattern.mos) {
+            return None;
         }
-        if !mos::parts::has_child(pattern) {
-            return SearchAnswer::Nothing;
-        }
-        pattern = mos::parts::child_of(pattern);
+        pattern = pattern.child()?;
     }
-    SearchAnswer::Found(pattern)
+    Some(pattern.mos)
 }

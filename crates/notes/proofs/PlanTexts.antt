@@ -1,4 +1,5 @@
 -- A plan's text is the name: one law for each way in which the plan is made; and how long a name can be.
+use Rattle.std.specs.Prelude.{None, Option, Some}
 use Prim.Native.Nat.{ℕ, ◌+◌, ◌≤◌, ◌<◌}
 use mathlib.Core.Path.{◌≡◌, refl, ap, ◌∙◌}
 use mathlib.Core.Bool.{Bool, true, false}
@@ -6,8 +7,6 @@ use mathlib.Core.List.{List, [], ◌∷◌, ◌++◌, append-nil}
 use native.Mathlib.Omega.{arith}
 use lib.ListN.{replicate}
 use Rattle.pergen.specs.Spelling.{stars_of, sharp_spelling, flat_spelling}
-use Rattle.pergen.specs.declared.Cycle.{Cycle}
-use Rattle.pergen.specs.declared.Cycle.TheVariants.{Absent, Number}
 use Rattle.pergen.specs.declared.Accidentals.{Accidentals}
 use Rattle.pergen.specs.declared.Spelling.{Spelling}
 use Rattle.notes.specs.Names.{sharp_sign, flat_sign, spelling_text, letter_alone, in_order, printed, in_parentheses, name_text}
@@ -16,9 +15,9 @@ use Rattle.notes.specs.declared.plans.Mark.{Mark}
 use Rattle.notes.specs.declared.plans.NamePlan.{NamePlan}
 use Rattle.notes.proofs.Printing.{printed_alone, printed_sharp, printed_flat, printed_both}
 
-parentheses : (c : Cycle) (text : List ℕ) → parenthesis_text (is_present c) 40 ++ text ++ parenthesis_text (is_present c) 41 ≡ in_parentheses c text
-parentheses Absent text = append-nil text
-parentheses (Number n) text = refl
+parentheses : (c : Option ℕ) (text : List ℕ) → parenthesis_text (is_present c) 40 ++ text ++ parenthesis_text (is_present c) 41 ≡ in_parentheses c text
+parentheses None text = append-nil text
+parentheses (Some n) text = refl
 
 module _ (letters : List ℕ) (sf : Bool) (a : Accidentals) (stars : ℕ) (is-stars : stars ≡ stars_of a.cycle) where
   one_text : (m other : Mark) (s : Spelling) → printed sf a ≡ s ∷ [] → mark_text m ≡ spelling_text letters sf s

@@ -1,5 +1,6 @@
 -- Reading undoes writing: the reader finds the first printed spelling in a name's bytes, since no byte of a letter is a sign,
 -- a slash, a parenthesis or a star, and the byte behind the signs is no sign.
+use Rattle.std.specs.Prelude.{None, Option, Some}
 use Prim.Native.Nat.{ℕ, zero, suc, ◌+◌, ◌/◌, ◌%◌, ◌<◌}
 use native.Mathlib.Nat.{zero-add}
 use native.Mathlib.Omega.{arith}
@@ -12,8 +13,6 @@ use borrow.Author.Tests.{ne_eqb, lt-ltb, le-ltb}
 use Rattle.genchain.specs.Chains.{chain_of}
 use Rattle.genchain.specs.Theorems.{IsLetter}
 use Rattle.pergen.specs.Spelling.{stars_of, sharp_spelling, flat_spelling}
-use Rattle.pergen.specs.declared.Cycle.{Cycle}
-use Rattle.pergen.specs.declared.Cycle.TheVariants.{Absent, Number}
 use Rattle.pergen.specs.declared.Accidentals.{Accidentals}
 use Rattle.pergen.specs.declared.Signs.{Signs}
 use Rattle.pergen.specs.declared.Signs.TheVariants.{Sharps, Flats}
@@ -195,10 +194,10 @@ module _ (letters : List ℕ) (sf : Bool) (a : Accidentals)
         (zero-add (count 42 (S ++ (47 ∷ []) ++ T ++ (41 ∷ []) ++ stars)) ∙ ap (count 42) e)
         (zero-add (count 42 stars) ∙ count_stars)
 
-    read_both : (c : Cycle) → c ≡ a.cycle
+    read_both : (c : Option ℕ) → c ≡ a.cycle
         → read_name sf (in_parentheses c (S ++ (47 ∷ []) ++ T) ++ stars) ≡ reading_of letters s
-    read_both Absent e = read_pair
-    read_both (Number n) e = read_bracketed
+    read_both None e = read_pair
+    read_both (Some n) e = read_bracketed
 
   read_list : {l : List Spelling} (d : Spelling) → Printed a l
       → read_name sf (spellings_text letters sf a.cycle l ++ stars) ≡ reading_of letters (get_or l 0 d)

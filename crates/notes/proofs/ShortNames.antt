@@ -1,4 +1,5 @@
 -- How long a name is: at least one letter; at most two letters of two bytes, a slash, two parentheses, and the signs and stars.
+use Rattle.std.specs.Prelude.{None, Option, Some}
 use Prim.Native.Nat.{ℕ, ◌+◌, ◌≤◌}
 use native.Mathlib.Omega.{arith}
 use mathlib.Core.Path.{◌≡◌}
@@ -7,8 +8,6 @@ use mathlib.Core.List.{List, [], ◌∷◌, ◌++◌}
 use lib.ListN.{length, replicate, length-append, length-replicate}
 use Rattle.genchain.specs.Chains.{chain_of}
 use Rattle.pergen.specs.Spelling.{stars_of}
-use Rattle.pergen.specs.declared.Cycle.{Cycle}
-use Rattle.pergen.specs.declared.Cycle.TheVariants.{Absent, Number}
 use Rattle.pergen.specs.declared.Accidentals.{Accidentals}
 use Rattle.pergen.specs.declared.Signs.{Signs}
 use Rattle.pergen.specs.declared.Signs.TheVariants.{Sharps, Flats}
@@ -37,11 +36,11 @@ module _ (letters : List ℕ) (sf : Bool) where
   length_pair : (s t : Spelling) → length (spelling_text letters sf s ++ (47 ∷ []) ++ spelling_text letters sf t) ≤ 5 + (signs_in s.signs + signs_in t.signs)
   length_pair s t = simp length-append (omega (arith, length_spelling s, length_spelling t))
 
-  length_parentheses : (c : Cycle) (text : List ℕ) → length (in_parentheses c text) ≤ length text + 2
-  length_parentheses Absent text = omega arith
-  length_parentheses (Number n) text = simp length-append (omega arith)
+  length_parentheses : (c : Option ℕ) (text : List ℕ) → length (in_parentheses c text) ≤ length text + 2
+  length_parentheses None text = omega arith
+  length_parentheses (Some n) text = simp length-append (omega arith)
 
-  length_spellings : (a : Accidentals) (c : Cycle) (l : List Spelling) → Printed a l
+  length_spellings : (a : Accidentals) (c : Option ℕ) (l : List Spelling) → Printed a l
       → length (spellings_text letters sf c l) ≤ 7 + (a.sharp_count + a.flat_count)
   length_spellings a c l (one s o) = omega (arith, length_spelling s, signs_of_lem a s o)
   length_spellings a c l (two s t o p n) =
@@ -70,11 +69,11 @@ module _ (letters : List ℕ) (sf : Bool) where
   unfolding spelling_text
   spelling_not_empty s = simp length-append (omega (arith, letter_not_empty (letter_at letters s.index)))
 
-  parentheses_keep : (c : Cycle) (text : List ℕ) → length text ≤ length (in_parentheses c text)
-  parentheses_keep Absent text = omega arith
-  parentheses_keep (Number n) text = simp length-append (omega arith)
+  parentheses_keep : (c : Option ℕ) (text : List ℕ) → length text ≤ length (in_parentheses c text)
+  parentheses_keep None text = omega arith
+  parentheses_keep (Some n) text = simp length-append (omega arith)
 
-  spellings_not_empty : (a : Accidentals) (c : Cycle) (l : List Spelling) → Printed a l → 1 ≤ length (spellings_text letters sf c l)
+  spellings_not_empty : (a : Accidentals) (c : Option ℕ) (l : List Spelling) → Printed a l → 1 ≤ length (spellings_text letters sf c l)
   spellings_not_empty a c l (one s o) = spelling_not_empty s
   spellings_not_empty a c l (two s t o p n) =
       let pair = spelling_text letters sf s ++ (47 ∷ []) ++ spelling_text letters sf t in

@@ -1,10 +1,8 @@
 -- The text of a key's name (document 01, "Pergen and spelling", the paragraph "Name"), as bytes of UTF-8.
 -- `sharp_first` says whether the primary step is at least the secondary; `letters` are a chain's code points.
-use Rattle.std.specs.Prelude.{ℕ, ◌+◌, ◌/◌, ◌%◌, Bool, true, false, List, [], ◌∷◌, ◌++◌, replicate, get_or, eqb, ltb}
+use Rattle.std.specs.Prelude.{ℕ, ◌+◌, ◌/◌, ◌%◌, Bool, true, false, List, [], ◌∷◌, ◌++◌, replicate, get_or, eqb, ltb, None, Option, Some}
 use Rattle.answer.specs.Choice.{pick}
 use Rattle.pergen.specs.Spelling.{stars_of, sharp_spelling, flat_spelling}
-use Rattle.pergen.specs.declared.Cycle.{Cycle}
-use Rattle.pergen.specs.declared.Cycle.TheVariants.{Absent, Number}
 use Rattle.pergen.specs.declared.Accidentals.{Accidentals}
 use Rattle.pergen.specs.declared.Signs.{Signs}
 use Rattle.pergen.specs.declared.Signs.TheVariants.{Sharps, Flats}
@@ -79,9 +77,9 @@ first_printed sharp_first a = get_or (printed sharp_first a) 0 (sharp_spelling a
 -- ---- the name
 
 -- "in parentheses if a cycle is present, even cycle 0": 40 is (, 41 is )
-abbrev pub in_parentheses : Cycle → List ℕ → List ℕ
-in_parentheses Absent text = text
-in_parentheses (Number c) text = (40 ∷ []) ++ text ++ (41 ∷ [])
+abbrev pub in_parentheses : Option ℕ → List ℕ → List ℕ
+in_parentheses None text = text
+in_parentheses (Some c) text = (40 ∷ []) ++ text ++ (41 ∷ [])
 
 -- "with / between": 47 is /
 abbrev pub slashed : List ℕ → Bool → List Spelling → List ℕ
@@ -90,13 +88,13 @@ slashed letters sharp_first (s ∷ []) = spelling_text letters sharp_first s
 slashed letters sharp_first (s ∷ t ∷ more) = spelling_text letters sharp_first s ++ (47 ∷ []) ++ slashed letters sharp_first (t ∷ more)
 
 -- one spelling alone, or both so
-abbrev pub spellings_text : List ℕ → Bool → Cycle → List Spelling → List ℕ
+abbrev pub spellings_text : List ℕ → Bool → Option ℕ → List Spelling → List ℕ
 spellings_text letters sharp_first c [] = []
 spellings_text letters sharp_first c (s ∷ []) = spelling_text letters sharp_first s
 spellings_text letters sharp_first c (s ∷ t ∷ more) = in_parentheses c (slashed letters sharp_first (s ∷ t ∷ more))
 
 -- The text of a name that holds these spellings. "Then one * per cycle number": 42 is *
-abbrev pub printed_text : List ℕ → Bool → Cycle → List Spelling → List ℕ
+abbrev pub printed_text : List ℕ → Bool → Option ℕ → List Spelling → List ℕ
 printed_text letters sharp_first c spellings = spellings_text letters sharp_first c spellings ++ replicate (stars_of c) 42
 
 -- The name of a key with these accidentals.

@@ -1,9 +1,7 @@
 -- What the parts behind the calls promise: a name's plan, and the text that it stands for.
-use Rattle.std.specs.Prelude.{ℕ, ◌+◌, ◌≤◌, ◌<◌, ◌≡◌, Bool, true, false, List, [], ◌∷◌, ◌++◌, length, replicate}
+use Rattle.std.specs.Prelude.{ℕ, ◌+◌, ◌≤◌, ◌<◌, ◌≡◌, Bool, true, false, List, [], ◌∷◌, ◌++◌, length, replicate, None, Option, Some}
 use Rattle.answer.specs.Choice.{pick}
 use Rattle.pergen.specs.Spelling.{stars_of}
-use Rattle.pergen.specs.declared.Cycle.{Cycle}
-use Rattle.pergen.specs.declared.Cycle.TheVariants.{Absent, Number}
 use Rattle.pergen.specs.declared.Accidentals.{Accidentals}
 use Rattle.notes.specs.Names.{letter_text, letter_at, name_text}
 use Rattle.notes.specs.declared.plans.Mark.{Mark}
@@ -40,9 +38,9 @@ abbrev pub marked : ℕ → ℕ → ℕ → Mark
 marked letter sign count = record { letter = letter; sign = sign; count = count }
 
 -- A cycle is present.
-abbrev pub is_present : Cycle → Bool
-is_present Absent = false
-is_present (Number c) = true
+abbrev pub is_present : Option ℕ → Bool
+is_present None = false
+is_present (Some c) = true
 
 -- One spelling printed, or both.
 abbrev pub one_plan : Mark → Mark → ℕ → NamePlan

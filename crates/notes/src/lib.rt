@@ -11,23 +11,21 @@ pub mod plans;
 pub mod texts;
 
 ghost use Rattle.std.specs.Prelude.{◌≡◌, length};
-ghost use Rattle.answer.specs.Refusals.{count_outcome};
+ghost use Rattle.answer.specs.Refusals.{outcome_of};
 ghost use Rattle.answer.specs.Lent.{Filled};
 ghost use Rattle.notes.specs.Answers.{name_length_outcome, name_outcome};
 
-use answer::{CountAnswer, Refusal};
+use answer::Refusal;
+use genchain::rows;
 use pergen::Accidentals;
 
 // How many bytes the name of a key with these accidentals has, in the letters of a chain (1).
-pub fn name_len(code: u16, accidentals: Accidentals, sharp_first: bool) -> CountAnswer
-    ensures { count_outcome result ≡ name_length_outcome code sharp_first accidentals }
+pub fn name_len(code: u16, accidentals: Accidentals, sharp_first: bool) -> Result<usize, Refusal>
+    ensures { outcome_of result ≡ name_length_outcome code sharp_first accidentals }
 {
-    if !genchain::rows::is_chain(code) {
-        return CountAnswer::Refused(Refusal::Chain);
-    }
-    let row = genchain::rows::row(code);
+    let row = rows::read(code)?;
     let plan = plans::plan_name(row, accidentals, sharp_first);
-    CountAnswer::Given(plans::plan_length(plan))
+    Ok(plans::plan_length(plan))
 }
 
 // The name of a key with these accidentals, in the letters of a chain, as an engraver cuts it (1, 10).
@@ -36,13 +34,10 @@ pub fn write_name(
     accidentals: Accidentals,
     sharp_first: bool,
     out: &mut [u8],
-) -> CountAnswer
-    ensures { Filled (name_outcome code sharp_first accidentals (length out.old)) (count_outcome result) out.old out.new }
+) -> Result<usize, Refusal>
+    ensures { Filled (name_outcome code sharp_first accidentals (length out.old)) (outcome_of result) out.old out.new }
 {
-    if !genchain::rows::is_chain(code) {
-        return CountAnswer::Refused(Refusal::Chain);
-    }
-    let row = genchain::rows::row(code);
+    let row = rows::read(code)?;
     let plan = plans::plan_name(row, accidentals, sharp_first);
     texts::write_planned(plan, out)
 }

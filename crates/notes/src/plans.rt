@@ -4,8 +4,6 @@ ghost use Rattle.std.specs.Prelude.{◌≡◌, ℕ, ◌≤◌, ◌<◌, List, le
 ghost use Rattle.genchain.specs.Chains.{TableRow, letters_in};
 ghost use Rattle.notes.specs.Names.{letter_text, letter_at, letter_alone, sharp_sign, flat_sign};
 ghost use Rattle.notes.specs.Parts.{
-  marked,
-  is_present,
   one_plan,
   two_plan,
   LettersOf,
@@ -16,7 +14,7 @@ ghost use Rattle.notes.specs.Parts.{
 };
 
 use genchain::rows::ChainRow;
-use pergen::{Accidentals, Cycle};
+use pergen::Accidentals;
 
 // One spelling: a letter's code point, a sign, and how many of it.
 #[derive(Clone, Copy)]
@@ -26,6 +24,8 @@ pub struct Mark {
     pub count: u16,
 }
 
+// `second` stands beside the flag `both` even where one spelling is printed: `Planned` and `Measured` of specs/ count the signs of both.
+//
 // A name: the first spelling, or both with / between, in parentheses where `bracketed` is set; then stars.
 #[derive(Clone, Copy)]
 pub struct NamePlan {
@@ -37,74 +37,39 @@ pub struct NamePlan {
 }
 
 // The letter at an index, or a question mark past the last.
-fn letter_at(row: ChainRow, index: u16) -> u16
+pub fn letter_at(row: ChainRow, index: u16) -> u16
     requires { TableRow row }
     ensures { (result ≡ letter_at (letters_in row) index) × (result < 2048) }
 {
-    let place = index as usize;
     if index < row.num_letters {
-        return row.letters[place];
-    }
-    63
-}
-
-// The spelling with sharps.
-fn sharp_mark(letter: u16, count: u16, sharp_first: bool) -> Mark
-    ensures { result ≡ marked letter (sharp_sign sharp_first) count }
-{
-    if sharp_first {
-        return Mark {
-            letter,
-            sign: b'#',
-            count,
-        };
-    }
-    Mark {
-        letter,
-        sign: b'-',
-        count,
+        row.letters[index as usize]
+    } else {
+        b'?' as u16
     }
 }
 
-// The spelling with flats.
-fn flat_mark(letter: u16, count: u16, sharp_first: bool) -> Mark
-    ensures { result ≡ marked letter (flat_sign sharp_first) count }
+// The sign for sharps, by the style.
+fn sharp_sign(sharp_first: bool) -> u8
+    ensures { result ≡ sharp_sign sharp_first }
 {
-    if sharp_first {
-        return Mark {
-            letter,
-            sign: b'b',
-            count,
-        };
-    }
-    Mark {
-        letter,
-        sign: b'+',
-        count,
-    }
+    if sharp_first { b'#' } else { b'-' }
 }
 
-// A cycle is there, even cycle 0.
-fn is_present(cycle: Cycle) -> bool
-    ensures { result ≡ is_present cycle }
+// The sign for flats, by the style.
+fn flat_sign(sharp_first: bool) -> u8
+    ensures { result ≡ flat_sign sharp_first }
 {
-    match cycle {
-        Cycle::Absent => false,
-        Cycle::Number(_) => true,
-    }
+    if sharp_first { b'b' } else { b'+' }
 }
 
 // Both counts are 0, and the indices equal.
+#[tactic(auto, unfolding(crate::specs::Names::letter_alone))]
 fn letter_alone(accidentals: Accidentals) -> bool
     ensures { result ≡ letter_alone accidentals }
 {
-    if accidentals.sharp_count != 0 {
-        return false;
-    }
-    if accidentals.flat_count != 0 {
-        return false;
-    }
-    accidentals.sharp_index == accidentals.flat_index
+    accidentals.sharp_count == 0
+        && accidentals.flat_count == 0
+        && accidentals.sharp_index == accidentals.flat_index
 }
 
 // One spelling is printed.
@@ -145,11 +110,19 @@ pub fn plan_letters(
 {
     let sharps = accidentals.sharp_count;
     let flats = accidentals.flat_count;
-    let sharp = sharp_mark(sharp_letter, sharps, sharp_first);
-    let flat = flat_mark(flat_letter, flats, sharp_first);
+    let sharp = Mark {
+        letter: sharp_letter,
+        sign: sharp_sign(sharp_first),
+        count: sharps,
+    };
+    let flat = Mark {
+        letter: flat_letter,
+        sign: flat_sign(sharp_first),
+        count: flats,
+    };
     let cycle = accidentals.cycle;
-    let bracketed = is_present(cycle);
-    let stars = cycle.stars();
+    let bracketed = cycle.is_some();
+    let stars = cycle.unwrap_or(0);
     let alone = letter_alone(accidentals);
     if alone {
         return one(sharp, flat, stars);

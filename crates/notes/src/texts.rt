@@ -1,6 +1,8 @@
 // Writing a planned name: parts, and no entry points. Callers have asked question 10 where a `requires` names the room.
+//
+// That letters are short is asked (`ShortLetters`) and is no ghost field of `Mark`: `marked` of specs/ makes a mark of any letter.
 ghost use Rattle.std.specs.Prelude.{◌<◌, length};
-ghost use Rattle.answer.specs.Refusals.{count_outcome};
+ghost use Rattle.answer.specs.Refusals.{outcome_of};
 ghost use Rattle.answer.specs.Lent.{held_in, Filled};
 ghost use Rattle.text.specs.Writing.{Room, Wrote};
 ghost use Rattle.notes.specs.Names.{letter_text};
@@ -17,11 +19,11 @@ ghost use Rattle.notes.specs.Parts.{
 
 use crate::plans;
 use crate::plans::{Mark, NamePlan};
-use answer::{CountAnswer, Refusal};
+use answer::Refusal;
 use text::writer;
 
 // A code point of one or two bytes.
-fn put_letter(out: &mut [u8], at: usize, letter: u16) -> usize
+pub fn put_letter(out: &mut [u8], at: usize, letter: u16) -> usize
     requires { (letter < 2048) × Room out.old at (letter_text letter) }
     ensures { Wrote out.old at (letter_text letter) out.new result }
 {
@@ -108,14 +110,12 @@ pub fn put_name(out: &mut [u8], at: usize, plan: NamePlan) -> usize
 }
 
 // A planned name at the front of a slice that holds it (10).
-pub fn write_planned(plan: NamePlan, out: &mut [u8]) -> CountAnswer
+pub fn write_planned(plan: NamePlan, out: &mut [u8]) -> Result<usize, Refusal>
     requires { ShortLetters plan }
-    ensures { Filled (held_in (length out.old) (plan_text plan)) (count_outcome result) out.old out.new }
+    ensures { Filled (held_in (length out.old) (plan_text plan)) (outcome_of result) out.old out.new }
 {
     let bytes = plans::plan_length(plan);
-    if out.len() < bytes {
-        return CountAnswer::Refused(Refusal::Room);
-    }
+    answer::asked_room(out.len(), bytes)?;
     put_name(out, 0, plan);
-    CountAnswer::Given(bytes)
+    Ok(bytes)
 }

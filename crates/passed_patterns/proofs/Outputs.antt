@@ -1,7 +1,7 @@
 -- The output, question by question; the output for what is kept of a line is the output for the line.
 use Prim.Native.Nat.{ℕ, ◌≤◌}
 use mathlib.Core.Bool.{true}
-use mathlib.Core.Path.{◌≡◌, sym, ap, ◌∙◌, subst}
+use mathlib.Core.Path.{◌≡◌, sym, ap, subst}
 use mathlib.Core.List.{List}
 use lib.ListN.{length, take}
 use lib.Dec.{leb}
@@ -18,12 +18,12 @@ use Rattle.mos.specs.Patterns.{is_pattern, genesis}
 use Rattle.mos.specs.Answers.{genesis_outcome}
 use Rattle.mos.proofs.Theorems.{made_patterns}
 use Rattle.line.specs.Refusals.{refusal_line, output_of}
-use Rattle.streams.specs.declared.input.Input.{Input}
+use Rattle.streams.specs.declared.lines.KeptLine.{KeptLine}
 use Rattle.streams.specs.declared.output.Output.{Output}
 use Rattle.streams.specs.Streams.{Handed}
-use Rattle.streams.specs.Reading.{LineRead, LineIsEnough}
+use Rattle.streams.specs.Reading.{LineIsEnough}
 use Rattle.streams.specs.Printing.{Printed}
-use Rattle.streams.proofs.Enough.{first_line_is_enough, kept_output}
+use Rattle.streams.proofs.Enough.{first_line_is_enough, printed}
 use Rattle.passed_patterns.specs.Printing.{shown, shown_from, shown_for, output}
 
 pub genesis_is_pattern : (P G : ℕ) → P ≤ 65535 → (m : Mos) → given m ≡ genesis_outcome P G → is_pattern m ≡ true
@@ -35,18 +35,18 @@ genesis_is_pattern P G l m e =
 -- ---- what was handed over, for an answer or for a refusal
 
 module _ {A : Type 0} (o : Outcome A) (next : A → Outcome (List ℕ)) (done : Output) where
-  after_refused : (k n : ℕ) → k ≡ n → refused n ≡ o → Handed (refusal_line k) done → Handed (output_of (and_then o next)) done
-  after_refused k n i e =
-      subst (λ (l : List ℕ). Handed l done) (ap refusal_line i ∙ ap (λ (x : Outcome A). output_of (and_then x next)) e)
+  after_refused : (n : ℕ) → refused n ≡ o → Handed (refusal_line n) done → Handed (output_of (and_then o next)) done
+  after_refused n e =
+      subst (λ (l : List ℕ). Handed l done) (ap (λ (x : Outcome A). output_of (and_then x next)) e)
 
   after_given : (a : A) → given a ≡ o → Handed (output_of (next a)) done → Handed (output_of (and_then o next)) done
   after_given a e = subst (λ (l : List ℕ). Handed l done) (ap (λ (x : Outcome A). output_of (and_then x next)) e)
 
 module _ (a : Line) (done : Output) where
-  pub from_refused : (g k n : ℕ) → k ≡ n → refused n ≡ genesis_outcome a.octave g → Handed (refusal_line k) done
+  pub from_refused : (g n : ℕ) → refused n ≡ genesis_outcome a.octave g → Handed (refusal_line n) done
       → Handed (output_of (shown_from a g)) done
   unfolding shown_from
-  from_refused g k n i e = after_refused (genesis_outcome a.octave g) _ done k n i e
+  from_refused g n e = after_refused (genesis_outcome a.octave g) _ done n e
 
   pub from_given : (g : ℕ) (m : Mos) → given m ≡ genesis_outcome a.octave g → (n : ℕ) → n ≡ length (chain_of a.genchain).letters
       → Handed (shown n m) done → Handed (output_of (shown_from a g)) done
@@ -54,10 +54,10 @@ module _ (a : Line) (done : Output) where
   from_given g m e n i h =
       after_given (genesis_outcome a.octave g) _ done m e (subst (λ (k : ℕ). Handed (shown k m) done) i h)
 
-  pub for_refused : (k n : ℕ) → k ≡ n → refused n ≡ generator_outcome a.genchain a.octave a.tritave → Handed (refusal_line k) done
+  pub for_refused : (n : ℕ) → refused n ≡ generator_outcome a.genchain a.octave a.tritave → Handed (refusal_line n) done
       → Handed (output_of (shown_for a)) done
   unfolding shown_for
-  for_refused k n i e = after_refused (generator_outcome a.genchain a.octave a.tritave) _ done k n i e
+  for_refused n e = after_refused (generator_outcome a.genchain a.octave a.tritave) _ done n e
 
   pub for_given : (g : ℕ) → given g ≡ generator_outcome a.genchain a.octave a.tritave → Handed (output_of (shown_from a g)) done
       → Handed (output_of (shown_for a)) done
@@ -77,22 +77,13 @@ line_is_enough =
       one_line = first_line_is_enough output (λ line after. output_by _ _ (later_bytes_ignored.line_feed_lem line after));
     }
 
-module _ (buffer : List ℕ) (input : Input) (kept : ℕ) (read : LineRead buffer input) (few : kept ≡ input.kept) (done : Output) where
-  for_the_line : Handed (output (take kept buffer)) done → Printed output buffer input done
-  for_the_line h =
-      record {
-        read = read;
-        whole = λ taken. subst (λ (l : List ℕ). Handed l done) (kept_output buffer input kept read few output line_is_enough.eighteen) h;
-      }
-
-  opened : Handed (output_of (and_then (line_outcome (take kept buffer)) shown_for)) done → Handed (output (take kept buffer)) done
+module _ (line : KeptLine) (kept : List ℕ) (is : kept ≡ take line.input.kept line.buffer) (done : Output) where
+  opened : Handed (output_of (and_then (line_outcome kept) shown_for)) done → Printed output line done
   unfolding output
-  opened h = h
+  opened h = printed output line_is_enough line kept is done (λ taken. h)
 
-  pub printed_refused : (k n : ℕ) → k ≡ n → refused n ≡ line_outcome (take kept buffer) → Handed (refusal_line k) done
-      → Printed output buffer input done
-  printed_refused k n i e h = for_the_line (opened (after_refused (line_outcome (take kept buffer)) shown_for done k n i e h))
+  pub printed_refused : (n : ℕ) → refused n ≡ line_outcome kept → Handed (refusal_line n) done → Printed output line done
+  printed_refused n e h = opened (after_refused (line_outcome kept) shown_for done n e h)
 
-  pub printed_given : (a : Line) → given a ≡ line_outcome (take kept buffer) → Handed (output_of (shown_for a)) done
-      → Printed output buffer input done
-  printed_given a e h = for_the_line (opened (after_given (line_outcome (take kept buffer)) shown_for done a e h))
+  pub printed_given : (a : Line) → given a ≡ line_outcome kept → Handed (output_of (shown_for a)) done → Printed output line done
+  printed_given a e h = opened (after_given (line_outcome kept) shown_for done a e h)

@@ -1,8 +1,8 @@
 -- The patterns where the search stands: the lines so far, and what is still to come, are all lines.
+use Rattle.std.specs.Prelude.{Some, is_some}
 use Prim.Native.Nat.{ℕ, ◌≤◌, ◌<◌}
 use native.Mathlib.Omega.{arith}
 use mathlib.Core.Bool.{Bool, true, false}
-use mathlib.Core.Option.{some}
 use mathlib.Core.Path.{◌≡◌, refl, sym, ap, ◌∙◌}
 use mathlib.Core.List.{List, [], ◌∷◌, ◌++◌, append-nil, append_assoc}
 use lib.ListN.{length, length-append}
@@ -13,7 +13,6 @@ use Rattle.text.proofs.Digits.{digits_length}
 use Rattle.mos.specs.declared.Mos.{Mos}
 use Rattle.mos.specs.Patterns.{count_of, child_of, is_pattern}
 use Rattle.mos.specs.Walks.{onward, children}
-use Rattle.mos.specs.Parts.{is_some}
 use Rattle.mos.proofs.Sequences.{children_follow, children_next, children_end, none_of}
 use Rattle.mos.proofs.Descent.{child_at, child_keeps_pattern}
 use Rattle.streams.specs.declared.output.Output.{Output}
@@ -52,7 +51,7 @@ module _ (n : ℕ) where
   childless m h e =
       ap (λ (l : List Mos). pattern_lines (passed n l)) (children_end m (none_of _ e)) ∙ goes n m [] h ∙ append-nil (pattern_line m)
 
-  one_more : (m c : Mos) → count_of m < n → child_of m ≡ some c → Lines m ≡ pattern_line m ++ Lines c
+  one_more : (m c : Mos) → count_of m < n → child_of m ≡ Some c → Lines m ≡ pattern_line m ++ Lines c
   one_more m c h e = ap (λ (l : List Mos). pattern_lines (passed n l)) (children_next m c e) ∙ goes n m (children c) h
 
 -- ---- the loop
@@ -69,7 +68,7 @@ going_start past n genesis p = record { text = []; written = written_none past; 
 module _ (past : Output) (n : ℕ) (genesis : Mos) (done : Output) (pattern : Mos) (g : Going past n genesis done pattern)
     (after : Output) (w : Written done (pattern_line pattern) after)
   where
-    pub going_on : (c : Mos) → count_of pattern < n → child_of pattern ≡ some c → Going past n genesis after c
+    pub going_on : (c : Mos) → count_of pattern < n → child_of pattern ≡ Some c → Going past n genesis after c
     going_on c h e = record {
       text = g.text ++ pattern_line pattern;
       written = written_then g.written w;

@@ -1,6 +1,5 @@
 -- What is printed for a line: each pattern that the search for a layout's pattern stands at, then what it answers (document 02, W-205).
-use Rattle.std.specs.Prelude.{ℕ, true, false, List, [], ◌∷◌, ◌++◌, length, ltb}
-use Rattle.std.proofs.Math.Option.{Option, none, some}
+use Rattle.std.specs.Prelude.{ℕ, true, false, List, [], ◌∷◌, ◌++◌, length, ltb, Option, None, Some}
 use Rattle.answer.specs.Outcome.{Outcome, given, and_then}
 use Rattle.text.specs.Decimal.{digits}
 use Rattle.line.specs.declared.Line.{Line}
@@ -41,8 +40,8 @@ nothing_line = 110 ∷ 111 ∷ 116 ∷ 104 ∷ 105 ∷ 110 ∷ 103 ∷ line_feed
 
 unfoldable pub answer_line : Option Mos → List ℕ
 unfolding pattern_line
-answer_line none = nothing_line
-answer_line (some m) = found_word ++ pattern_line m
+answer_line None = nothing_line
+answer_line (Some m) = found_word ++ pattern_line m
 
 -- What is shown of the search for n steps from a pattern.
 unfoldable pub shown : ℕ → Mos → List ℕ

@@ -10,10 +10,8 @@ ghost use Rattle.std.specs.Prelude.{◌≡◌, true, ◌+◌, ◌≤◌, length}
 ghost use Rattle.text.specs.Writing.{Wrote};
 ghost use Rattle.mos.specs.Patterns.{is_pattern};
 ghost use Rattle.mos.specs.Walks.{children};
-ghost use Rattle.mos_walks.specs.Answers.{found_by};
-ghost use Rattle.line.specs.Refusals.{refusal_line, output_of};
+ghost use Rattle.line.specs.Refusals.{output_of};
 ghost use Rattle.streams.specs.Streams.{Handed, Written};
-ghost use Rattle.streams.specs.Reading.{LineRead};
 ghost use Rattle.streams.specs.Printing.{Printed};
 ghost use Rattle.passed_patterns.specs.Printing.{
   pattern_line,
@@ -26,16 +24,14 @@ ghost use Rattle.passed_patterns.specs.Printing.{
   output,
 };
 
-use answer::NumberAnswer;
 use genchain::rows;
-use line::{Line, LineAnswer};
-use mos::{Mos, MosAnswer};
+use line::Line;
+use mos::Mos;
 use mos_walks::search;
-use mos_walks::search::SearchAnswer;
 use std::io::{Stderr, Stdout};
-use streams::input::Input;
+use streams::lines::KeptLine;
 use streams::output::Output;
-use streams::{input, lines, output, words};
+use streams::{lines, output, refusals, words};
 use text::decimal::put_number_then;
 
 // A pattern's line at a place; the place after it.
@@ -64,6 +60,7 @@ fn print_patterns(past: Output, genesis: Mos, n: u32) -> Output
 {
     let mut pattern = genesis;
     let mut done = past;
+    // the search's own loop, with a line printed at each turn
     while mos::parts::count_of(pattern) < n {
         done = print_pattern(done, pattern);
         if !mos::parts::has_child(pattern) {
@@ -75,12 +72,12 @@ fn print_patterns(past: Output, genesis: Mos, n: u32) -> Output
 }
 
 // What the search answers.
-fn print_answer(past: Output, found: SearchAnswer) -> Output
-    ensures { Written past (answer_line (found_by found)) result }
+fn print_answer(past: Output, found: Option<Mos>) -> Output
+    ensures { Written past (answer_line found) result }
 {
     match found {
-        SearchAnswer::Found(m) => print_pattern(output::write(past, b"found "), m),
-        SearchAnswer::Nothing => output::write(past, b"nothing\n"),
+        Some(m) => print_pattern(output::write(past, b"found "), m),
+        None => output::write(past, b"nothing\n"),
     }
 }
 
@@ -92,24 +89,13 @@ fn print_search(stdout: Stdout, genesis: Mos, n: u32) -> Output
     print_answer(done, search::first_with(genesis, n))
 }
 
-// Writes the line of a refusal, and says that it is one.
-fn print_refusal(stdout: Stdout, stderr: Stderr, number: u16) -> Output
-    ensures { Handed (refusal_line number) result }
-{
-    let mut out = [0u8; 16];
-    let bytes = line::refusals::put_refusal(&mut out, number);
-    let done = output::write_front(output::begin(stdout), &out, bytes);
-    words::say_refused(stderr);
-    done
-}
-
 fn print_from(stdout: Stdout, stderr: Stderr, asked: Line, generator: u16) -> Output
     ensures { Handed (output_of (shown_from asked generator)) result }
 {
     let chain = rows::numbers(asked.genchain);
     match Mos::new_genesis(asked.octave, generator) {
-        MosAnswer::Refused(q) => print_refusal(stdout, stderr, q.number() as u16),
-        MosAnswer::Given(genesis) => print_search(stdout, genesis, chain.num_letters as u32),
+        Err(refusal) => refusals::print_refusal(stdout, stderr, refusal),
+        Ok(genesis) => print_search(stdout, genesis, u32::from(chain.num_letters)),
     }
 }
 
@@ -117,25 +103,23 @@ fn print_asked(stdout: Stdout, stderr: Stderr, asked: Line) -> Output
     ensures { Handed (output_of (shown_for asked)) result }
 {
     match genchain::generator(asked.genchain, asked.octave, asked.tritave) {
-        NumberAnswer::Refused(q) => print_refusal(stdout, stderr, q.number() as u16),
-        NumberAnswer::Given(generator) => print_from(stdout, stderr, asked, generator),
+        Err(refusal) => refusals::print_refusal(stdout, stderr, refusal),
+        Ok(generator) => print_from(stdout, stderr, asked, generator),
     }
 }
 
 // Prints the output for the line that was read.
-fn print(stdout: Stdout, stderr: Stderr, line: &[u8], input: Input) -> Output
-    requires { LineRead line.now input }
-    ensures { Printed output line.now input result }
+fn print(stdout: Stdout, stderr: Stderr, line: &KeptLine) -> Output
+    ensures { Printed output line.now result }
 {
-    match line::parse(&line[..input::kept(input)]) {
-        LineAnswer::Refused(q) => print_refusal(stdout, stderr, q.number() as u16),
-        LineAnswer::Given(asked) => print_asked(stdout, stderr, asked),
+    match line::parse(line.kept()) {
+        Err(refusal) => refusals::print_refusal(stdout, stderr, refusal),
+        Ok(asked) => print_asked(stdout, stderr, asked),
     }
 }
 
 fn main(rt: HostRuntime) {
-    let mut line = [0u8; 18];
-    let input = lines::read_line(rt.stdin(), &mut line);
-    let done = print(rt.stdout(), rt.stderr(), &line, input);
+    let line = lines::read_line(rt.stdin());
+    let done = print(rt.stdout(), rt.stderr(), &line);
     words::say_if_not_written(rt.stderr(), b"passed_patterns", done);
 }

@@ -1,10 +1,14 @@
 -- From the parts to what the calls answer: one law for each way in which a call ends.
 use Prim.Native.Nat.{ℕ, zero, ◌*◌, ◌/◌, ◌≤◌, ◌<◌}
+use lib.Dec.{leb, ltb}
+use mathlib.Core.Bool.{Bool, true, false}
+use native.Mathlib.Omega.{arith}
 use mathlib.Core.Path.{◌≡◌, sym, ap, ap₂, ◌∙◌}
 use lib.IntN.{ℤ, pos}
 use native.Mathlib.Nat.{pos_of_ne-zero, mod-lt, mul-le-mul}
-use Rattle.answer.specs.Outcome.{Outcome, given, refused}
-use Rattle.answer.proofs.Questions.{ask_none, ask_some, ask_above, ask_below}
+use Rattle.answer.specs.Outcome.{Outcome, given, refused, ask}
+use Rattle.answer.proofs.Asked.{refused_same}
+use Rattle.answer.proofs.Questions.{ask_none, ask_least, ask_below}
 use Rattle.math.specs.Gcd.{gcd_or_one}
 use Rattle.math.proofs.Gcd.{gcd_or_one_lem, gcd_positive}
 use Rattle.math.specs.Division.{remainder}
@@ -18,7 +22,7 @@ use Rattle.pergen.specs.declared.AccidentalsFormat.{AccidentalsFormat}
 use Rattle.pergen.specs.declared.Accidentals.{Accidentals}
 use Rattle.pergen.specs.declared.Spelling.{Spelling}
 use Rattle.pergen.specs.declared.euclid.Solved.{Solved}
-use Rattle.pergen.proofs.Inverse.{cycles_positive, reduced_positive}
+use Rattle.pergen.proofs.Inverse.{reduced_positive}
 use Rattle.pergen.proofs.Keys.{keys_from_zero_on}
 
 -- ---- question 2, for each call
@@ -41,77 +45,69 @@ module _ (p : PerGen) where
     unfolding get_sounded_key
     no_key f s = sym (ask_none 2 p.period _ none)
 
-  module _ (some : p.period ≡ 0 → ⊥) where
+  module _ (some : 0 < p.period) where
     pub number_given : (number m : ℕ) → m ≡ number → given m ≡ of_pergen p number
     unfolding of_pergen
-    number_given number m e = ap given e ∙ sym (ask_some 2 p.period _ some)
+    number_given number m e = ap given e ∙ sym (ask_least 2 p.period _ some)
 
     pub generation_given : (key : ℤ) (g : Generation) → g ≡ generation_of p.period p.generator key → given g ≡ get_generation p key
     unfolding get_generation
-    generation_given key g e = ap given e ∙ sym (ask_some 2 p.period _ some)
+    generation_given key g e = ap given e ∙ sym (ask_least 2 p.period _ some)
 
 pub new_refused : (period generator : ℕ) → period ≡ 0 → refused 2 ≡ new_outcome period generator
 unfolding new_outcome
 new_refused period generator none = sym (ask_none 2 period _ none)
 
-pub new_given : (period generator : ℕ) → (period ≡ 0 → ⊥) → given (record { period = period; generator = generator }) ≡ new_outcome period generator
+pub new_given : (period generator : ℕ) → 0 < period → given (record { period = period; generator = generator }) ≡ new_outcome period generator
 unfolding new_outcome
-new_given period generator some = sym (ask_some 2 period _ some)
+new_given period generator some = sym (ask_least 2 period _ some)
 
 -- ---- questions 5 and 6
 
-no_symbols : {A : Type 0} (f : AccidentalsFormat) (rest : Outcome A) → f.num_symbols ≡ 0 → ask_format f rest ≡ refused 5
-no_symbols f rest none = ask_none 5 f.num_symbols _ none
+both_refuse : {A : Type 0} (a b : Bool) (rest : Outcome A) (n : ℕ) → refused n ≡ ask 5 a (ask 6 b (given (tt {0}))) → refused n ≡ ask 5 a (ask 6 b rest)
+both_refuse true true rest n e = let z : ◌≡◌ {A = ℕ} 0 1 = cc in absurd (omega arith)
+both_refuse true false rest n e = refused_same e
+both_refuse false b rest n e = refused_same e
 
-no_origin : {A : Type 0} (f : AccidentalsFormat) (rest : Outcome A) → (f.num_symbols ≡ 0 → ⊥) → f.num_symbols ≤ f.genchain_origin → ask_format f rest ≡ refused 6
-no_origin f rest some h = ask_some 5 f.num_symbols _ some ∙ ask_above 6 _ _ rest h
+bad_format : {A : Type 0} (f : AccidentalsFormat) (rest : Outcome A) (n : ℕ) → refused n ≡ ask_format f (given (tt {0})) → refused n ≡ ask_format f rest
+bad_format f rest n e = both_refuse (leb 1 f.num_symbols) (ltb f.genchain_origin f.num_symbols) rest n e
 
-good_format : {A : Type 0} (f : AccidentalsFormat) (rest : Outcome A) → (f.num_symbols ≡ 0 → ⊥) → f.genchain_origin < f.num_symbols → ask_format f rest ≡ rest
-good_format f rest some h = ask_some 5 f.num_symbols _ some ∙ ask_below 6 _ _ rest h
+good_format : {A : Type 0} (f : AccidentalsFormat) (rest : Outcome A) → f.genchain_origin < f.num_symbols → ask_format f rest ≡ rest
+good_format f rest h = ask_least 5 f.num_symbols _ (omega arith) ∙ ask_below 6 _ _ rest h
 
-module _ (p : PerGen) (f : AccidentalsFormat) (some : p.period ≡ 0 → ⊥) where
-  pub accidentals_no_symbols : (key : ℤ) → f.num_symbols ≡ 0 → refused 5 ≡ get_accidentals p f key
+module _ (p : PerGen) (f : AccidentalsFormat) (some : 0 < p.period) where
+  pub accidentals_refused : (key : ℤ) (n : ℕ) → refused n ≡ ask_format f (given (tt {0})) → refused n ≡ get_accidentals p f key
   unfolding get_accidentals
-  accidentals_no_symbols key none = sym (ask_some 2 p.period _ some ∙ no_symbols f _ none)
+  accidentals_refused key n e = bad_format f _ n e ∙ sym (ask_least 2 p.period _ some)
 
-  pub key_no_symbols : (s : Spelling) → f.num_symbols ≡ 0 → refused 5 ≡ get_sounded_key p f s
+  pub key_refused : (s : Spelling) (n : ℕ) → refused n ≡ ask_format f (given (tt {0})) → refused n ≡ get_sounded_key p f s
   unfolding get_sounded_key
-  key_no_symbols s none = sym (ask_some 2 p.period _ some ∙ no_symbols f _ none)
+  key_refused s n e = bad_format f _ n e ∙ sym (ask_least 2 p.period _ some)
 
-  module _ (symbols : f.num_symbols ≡ 0 → ⊥) where
-    pub accidentals_no_origin : (key : ℤ) → f.num_symbols ≤ f.genchain_origin → refused 6 ≡ get_accidentals p f key
+  module _ (origin : f.genchain_origin < f.num_symbols) where
+    pub accidentals_given : (key : ℤ) (a : Accidentals)
+        → a ≡ key_accidentals p.period p.generator f.num_symbols f.genchain_origin key → given a ≡ get_accidentals p f key
     unfolding get_accidentals
-    accidentals_no_origin key h = sym (ask_some 2 p.period _ some ∙ no_origin f _ symbols h)
+    accidentals_given key a e = ap given e ∙ sym (ask_least 2 p.period _ some ∙ good_format f _ origin)
 
-    pub key_no_origin : (s : Spelling) → f.num_symbols ≤ f.genchain_origin → refused 6 ≡ get_sounded_key p f s
+    pub key_given : (s : Spelling) (k : ℕ) → k ≡ sounded_key p.period p.generator f.num_symbols f.genchain_origin s
+        → given k ≡ get_sounded_key p f s
     unfolding get_sounded_key
-    key_no_origin s h = sym (ask_some 2 p.period _ some ∙ no_origin f _ symbols h)
+    key_given s k e = ap given e ∙ sym (ask_least 2 p.period _ some ∙ good_format f _ origin)
 
-    module _ (origin : f.genchain_origin < f.num_symbols) where
-      pub accidentals_given : (key : ℤ) (a : Accidentals)
-          → a ≡ key_accidentals p.period p.generator f.num_symbols f.genchain_origin key → given a ≡ get_accidentals p f key
-      unfolding get_accidentals
-      accidentals_given key a e = ap given e ∙ sym (ask_some 2 p.period _ some ∙ good_format f _ symbols origin)
-
-      pub key_given : (s : Spelling) (k : ℕ) → k ≡ sounded_key p.period p.generator f.num_symbols f.genchain_origin s
-          → given k ≡ get_sounded_key p f s
-      unfolding get_sounded_key
-      key_given s k e = ap given e ∙ sym (ask_some 2 p.period _ some ∙ good_format f _ symbols origin)
-
-pub place_no_symbols : (f : AccidentalsFormat) (s : Spelling) → f.num_symbols ≡ 0 → refused 5 ≡ get_place f s
+pub place_refused : (f : AccidentalsFormat) (s : Spelling) (n : ℕ) → refused n ≡ ask_format f (given (tt {0})) → refused n ≡ get_place f s
 unfolding get_place
-place_no_symbols f s none = sym (no_symbols f _ none)
+place_refused f s n e = bad_format f _ n e
 
-pub place_no_origin : (f : AccidentalsFormat) (s : Spelling) → (f.num_symbols ≡ 0 → ⊥) → f.num_symbols ≤ f.genchain_origin → refused 6 ≡ get_place f s
-unfolding get_place
-place_no_origin f s some h = sym (no_origin f _ some h)
-
-pub place_given : (f : AccidentalsFormat) (s : Spelling) (z : ℤ) → (f.num_symbols ≡ 0 → ⊥) → f.genchain_origin < f.num_symbols
+pub place_given : (f : AccidentalsFormat) (s : Spelling) (z : ℤ) → f.genchain_origin < f.num_symbols
     → z ≡ place f.num_symbols f.genchain_origin s → given z ≡ get_place f s
 unfolding get_place
-place_given f s z some h e = ap given e ∙ sym (good_format f _ some h)
+place_given f s z h e = ap given e ∙ sym (good_format f _ h)
 
 -- ---- the numbers of a pergen
+
+pub some_period : {P : ℕ} → 0 < P → P ≡ 0 → ⊥
+some_period h e = omega arith
 
 pub cycles_found : (P G n : ℕ) → (P ≡ 0 → ⊥) → n ≡ gcd_or_one P G → n ≡ cycles P G
 unfolding cycles
@@ -127,10 +123,6 @@ pub product_fits : (a b : ℕ) → a ≤ 65535 → b ≤ 65535 → a * b ≤ 655
 product_fits a b h k = mul-le-mul {n₂ = 65535} {m₂ = 65535} h k
 
 module _ (P G : ℕ) (s : Solved) (is : s ≡ solved_of P G) where
-  pub solved_cycles : zero < P → zero < s.num_cycles
-  unfolding solved_of
-  solved_cycles hP = rw is (cycles_positive P G hP)
-
   pub solved_keys : zero < P → zero < s.reduced_period
   unfolding solved_of
   solved_keys hP = rw is (reduced_positive P G hP)

@@ -1,18 +1,20 @@
 -- The walk from key to key: one key on, the cycle goes up by one, or falls to 0 and the degree goes on by the inverse.
+use Rattle.std.specs.Prelude.{None, Option, Some}
 use Prim.Native.Nat.{ℕ, ◌+◌, ◌*◌, ◌-◌, ◌/◌, ◌%◌, ◌≤◌, ◌<◌}
-use mathlib.Core.Path.{◌≡◌, sym, ap, ap₂, subst, ◌∙◌}
+use lib.Dec.{ltb}
+use mathlib.Core.Bool.{Bool, true, false}
+use mathlib.Core.Path.{◌≡◌, refl, sym, ap, ap₂, subst, ◌∙◌}
 use lib.IntN.{ℤ}
-use borrow.Author.Tests.{lt-ltb, le-ltb}
+use Rattle.std.specs.Bool.{then_some}
+use Rattle.answer.specs.Choice.{pick}
 use lib.Arith.{digits_div, digits_mod, digits_lt}
-use native.Mathlib.Nat.{mod-lt, mod-add-mod, mod-eq_of_lt, mod-eq-sub-mod, mul-add, mul-one, mul_comm, mul_assoc, zero-div, zero-mod, mul-zero, div-add-mod', div-lt_iff_lt-mul, mod-mod}
+use native.Mathlib.Nat.{mod-lt, mod-add-mod, mod-eq_of_lt, mod-eq-sub-mod, mul-add, mul-one, mul_comm, mul_assoc, zero-mod, mul-zero, div-add-mod', div-lt_iff_lt-mul, mod-mod}
 use native.Mathlib.Omega.{arith}
 use Rattle.math.specs.Division.{remainder}
 use Rattle.math.proofs.Division.{remainder_below}
 use Rattle.math.proofs.Congruence.{mul_cong}
-use Rattle.pergen.specs.Pergen.{cycles, reduced, inverse, degree, cycle}
+use Rattle.pergen.specs.Pergen.{cycles, reduced, inverse, degree, cycle, shown}
 use Rattle.pergen.specs.Parts.{solved_of, Walkable, At, generation_from}
-use Rattle.pergen.specs.declared.Cycle.{Cycle}
-use Rattle.pergen.specs.declared.Cycle.TheVariants.{Absent, Number}
 use Rattle.pergen.specs.declared.Generation.{Generation}
 use Rattle.pergen.specs.declared.euclid.Solved.{Solved}
 use Rattle.pergen.specs.declared.stepping.Key.{Key}
@@ -71,13 +73,6 @@ module _ (s : Solved) (w : Walkable s) where
   abbrev x : ℕ
   x = s.generator_inverse
 
-  pub at_first : At s (record { number = 0; degree = 0; cycle = 0 })
-  at_first =
-      record {
-        degree_is = degree_start x R ∙ ap (λ (y : ℕ). x * y % R) (sym (zero-div n));
-        cycle_is = sym (zero-mod n);
-      }
-
   -- found by its number
   module _ (i turn : ℕ) (turned : turn ≡ i / n) where
     left_is : i - turn * n ≡ i % n
@@ -132,20 +127,20 @@ module _ (s : Solved) (w : Walkable s) where
         }
 
 -- degree and cycle as names have them
+then_picks : (b : Bool) (x : ℕ) → then_some b x ≡ pick b (Some x) None
+then_picks true x = refl
+then_picks false x = refl
+
 module _ (s : Solved) (k : Key) (at : At s k) where
-  abbrev made : Cycle → Generation
+  abbrev made : Option ℕ → Generation
   made c = record { cycle = c; degree = k.degree }
 
-  pub several_cycles : 1 < s.num_cycles → made (Number k.cycle) ≡ generation_from s k.number
+  pub shown_cycle : (c : Option ℕ) → c ≡ then_some (ltb 1 s.num_cycles) k.cycle → made c ≡ generation_from s k.number
   unfolding generation_from
-  several_cycles h =
-      ap₂ (λ (c d : ℕ). record { cycle = Number c; degree = d }) at.cycle_is at.degree_is
-      ∙ rw (lt-ltb 1 s.num_cycles h)
-
-  pub one_cycle : s.num_cycles ≤ 1 → made Absent ≡ generation_from s k.number
-  unfolding generation_from
-  one_cycle h =
-      ap (λ (d : ℕ). record { cycle = Absent; degree = d }) at.degree_is ∙ rw (le-ltb 1 s.num_cycles h)
+  shown_cycle c e =
+      ap₂ (λ (o : Option ℕ) (d : ℕ). record { cycle = o; degree = d })
+      (e ∙ then_picks (ltb 1 s.num_cycles) k.cycle ∙ ap (λ (x : ℕ). shown s.num_cycles x) at.cycle_is)
+      at.degree_is
 
 -- ---- of a period and a generator
 

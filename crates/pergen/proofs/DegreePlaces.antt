@@ -1,4 +1,5 @@
 -- The sharp and the flat spelling of a key stand at places that differ from its degree by a multiple of R, so they sound it.
+use Rattle.std.specs.Prelude.{None, Option, Some}
 use Prim.Native.Nat.{ℕ, zero, ◌+◌, ◌*◌, ◌-◌, ◌/◌, ◌%◌, ◌≤◌, ◌<◌}
 use mathlib.Core.Path.{◌≡◌, refl, sym, ap, subst, ◌∙◌}
 use mathlib.Core.Bool.{Bool, true, false}
@@ -13,8 +14,6 @@ use Rattle.math.specs.Division.{remainder, Apart}
 use Rattle.math.proofs.Congruence.{add_cong, add_cancel}
 use Rattle.math.proofs.Integers.{Rep, rep_pos, rep_neg, rep_add, rep_minus, rep_mul}
 use Rattle.math.proofs.Division.{remainder_rep, remainders_agree, remainder→apart}
-use Rattle.pergen.specs.declared.Cycle.{Cycle}
-use Rattle.pergen.specs.declared.Cycle.TheVariants.{Absent, Number}
 use Rattle.pergen.specs.declared.Accidentals.{Accidentals}
 use Rattle.pergen.specs.declared.Signs.TheVariants.{Sharps, Flats}
 use Rattle.pergen.specs.declared.Spelling.{Spelling}
@@ -39,7 +38,7 @@ place_flats N o index k stars =
 
 -- ---- the spellings of a degree e below R, of an origin o below N
 
-module _ (R N o e : ℕ) (c : Cycle) (ho : o < N) (he : e < R) where
+module _ (R N o e : ℕ) (c : Option ℕ) (ho : o < N) (he : e < R) where
   abbrev spelt : Accidentals
   spelt = accidentals_of R N o e c
 
@@ -140,14 +139,14 @@ unfolding cycle_of key_cycle cycle
 stars_of_key P G key hP = by (ltb 1 (cycles P G)) refl
   where
     by : (b : Bool) → ltb 1 (cycles P G) ≡ b
-        → stars_of (pick b (Number (remainder key P % cycles P G)) Absent) ≡ remainder key P % cycles P G
+        → stars_of (pick b (Some (remainder key P % cycles P G)) None) ≡ remainder key P % cycles P G
     by true q = refl
     by false q = sym (ap (λ (n : ℕ). remainder key P % n) (one (ltb-false 1 (cycles P G) q)) ∙ mod-one (remainder key P))
       where
         one : cycles P G ≤ 1 → cycles P G ≡ 1
         one h = omega (arith, cycles_positive P G hP)
 
-pub cycle_kept : (R N o e : ℕ) (c : Cycle) → (accidentals_of R N o e c).cycle ≡ c
+pub cycle_kept : (R N o e : ℕ) (c : Option ℕ) → (accidentals_of R N o e c).cycle ≡ c
 unfolding accidentals_of by_coordinates by_indices
 cycle_kept R N o e c = by (leb N R)
   where
@@ -188,7 +187,7 @@ accidentals_sound_their_key P G N o key hP ho =
 
 -- ---- a letter without signs: the coordinates sum to N − 1 modulo R, and both are below N
 
-module _ (R N o e : ℕ) (c : Cycle) (ho : o < N) (he : e < R) (h : N ≤ R) where
+module _ (R N o e : ℕ) (c : Option ℕ) (ho : o < N) (he : e < R) (h : N ≤ R) where
   sum_is : (x y : ℕ) → x ≡ sharp_coordinate R (o + e) → y ≡ flat_coordinate R N (o + e) → (x + y + 1) % R ≡ N % R
   unfolding sharp_coordinate
   sum_is x y ex ey =

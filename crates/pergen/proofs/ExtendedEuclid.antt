@@ -135,20 +135,6 @@ module _ (p g r₀ r₁ c₀ c₁ : ℕ) (negative : Bool) (s : Going p g r₀ r
 
 -- ---- `solve`, from what was found
 
--- a number up to the divisor has itself as its remainder, or 0
-pub remainder_stays : (x R : ℕ) → x ≤ R → (x ≡ R → ⊥) → x ≡ x % R
-remainder_stays x R h n = sym (mod-eq_of_lt (omega (arith, h, n)))
-
-pub remainder_wraps : (x R : ℕ) → x ≡ R → 0 ≡ x % R
-remainder_wraps x R e = sym (ap (λ (z : ℕ). z % R) e ∙ mod_self R)
-
-module _ (b : Bezout) where
-  pub turned_back : b.negative ≡ true → (r : ℕ) → r ≡ (b.cofactor - b.coefficient) % b.cofactor → r ≡ forward b % b.cofactor
-  turned_back t r e = simp t e
-
-  pub turned_on : b.negative ≡ false → (r : ℕ) → r ≡ b.coefficient % b.cofactor → r ≡ forward b % b.cofactor
-  turned_on t r e = simp t e
-
 module _ (P G : ℕ) (hP : 0 < P) (b : Bezout) (f : BezoutOf P G b) where
   divisor_is : b.gcd ≡ cycles P G
   unfolding cycles

@@ -1,6 +1,7 @@
 -- Fewest sharps, fewest flats. A spelling with k sharps stands at index + N × k from the first symbol, which is the sharp coordinate modulo
 -- R, so at least it; one with k flats stands, counted from the last symbol down, at N − 1 − index + N × k, at least the flat coordinate.
 -- Less than N ≤ R above the coordinate there is only the coordinate itself, so a spelling with no more signs has its index.
+use Rattle.std.specs.Prelude.{Option}
 use Prim.Native.Nat.{ℕ, zero, suc, ◌+◌, ◌*◌, ◌-◌, ◌/◌, ◌%◌, ◌≤◌, ◌<◌}
 use mathlib.Core.Path.{◌≡◌, refl, sym, ap, subst, ◌∙◌}
 use native.Mathlib.Nat.{mod-le, mod-eq_of_lt, mod-add-div, div-add-mod', add_comm, add-zero, mul_comm, suc-mul, zero-mul, div-lt_iff_lt-mul}
@@ -11,7 +12,6 @@ use Rattle.math.proofs.Congruence.{add_cong, add_cancel}
 use Rattle.math.proofs.Integers.{rep_pos}
 use Rattle.math.proofs.Division.{remainders_agree, apart→remainder}
 use Rattle.pergen.specs.declared.Accidentals.{Accidentals}
-use Rattle.pergen.specs.declared.Cycle.{Cycle}
 use Rattle.pergen.specs.declared.Signs.TheVariants.{Sharps, Flats}
 use Rattle.pergen.specs.Pergen.{reduced, key_degree, cycle_of}
 use Rattle.pergen.specs.Spelling.{sharp_coordinate, flat_coordinate, by_coordinates, key_accidentals, place}
@@ -57,7 +57,7 @@ module _ (R N i k x : ℕ) (hi : i < N) (e : (i + N * k) % R ≡ x) where
 
 -- ---- of a degree
 
-module _ (R N o e : ℕ) (c : Cycle) (ho : o < N) (he : e < R) where
+module _ (R N o e : ℕ) (c : Option ℕ) (ho : o < N) (he : e < R) where
   some : 0 < R
   some = omega arith
 

@@ -1,17 +1,17 @@
 -- Coordinates and indices: what one comparison gives, and that all numbers are small enough for their types.
+use Rattle.std.specs.Prelude.{Option}
 use Prim.Native.Nat.{ℕ, zero, suc, ◌+◌, ◌-◌, ◌%◌, ◌≤◌, ◌<◌}
 use mathlib.Core.Path.{◌≡◌, refl, sym, ap, ◌∙◌}
 use mathlib.Core.Bool.{Bool, true, false}
 use lib.Dec.{ltb, leb, eqb}
 use lib.IntN.{ℤ, pos, negsuc, ◌-ℤ◌}
-use borrow.Author.Tests.{lt-ltb, le-ltb, le-leb, lt-leb, eq-eqb, ne_eqb, eqb-true, ltb-true, ltb-false, leb-true, leb-false}
-use native.Mathlib.Nat.{mod-lt, mod-eq_of_lt, mod-eq-sub-mod}
+use borrow.Author.Tests.{le-leb, lt-leb, eqb-true, ltb-true, ltb-false, leb-true, leb-false}
+use native.Mathlib.Nat.{mod-lt, mod-eq_of_lt}
 use native.Mathlib.Omega.{arith}
 use Rattle.answer.specs.Choice.{pick}
 use Rattle.math.specs.Division.{remainder}
 use Rattle.math.proofs.Integers.{Rep, rep_self, rep_pos, rep_minus, rep_agree}
 use Rattle.math.proofs.Division.{remainder_below}
-use Rattle.pergen.specs.declared.Cycle.{Cycle}
 use Rattle.pergen.specs.Spelling.{sharp_coordinate, flat_coordinate, by_coordinates, low_sharp_index, low_flat_index, by_indices, accidentals_of}
 
 -- ---- R at least N
@@ -19,10 +19,6 @@ use Rattle.pergen.specs.Spelling.{sharp_coordinate, flat_coordinate, by_coordina
 pub sharp_first_lem : (R d : ℕ) → d < R → d ≡ sharp_coordinate R d
 unfolding sharp_coordinate
 sharp_first_lem R d h = sym (mod-eq_of_lt h)
-
-pub sharp_second : (R d : ℕ) → R ≤ d → d < R + R → d - R ≡ sharp_coordinate R d
-unfolding sharp_coordinate
-sharp_second R d h k = sym (mod-eq-sub-mod h ∙ mod-eq_of_lt (let q : d - R < R = omega arith in q))
 
 -- N − 1 − d, for either sign
 pub flat_rep : (N d : ℕ) → Rep (pos N -ℤ pos 1 -ℤ pos d) (N + 0 + 0) (0 + 1 + d)
@@ -54,26 +50,6 @@ flat_below R N d h = remainder_below (pos N -ℤ pos 1 -ℤ pos d) R h
 
 -- ---- R below N
 
-pub low_sharp_kept : (R N d : ℕ) → d < N → d ≡ low_sharp_index R N d
-unfolding low_sharp_index
-low_sharp_kept R N d h = simp (lt-leb N d h)
-
-pub low_sharp_less : (R N d : ℕ) → N ≤ d → d - R ≡ low_sharp_index R N d
-unfolding low_sharp_index
-low_sharp_less R N d h = simp (le-leb N d h)
-
-pub low_flat_origin : (R d e : ℕ) → e ≡ 0 → d ≡ low_flat_index R d e
-unfolding low_flat_index
-low_flat_origin R d e z = simp (eq-eqb e 0 z)
-
-pub low_flat_kept : (R d e : ℕ) → (e ≡ 0 → ⊥) → d < R → d ≡ low_flat_index R d e
-unfolding low_flat_index
-low_flat_kept R d e z h = simp (ne_eqb e 0 z, lt-ltb d R h)
-
-pub low_flat_less : (R d e : ℕ) → (e ≡ 0 → ⊥) → R ≤ d → d - R ≡ low_flat_index R d e
-unfolding low_flat_index
-low_flat_less R d e z h = simp (ne_eqb e 0 z, le-ltb d R h)
-
 -- the index is d or d − R, and below N
 pub record LowIndex (R N d x : ℕ) : Type 0 where
   pub near : (b : Bool) × (x ≡ pick b (d - R) d) × (pick b R 0 ≤ d)
@@ -100,7 +76,7 @@ low_flat R N o e ho he h = go (eqb e 0) (ltb (o + e) R) refl refl
 
 -- ---- both branches, for the code
 
-module _ (R N o e : ℕ) (c : Cycle) where
+module _ (R N o e : ℕ) (c : Option ℕ) where
   pub accidentals_low : R < N → (x y : ℕ) → x ≡ low_sharp_index R N (o + e) → y ≡ low_flat_index R (o + e) e → by_indices c x y ≡ accidentals_of R N o e c
   unfolding accidentals_of
   accidentals_low h x y p q = rw (p, q, lt-leb N R h)

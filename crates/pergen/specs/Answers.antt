@@ -1,22 +1,13 @@
 -- What the calls answer: the questions of document 01 that concern them, in rising order, then the value.
 use Rattle.std.specs.Prelude.{ℕ, ℤ, leb, ltb}
-use Rattle.answer.specs.Outcome.{Outcome, given, refused, ask}
-use Rattle.answer.specs.Refusals.{number_of}
+use Rattle.answer.specs.Outcome.{Outcome, given, ask}
 use Rattle.pergen.specs.Pergen.{generation_of}
 use Rattle.pergen.specs.Spelling.{key_accidentals, place, sounded_key}
 use Rattle.pergen.specs.declared.PerGen.{PerGen}
-use Rattle.pergen.specs.declared.PerGenAnswer.{PerGenAnswer}
-use Rattle.pergen.specs.declared.PerGenAnswer.TheVariants as PerGenAnswer
 use Rattle.pergen.specs.declared.Generation.{Generation}
-use Rattle.pergen.specs.declared.GenerationAnswer.{GenerationAnswer}
-use Rattle.pergen.specs.declared.GenerationAnswer.TheVariants as GenerationAnswer
 use Rattle.pergen.specs.declared.AccidentalsFormat.{AccidentalsFormat}
 use Rattle.pergen.specs.declared.Accidentals.{Accidentals}
-use Rattle.pergen.specs.declared.AccidentalsAnswer.{AccidentalsAnswer}
-use Rattle.pergen.specs.declared.AccidentalsAnswer.TheVariants as AccidentalsAnswer
 use Rattle.pergen.specs.declared.Spelling.{Spelling}
-use Rattle.pergen.specs.declared.PlaceAnswer.{PlaceAnswer}
-use Rattle.pergen.specs.declared.PlaceAnswer.TheVariants as PlaceAnswer
 
 -- 2. Is the period at least 1?
 abbrev pub ask_period : {A : Type 0} → PerGen → Outcome A → Outcome A
@@ -53,20 +44,3 @@ unfoldable pub get_sounded_key : PerGen → AccidentalsFormat → Spelling → O
 unfolding sounded_key
 get_sounded_key p f s =
     ask_period p (ask_format f (given (sounded_key p.period p.generator f.num_symbols f.genchain_origin s)))
-
--- What each answer means.
-abbrev pub pergen_outcome : PerGenAnswer → Outcome PerGen
-pergen_outcome (PerGenAnswer.Given p) = given p
-pergen_outcome (PerGenAnswer.Refused q) = refused (number_of q)
-
-abbrev pub generation_outcome : GenerationAnswer → Outcome Generation
-generation_outcome (GenerationAnswer.Given g) = given g
-generation_outcome (GenerationAnswer.Refused q) = refused (number_of q)
-
-abbrev pub accidentals_outcome : AccidentalsAnswer → Outcome Accidentals
-accidentals_outcome (AccidentalsAnswer.Given a) = given a
-accidentals_outcome (AccidentalsAnswer.Refused q) = refused (number_of q)
-
-abbrev pub place_outcome : PlaceAnswer → Outcome ℤ
-place_outcome (PlaceAnswer.Given z) = given z
-place_outcome (PlaceAnswer.Refused q) = refused (number_of q)

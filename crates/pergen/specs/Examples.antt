@@ -1,11 +1,9 @@
 -- Worked examples of the definitions: inputs and answers, and one theorem that each definition gives its column.
-use Rattle.std.specs.Prelude.{◌≡◌, List, [], ◌∷◌, map, ℕ, ℤ, pos, negsuc}
+use Rattle.std.specs.Prelude.{◌≡◌, List, [], ◌∷◌, map, ℕ, ℤ, pos, negsuc, None, Option, Some}
 use Rattle.answer.specs.Outcome.{Outcome, given, refused}
 use Rattle.pergen.specs.Pergen.{cycles, reduced, inverse}
 use Rattle.pergen.specs.Answers.{new_outcome, get_generation, get_accidentals, get_place, get_sounded_key}
 use Rattle.pergen.specs.declared.PerGen.{PerGen}
-use Rattle.pergen.specs.declared.Cycle.{Cycle}
-use Rattle.pergen.specs.declared.Cycle.TheVariants.{Absent, Number}
 use Rattle.pergen.specs.declared.Generation.{Generation}
 use Rattle.pergen.specs.declared.AccidentalsFormat.{AccidentalsFormat}
 use Rattle.pergen.specs.declared.Accidentals.{Accidentals}
@@ -44,7 +42,7 @@ pergen P G = record { period = P; generator = G }
 abbrev pub format : ℕ → ℕ → AccidentalsFormat
 format N o = record { num_symbols = N; genchain_origin = o }
 
-abbrev pub spelt : Cycle → ℕ → ℕ → ℕ → ℕ → Accidentals
+abbrev pub spelt : Option ℕ → ℕ → ℕ → ℕ → ℕ → Accidentals
 spelt c si sc fi fc =
     record { cycle = c; sharp_index = si; sharp_count = sc; flat_index = fi; flat_count = fc }
 
@@ -58,30 +56,30 @@ pub record KeyExample : Type 0 where
 abbrev pub key_examples : List KeyExample
 key_examples =
     -- document 01: "period 5, generator 3, 7 symbols, origin 3: key 1 has indices 5 and 0; key 2 has 2 and 2"
-    record { pergen = pergen 5 3; format = format 7 3; key = pos 1; generation = given (record { cycle = Absent; degree = 2 }); accidentals = given (spelt Absent 5 0 0 0) }
-    ∷ record { pergen = pergen 5 3; format = format 7 3; key = pos 2; generation = given (record { cycle = Absent; degree = 4 }); accidentals = given (spelt Absent 2 0 2 0) }
+    record { pergen = pergen 5 3; format = format 7 3; key = pos 1; generation = given (record { cycle = None; degree = 2 }); accidentals = given (spelt None 5 0 0 0) }
+    ∷ record { pergen = pergen 5 3; format = format 7 3; key = pos 2; generation = given (record { cycle = None; degree = 4 }); accidentals = given (spelt None 2 0 2 0) }
     -- the same without a shift: key 0, and the last key before the octave
-    ∷ record { pergen = pergen 5 3; format = format 7 3; key = pos 0; generation = given (record { cycle = Absent; degree = 0 }); accidentals = given (spelt Absent 3 0 3 0) }
-    ∷ record { pergen = pergen 5 3; format = format 7 3; key = pos 4; generation = given (record { cycle = Absent; degree = 3 }); accidentals = given (spelt Absent 6 0 1 0) }
+    ∷ record { pergen = pergen 5 3; format = format 7 3; key = pos 0; generation = given (record { cycle = None; degree = 0 }); accidentals = given (spelt None 3 0 3 0) }
+    ∷ record { pergen = pergen 5 3; format = format 7 3; key = pos 4; generation = given (record { cycle = None; degree = 3 }); accidentals = given (spelt None 6 0 1 0) }
     -- seven letters in twelve keys: key 1 is D# or Eb, key 2 is E
-    ∷ record { pergen = pergen 12 7; format = format 7 3; key = pos 1; generation = given (record { cycle = Absent; degree = 7 }); accidentals = given (spelt Absent 3 1 5 1) }
-    ∷ record { pergen = pergen 12 7; format = format 7 3; key = pos 2; generation = given (record { cycle = Absent; degree = 2 }); accidentals = given (spelt Absent 5 0 5 0) }
+    ∷ record { pergen = pergen 12 7; format = format 7 3; key = pos 1; generation = given (record { cycle = None; degree = 7 }); accidentals = given (spelt None 3 1 5 1) }
+    ∷ record { pergen = pergen 12 7; format = format 7 3; key = pos 2; generation = given (record { cycle = None; degree = 2 }); accidentals = given (spelt None 5 0 5 0) }
     -- two cycles: keys 2 and 3 are both (D#/Eb), the second with a star
-    ∷ record { pergen = pergen 24 14; format = format 7 3; key = pos 2; generation = given (record { cycle = Number 0; degree = 7 }); accidentals = given (spelt (Number 0) 3 1 5 1) }
-    ∷ record { pergen = pergen 24 14; format = format 7 3; key = pos 3; generation = given (record { cycle = Number 1; degree = 7 }); accidentals = given (spelt (Number 1) 3 1 5 1) }
+    ∷ record { pergen = pergen 24 14; format = format 7 3; key = pos 2; generation = given (record { cycle = Some 0; degree = 7 }); accidentals = given (spelt (Some 0) 3 1 5 1) }
+    ∷ record { pergen = pergen 24 14; format = format 7 3; key = pos 3; generation = given (record { cycle = Some 1; degree = 7 }); accidentals = given (spelt (Some 1) 3 1 5 1) }
     -- below 0 (`negsuc k` is −1 − k): −1 is key 11 of twelve, C# or Db; −12 is key 0; −1 of two cycles is key 23, −24 is key 0
-    ∷ record { pergen = pergen 12 7; format = format 7 3; key = negsuc 0; generation = given (record { cycle = Absent; degree = 5 }); accidentals = given (spelt Absent 1 1 3 1) }
-    ∷ record { pergen = pergen 12 7; format = format 7 3; key = negsuc 11; generation = given (record { cycle = Absent; degree = 0 }); accidentals = given (spelt Absent 3 0 3 0) }
-    ∷ record { pergen = pergen 24 14; format = format 7 3; key = negsuc 0; generation = given (record { cycle = Number 1; degree = 5 }); accidentals = given (spelt (Number 1) 1 1 3 1) }
-    ∷ record { pergen = pergen 24 14; format = format 7 3; key = negsuc 23; generation = given (record { cycle = Number 0; degree = 0 }); accidentals = given (spelt (Number 0) 3 0 3 0) }
+    ∷ record { pergen = pergen 12 7; format = format 7 3; key = negsuc 0; generation = given (record { cycle = None; degree = 5 }); accidentals = given (spelt None 1 1 3 1) }
+    ∷ record { pergen = pergen 12 7; format = format 7 3; key = negsuc 11; generation = given (record { cycle = None; degree = 0 }); accidentals = given (spelt None 3 0 3 0) }
+    ∷ record { pergen = pergen 24 14; format = format 7 3; key = negsuc 0; generation = given (record { cycle = Some 1; degree = 5 }); accidentals = given (spelt (Some 1) 1 1 3 1) }
+    ∷ record { pergen = pergen 24 14; format = format 7 3; key = negsuc 23; generation = given (record { cycle = Some 0; degree = 0 }); accidentals = given (spelt (Some 0) 3 0 3 0) }
     -- both ends of 32 signed bits: −2,147,483,648 is key 4 of twelve, 2,147,483,647 key 7; and the low branch, −1 of five
-    ∷ record { pergen = pergen 12 7; format = format 7 3; key = negsuc 2147483647; generation = given (record { cycle = Absent; degree = 4 }); accidentals = given (spelt Absent 0 1 2 1) }
-    ∷ record { pergen = pergen 12 7; format = format 7 3; key = pos 2147483647; generation = given (record { cycle = Absent; degree = 1 }); accidentals = given (spelt Absent 4 0 4 0) }
-    ∷ record { pergen = pergen 5 3; format = format 7 3; key = negsuc 0; generation = given (record { cycle = Absent; degree = 3 }); accidentals = given (spelt Absent 6 0 1 0) }
+    ∷ record { pergen = pergen 12 7; format = format 7 3; key = negsuc 2147483647; generation = given (record { cycle = None; degree = 4 }); accidentals = given (spelt None 0 1 2 1) }
+    ∷ record { pergen = pergen 12 7; format = format 7 3; key = pos 2147483647; generation = given (record { cycle = None; degree = 1 }); accidentals = given (spelt None 4 0 4 0) }
+    ∷ record { pergen = pergen 5 3; format = format 7 3; key = negsuc 0; generation = given (record { cycle = None; degree = 3 }); accidentals = given (spelt None 6 0 1 0) }
     -- questions 2, 5 and 6, in this order
     ∷ record { pergen = pergen 0 7; format = format 0 0; key = pos 1; generation = refused 2; accidentals = refused 2 }
-    ∷ record { pergen = pergen 12 7; format = format 0 0; key = pos 2; generation = given (record { cycle = Absent; degree = 2 }); accidentals = refused 5 }
-    ∷ record { pergen = pergen 12 7; format = format 7 7; key = pos 2; generation = given (record { cycle = Absent; degree = 2 }); accidentals = refused 6 }
+    ∷ record { pergen = pergen 12 7; format = format 0 0; key = pos 2; generation = given (record { cycle = None; degree = 2 }); accidentals = refused 5 }
+    ∷ record { pergen = pergen 12 7; format = format 7 7; key = pos 2; generation = given (record { cycle = None; degree = 2 }); accidentals = refused 6 }
     ∷ []
 
 -- ---- places and sounded keys of spellings
@@ -138,7 +136,7 @@ pub record ExamplesHold : Type 0 where
   pub new_refused : new_outcome 0 7 ≡ refused 2
   pub generations : map (λ (e : KeyExample). get_generation e.pergen e.key) key_examples ≡ map (λ (e : KeyExample). e.generation) key_examples
   -- the product with the inverse, 32,769 × 65,535, passes 2,147,483,647 and is exact
-  pub large_product : get_generation (pergen 65521 19271) (pos 65535) ≡ given (record { cycle = Absent; degree = 119 })
+  pub large_product : get_generation (pergen 65521 19271) (pos 65535) ≡ given (record { cycle = None; degree = 119 })
   pub accidentals : map (λ (e : KeyExample). get_accidentals e.pergen e.format e.key) key_examples ≡ map (λ (e : KeyExample). e.accidentals) key_examples
   pub signs_are : map (λ (e : SignsExample). signs_of e.number) signs_examples ≡ map (λ (e : SignsExample). e.signs) signs_examples
   pub places : map (λ (e : SpellingExample). get_place e.format e.spelling) spelling_examples ≡ map (λ (e : SpellingExample). e.place) spelling_examples

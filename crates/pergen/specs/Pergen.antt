@@ -1,11 +1,9 @@
 -- The pergen: a period P and a generator G (document 01, "Pergen and spelling"; the Xenharmonic Wiki's "pergen").
-use Rattle.std.specs.Prelude.{ℕ, ◌*◌, ◌/◌, ◌%◌, ◌<◌, ◌≡◌, eqb, ltb, ℤ}
+use Rattle.std.specs.Prelude.{ℕ, ◌*◌, ◌/◌, ◌%◌, ◌<◌, ◌≡◌, eqb, ltb, ℤ, None, Option, Some}
 use Rattle.answer.specs.Choice.{pick}
 use Rattle.math.specs.Division.{remainder}
 use Rattle.math.specs.Gcd.{gcd}
 use Rattle.math.specs.Passing.{first}
-use Rattle.pergen.specs.declared.Cycle.{Cycle}
-use Rattle.pergen.specs.declared.Cycle.TheVariants.{Absent, Number}
 use Rattle.pergen.specs.declared.Generation.{Generation}
 
 -- "n their greatest common divisor (cycles)"
@@ -39,8 +37,8 @@ unfolding cycles
 cycle P G i = i % cycles P G
 
 -- "absent when n is 1"
-abbrev pub shown : (n cycle : ℕ) → Cycle
-shown n cycle = pick (ltb 1 n) (Number cycle) Absent
+abbrev pub shown : (n cycle : ℕ) → Option ℕ
+shown n cycle = pick (ltb 1 n) (Some cycle) None
 
 -- ---- keys of any number: those formulas, "by first bringing the number round the octave with the remainder that is never negative"
 -- (document 02, W-201). Of a free pergen the period is meant.
@@ -53,7 +51,7 @@ unfoldable pub key_cycle : ℕ → ℕ → ℤ → ℕ
 unfolding cycle
 key_cycle P G key = cycle P G (remainder key P)
 
-unfoldable pub cycle_of : ℕ → ℕ → ℤ → Cycle
+unfoldable pub cycle_of : ℕ → ℕ → ℤ → Option ℕ
 unfolding key_cycle cycles
 cycle_of P G key = shown (cycles P G) (key_cycle P G key)
 

@@ -1,11 +1,9 @@
 -- The two spellings of a key, the place of any spelling on the chain, and the key that it sounds
 -- (document 01, "Pergen and spelling"). N is the number of symbols, d the origin plus the degree.
-use Rattle.std.specs.Prelude.{ℕ, suc, ◌+◌, ◌-◌, ◌/◌, ◌%◌, eqb, ltb, leb, ℤ, pos, negsuc, neg_ℤ, ◌+ℤ◌, ◌-ℤ◌, ◌*ℤ◌}
+use Rattle.std.specs.Prelude.{ℕ, suc, ◌+◌, ◌-◌, ◌/◌, ◌%◌, eqb, ltb, leb, ℤ, pos, negsuc, neg_ℤ, ◌+ℤ◌, ◌-ℤ◌, ◌*ℤ◌, Option, unwrap_or}
 use Rattle.answer.specs.Choice.{pick}
 use Rattle.math.specs.Division.{remainder}
 use Rattle.pergen.specs.Pergen.{reduced, key_degree, cycle_of}
-use Rattle.pergen.specs.declared.Cycle.{Cycle}
-use Rattle.pergen.specs.declared.Cycle.TheVariants.{Absent, Number}
 use Rattle.pergen.specs.declared.Accidentals.{Accidentals}
 use Rattle.pergen.specs.declared.Signs.{Signs}
 use Rattle.pergen.specs.declared.Signs.TheVariants.{Sharps, Flats}
@@ -22,7 +20,7 @@ unfoldable pub flat_coordinate : ℕ → ℕ → ℕ → ℕ
 flat_coordinate R N d = remainder (pos N -ℤ pos 1 -ℤ pos d) R
 
 -- "The sharp index and count are remainder and quotient by N. The flat index is N − 1 less the remainder; the flat count is the quotient."
-unfoldable pub by_coordinates : Cycle → ℕ → ℕ → ℕ → Accidentals
+unfoldable pub by_coordinates : Option ℕ → ℕ → ℕ → ℕ → Accidentals
 by_coordinates c N sharp flat =
     record {
       cycle = c;
@@ -43,14 +41,14 @@ unfoldable pub low_flat_index : ℕ → ℕ → ℕ → ℕ
 low_flat_index R d degree = pick (eqb degree 0) d (pick (ltb d R) d (d - R))
 
 -- "both counts 0"
-unfoldable pub by_indices : Cycle → ℕ → ℕ → Accidentals
+unfoldable pub by_indices : Option ℕ → ℕ → ℕ → Accidentals
 by_indices c sharp flat =
     record { cycle = c; sharp_index = sharp; sharp_count = 0; flat_index = flat; flat_count = 0 }
 
 -- ---- both
 
 -- Of a degree and a cycle, by the reduced period, the number of symbols and the origin.
-unfoldable pub accidentals_of : ℕ → ℕ → ℕ → ℕ → Cycle → Accidentals
+unfoldable pub accidentals_of : ℕ → ℕ → ℕ → ℕ → Option ℕ → Accidentals
 unfolding sharp_coordinate flat_coordinate by_coordinates low_sharp_index low_flat_index by_indices
 accidentals_of R N origin degree c =
     let d = origin + degree in
@@ -89,9 +87,8 @@ unfolding sounds place
 sounded_key P G N origin s = sounds P G (place N origin s) s.stars
 
 -- "each with the cycle number as its stars, 0 if absent"
-abbrev pub stars_of : Cycle → ℕ
-stars_of Absent = 0
-stars_of (Number c) = c
+abbrev pub stars_of : Option ℕ → ℕ
+stars_of cycle = unwrap_or cycle 0
 
 -- The sharp and the flat spelling that a key's accidentals hold.
 unfoldable pub sharp_spelling : Accidentals → Spelling

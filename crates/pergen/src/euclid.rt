@@ -4,6 +4,8 @@ ghost use Rattle.pergen.specs.Parts.{StandsAt, BezoutOf, forward, solved_of};
 
 // The greatest common divisor, the period divided by it, and how many generators leave the divisor on division by the period:
 // so many backward where `negative` is set.
+//
+// The flag stays beside its number, here and below: `BezoutOf` and `Going` of specs/ name it, and each turn of the loop changes it.
 #[derive(Clone, Copy)]
 struct Bezout {
     gcd: u16,

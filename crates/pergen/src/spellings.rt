@@ -11,6 +11,7 @@ ghost use Rattle.pergen.specs.Spelling.{
 use crate::{Accidentals, AccidentalsFormat, Generation};
 
 // d stays below twice the reduced period, so one comparison takes the remainder.
+#[tactic(auto, unfolding(crate::specs::Spelling::sharp_coordinate))]
 fn sharp_coordinate(reduced: u32, d: u32) -> u32
     requires { d < reduced + reduced }
     ensures { result ≡ sharp_coordinate reduced d }
@@ -19,6 +20,7 @@ fn sharp_coordinate(reduced: u32, d: u32) -> u32
 }
 
 // d passes the last symbol by less than the reduced period, so one comparison takes the remainder.
+#[tactic(auto, unfolding(crate::specs::Spelling::flat_coordinate))]
 fn flat_coordinate(reduced: u32, symbols: u32, d: u32) -> u32
     requires { (0 < symbols) × (symbols ≤ reduced) × (d + 1 < symbols + reduced) × (reduced ≤ 65535) }
     ensures { result ≡ flat_coordinate reduced symbols d }
@@ -31,6 +33,7 @@ fn flat_coordinate(reduced: u32, symbols: u32, d: u32) -> u32
     }
 }
 
+#[tactic(auto, unfolding(crate::specs::Spelling::low_sharp_index))]
 fn low_sharp_index(reduced: u32, symbols: u32, d: u32) -> u32
     requires { reduced ≤ symbols }
     ensures { result ≡ low_sharp_index reduced symbols d }
@@ -38,6 +41,7 @@ fn low_sharp_index(reduced: u32, symbols: u32, d: u32) -> u32
     if symbols <= d { d - reduced } else { d }
 }
 
+#[tactic(auto, unfolding(crate::specs::Spelling::low_flat_index))]
 fn low_flat_index(reduced: u32, d: u32, degree: u32) -> u32
     ensures { result ≡ low_flat_index reduced d degree }
 {

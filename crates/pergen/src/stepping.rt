@@ -1,11 +1,13 @@
 // A key, and the walk from key to key: parts, and no entry points. Callers have asked question 2.
 //
+// That the numbers are `Walkable` is asked here and is no ghost field of `Solved`: `solved_of` of specs/ makes one of any period, 0 too.
+//
 // `key_at` finds a key by its number; `next` carries degree and cycle along, so that no key costs a division.
 ghost use Rattle.std.specs.Prelude.{◌≡◌, ◌+◌, ◌*◌, ◌/◌, ◌%◌, ◌<◌, ◌≤◌};
 ghost use Rattle.pergen.specs.Parts.{Walkable, At, generation_from};
 
+use crate::Generation;
 use crate::euclid::Solved;
-use crate::{Cycle, Generation};
 
 // A key, of this octave or the next: its number, its degree, and its cycle, which is 0 where there is only one.
 #[derive(Clone, Copy)]
@@ -104,14 +106,9 @@ pub fn generation(solved: Solved, key: Key) -> Generation
     requires { At solved key }
     ensures { result ≡ generation_from solved key.number }
 {
-    if 1 < solved.num_cycles {
-        return Generation {
-            cycle: Cycle::Number(key.cycle),
-            degree: key.degree,
-        };
-    }
+    let several = 1 < solved.num_cycles;
     Generation {
-        cycle: Cycle::Absent,
+        cycle: several.then_some(key.cycle),
         degree: key.degree,
     }
 }

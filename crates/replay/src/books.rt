@@ -5,36 +5,41 @@
 //     find LAYOUT KEY       a key looked up in it: offset and length of the name, and the name; or a refusal, told twice
 //     find_in KEY BYTE..    the same in any bytes, at most 256
 use crate::print;
-use book::FindAnswer;
+use crate::questions::Ask;
+use crate::words::{List, Words};
+use book::Place;
 use std::io::Stdout;
+
+#[derive(Drop)]
+pub(crate) struct Question {
+    key: i32,
+    book: List<u8>,
+}
+
+impl Ask for Question {
+    fn asked(name: &[u8], words: &mut Words) -> Option<Question> {
+        Some(match name {
+            b"find_in" => Question {
+                key: words.read()?,
+                book: words.read()?,
+            },
+            _ => return None,
+        })
+    }
+
+    fn answer(self, stdout: Stdout, _room: u16) {
+        put_lookup(stdout, self.book.as_slice(), self.key);
+    }
+}
 
 // What the two calls give: offset and length, and the name; each tells a refusal.
 pub(crate) fn put_lookup(stdout: Stdout, book: &[u8], key: i32) {
-    put_place(stdout, book::find(book, key));
+    print::answer(stdout, book::find(book, key), put_place);
     print::space(stdout);
-    put_name_of(stdout, book, key);
+    print::answer(stdout, book::name(book, key), print::text);
 }
 
-fn put_place(stdout: Stdout, answer: FindAnswer) {
-    match answer {
-        FindAnswer::Refused(q) => print::refusal(stdout, q),
-        FindAnswer::Found(place) => {
-            print::number(stdout, place.offset as u64);
-            print::next_number(stdout, place.length as u64);
-        }
-    }
-}
-
-// The two fields are handed on at once.
-fn put_name_of(stdout: Stdout, book: &[u8], key: i32) {
-    let found = book::name(book, key);
-    put_name(stdout, found.name, found.refusal)
-}
-
-// A name that is found has 0 beside it; a refusal has the empty part.
-fn put_name(stdout: Stdout, name: &[u8], refusal: u8) {
-    if refusal != 0 {
-        print::refused(stdout, refusal);
-    }
-    print::text(stdout, name);
+fn put_place(stdout: Stdout, place: Place) {
+    print::number(stdout, place.offset);
+    print::next(stdout, place.length);
 }

@@ -5,43 +5,27 @@
 //     find_chain_by_edo N CODE      of one chain's layout its chain code, octave, tritave and start, 1 for the second choice, else 0,
 //                                   and its pattern
 use crate::{patterns, print};
-use edo_layouts::EdoAnswer;
-use edo_tritaves::TritavesAnswer;
+use edo_layouts::EdoLayout;
+use edo_tritaves::Choices;
 use std::io::Stdout;
 
-// A second choice of 0 is none.
-pub(crate) fn put_tritaves(stdout: Stdout, answer: TritavesAnswer) {
-    match answer {
-        TritavesAnswer::Refused(q) => print::refusal(stdout, q),
-        TritavesAnswer::Given(choices) => {
-            print::short(stdout, choices.first);
-            if 0 < choices.second {
-                print::next_short(stdout, choices.second);
-            }
-        }
+pub(crate) fn put_tritaves(stdout: Stdout, choices: Choices) {
+    print::number(stdout, choices.first);
+    if let Some(second) = choices.second {
+        print::next(stdout, second);
     }
 }
 
-pub(crate) fn put_chain(stdout: Stdout, answer: EdoAnswer) {
-    match answer {
-        EdoAnswer::Refused(q) => print::refusal(stdout, q),
-        EdoAnswer::Given(found) => {
-            let layout = found.layout;
-            print::four(
-                stdout,
-                layout.genchain,
-                layout.octave,
-                layout.tritave,
-                layout.start,
-            );
-            print::next_short(stdout, flag(found.second));
-            print::space(stdout);
-            let pattern = found.pattern;
-            patterns::put_pattern(stdout, pattern);
-        }
-    }
-}
-
-fn flag(second: bool) -> u16 {
-    if second { 1 } else { 0 }
+pub(crate) fn put_chain(stdout: Stdout, found: EdoLayout) {
+    let layout = found.layout;
+    print::four(
+        stdout,
+        layout.genchain,
+        layout.octave,
+        layout.tritave,
+        layout.start,
+    );
+    print::next(stdout, found.second as u8);
+    print::space(stdout);
+    patterns::put_pattern(stdout, found.pattern);
 }

@@ -9,105 +9,82 @@
 //
 // A pattern is printed as it is read. Before the call a lent one has the counts 9 and 8 and the steps 7 and 6, so that it is seen where
 // one is left untouched.
-ghost use Rattle.std.specs.Prelude.{length};
-ghost use Rattle.answer.specs.Lent.{Filled};
-ghost use Rattle.answer.specs.Refusals.{count_outcome};
-ghost use Rattle.mos_fractional.specs.Answers.{listing_outcome};
-
-use crate::words::Values;
-use crate::{names, print};
-use answer::CountAnswer;
-use mos_fractional::{ChildAnswer, FractionalAnswer, FractionalMos, FractionalWalkAnswer};
+use crate::print;
+use crate::questions::Ask;
+use crate::words::Words;
+use mos_fractional::FractionalMos;
 use std::io::Stdout;
 
-// What the library answered, and the patterns.
 #[derive(Clone, Copy)]
-pub(crate) struct Page {
-    pub(crate) answer: CountAnswer,
-    pub(crate) patterns: [FractionalMos; 8],
+pub(crate) enum Question {
+    Child(FractionalMos),
+    Genesis(f64),
+    Nth(f64, u32),
+    Len(f64),
+    Children(f64),
 }
 
-pub(crate) fn answer(stdout: Stdout, kind: usize, n: Values, more: Values) {
-    match kind {
-        names::FRACTIONAL_CHILD => put_child(
-            stdout,
-            FractionalMos {
-                num_primary_steps: n.first,
-                num_secondary_steps: n.second,
-                primary_step: n.double,
-                secondary_step: more.double,
-            },
-        ),
-        names::FRACTIONAL_GENESIS => put_made(stdout, FractionalMos::new_genesis(n.double)),
-        names::FRACTIONAL_NTH => put_walked(stdout, mos_fractional::nth_child(n.double, n.wide)),
-        names::FRACTIONAL_LEN => print::count(stdout, mos_fractional::children_len(n.double)),
-        _ => put_children(stdout, n.double),
+impl Ask for Question {
+    fn asked(name: &[u8], words: &mut Words) -> Option<Question> {
+        Some(match name {
+            b"fractional_child" => Question::Child(FractionalMos {
+                num_primary_steps: words.read()?,
+                num_secondary_steps: words.read()?,
+                primary_step: words.read()?,
+                secondary_step: words.read()?,
+            }),
+            b"fractional_genesis" => Question::Genesis(words.read()?),
+            b"fractional_nth" => Question::Nth(words.read()?, words.read()?),
+            b"fractional_len" => Question::Len(words.read()?),
+            b"fractional_children" => Question::Children(words.read()?),
+            _ => return None,
+        })
+    }
+
+    fn answer(self, stdout: Stdout, _room: u16) {
+        match self {
+            Question::Child(pattern) => put_walked(stdout, pattern.child()),
+            Question::Genesis(generator) => {
+                print::answer(stdout, FractionalMos::new_genesis(generator), put_pattern)
+            }
+            Question::Nth(generator, k) => {
+                print::answer(stdout, mos_fractional::nth_child(generator, k), put_walked)
+            }
+            Question::Len(generator) => {
+                print::answer(
+                    stdout,
+                    mos_fractional::children_len(generator),
+                    print::number,
+                )
+            }
+            Question::Children(generator) => put_children(stdout, generator),
+        }
     }
 }
 
-fn put_child(stdout: Stdout, pattern: FractionalMos) {
-    match pattern.child() {
-        ChildAnswer::Child(m) => put_pattern(stdout, m),
-        ChildAnswer::Nothing => print::none(stdout),
-    }
-}
-
-fn put_made(stdout: Stdout, answer: FractionalAnswer) {
-    match answer {
-        FractionalAnswer::Given(m) => put_pattern(stdout, m),
-        FractionalAnswer::Refused(q) => print::refusal(stdout, q),
-    }
-}
-
-fn put_walked(stdout: Stdout, answer: FractionalWalkAnswer) {
-    match answer {
-        FractionalWalkAnswer::Found(m) => put_pattern(stdout, m),
-        FractionalWalkAnswer::Nothing => print::none(stdout),
-        FractionalWalkAnswer::Refused(q) => print::refusal(stdout, q),
-    }
+fn put_walked(stdout: Stdout, walked: Option<FractionalMos>) {
+    print::found(stdout, walked, put_pattern);
 }
 
 fn put_children(stdout: Stdout, generator: f64) {
-    put_page(stdout, list_page(generator, [lent(); 8]));
-}
-
-// A pattern as it is lent.
-fn lent() -> FractionalMos {
-    FractionalMos {
+    let lent = FractionalMos {
         num_primary_steps: 9,
         num_secondary_steps: 8,
         primary_step: 7.0,
         secondary_step: 6.0,
-    }
-}
-
-// The array is lent for the call alone.
-fn list_page(generator: f64, patterns: [FractionalMos; 8]) -> Page
-    ensures { Filled (listing_outcome generator (length patterns)) (count_outcome result.answer) patterns result.patterns }
-{
-    let mut list = patterns;
-    let answer = mos_fractional::children(generator, &mut list);
-    Page {
-        answer,
-        patterns: list,
-    }
-}
-
-fn put_page(stdout: Stdout, page: Page) {
-    let answer = page.answer;
-    print::count(stdout, answer);
-    let patterns = page.patterns;
-    let mut i: usize = 0;
-    while i < 8 {
+    };
+    let mut patterns = [lent; 8];
+    let answer = mos_fractional::children(generator, &mut patterns);
+    print::answer(stdout, answer, print::number);
+    for pattern in patterns {
         print::text(stdout, b", ");
-        put_pattern(stdout, patterns[i]);
-        i += 1;
+        put_pattern(stdout, pattern);
     }
 }
 
 fn put_pattern(stdout: Stdout, m: FractionalMos) {
-    print::short(stdout, m.num_primary_steps);
-    print::next_short(stdout, m.num_secondary_steps);
+    print::number(stdout, m.num_primary_steps);
+    print::next(stdout, m.num_secondary_steps);
     put_double(stdout, m.primary_step);
     put_double(stdout, m.secondary_step);
 }
@@ -115,8 +92,8 @@ fn put_pattern(stdout: Stdout, m: FractionalMos) {
 fn put_double(stdout: Stdout, x: f64) {
     if x == x {
         let bits = f64::to_bits(x);
-        print::next_number(stdout, bits / 4294967296);
-        print::next_number(stdout, bits % 4294967296);
+        print::next(stdout, bits / 4294967296);
+        print::next(stdout, bits % 4294967296);
         return;
     }
     print::text(stdout, b" nan");

@@ -11,99 +11,98 @@
 //     widen BYTE..                      lamp codes of one byte, in two bytes
 //     read_kbm LAYOUT BYTE..            the keys that a mapping's text maps
 //     lamps, key_layers                 as `layouts` says
-use crate::words::Values;
-use crate::{layouts, names, patterns, plain, print};
-use answer::CountAnswer;
+use crate::questions::Ask;
+use crate::words::{self, List, Words};
+use crate::{layouts, print};
+use answer::Refusal;
 use layout::IsomorphicLayout;
+use layout_retuning::Retuning;
 use mos::Mos;
 use std::io::Stdout;
 
-pub(crate) fn answer(
-    stdout: Stdout,
-    kind: usize,
-    layout: IsomorphicLayout,
-    n: Values,
-    entries: &[u16],
-    bytes: &[u8],
-) {
-    let mut out = print::list_room();
-    let end = n.room as usize;
-    put_into(stdout, kind, layout, n, entries, bytes, &mut out[..end]);
+#[derive(Drop)]
+pub(crate) enum Question {
+    Children(Mos),
+    Parents(Mos),
+    LayerSizes(Mos),
+    Layers(Mos),
+    FindByEdo(u16),
+    MoveTable(Retuning),
+    Reach(IsomorphicLayout, i32, u16),
+    ToChainOrder(IsomorphicLayout, List<u16>),
+    ToKeyOrder(IsomorphicLayout, List<u16>),
+    Widen(List<u8>),
+    ReadKbm(IsomorphicLayout, List<u8>),
+    Lamps(IsomorphicLayout),
+    KeyLayers(IsomorphicLayout),
 }
 
-fn put_into(
-    stdout: Stdout,
-    kind: usize,
-    layout: IsomorphicLayout,
-    n: Values,
-    entries: &[u16],
-    bytes: &[u8],
-    out: &mut [u16],
-) {
-    let answer = write(kind, layout, n, entries, bytes, out);
-    put(stdout, kind, layout, out, answer);
-}
-
-fn write(
-    kind: usize,
-    layout: IsomorphicLayout,
-    n: Values,
-    entries: &[u16],
-    bytes: &[u8],
-    out: &mut [u16],
-) -> CountAnswer {
-    match kind {
-        names::FIND_BY_EDO => edo_layouts::find_by_edo(n.first, out),
-        names::MOVE_TABLE => layout_retuning::move_table(plain::retuning_of(n), out),
-        names::WIDEN => lamp_codes::widen_strip(bytes, out),
-        names::CHILDREN | names::PARENTS | names::LAYER_SIZES | names::LAYERS => {
-            write_of_pattern(kind, patterns::pattern_of(n), out)
-        }
-        names::TO_CHAIN_ORDER => layout_order::to_chain_order(layout, entries, out),
-        names::TO_KEY_ORDER => layout_order::to_key_order(layout, entries, out),
-        names::READ_KBM => layout_kbm::read_kbm(layout, bytes, out),
-        _ => write_of_layout(kind, layout, n, out),
+impl Ask for Question {
+    fn asked(name: &[u8], words: &mut Words) -> Option<Question> {
+        Some(match name {
+            b"children" => Question::Children(words.read()?),
+            b"parents" => Question::Parents(words.read()?),
+            b"layer_sizes" => Question::LayerSizes(words.read()?),
+            b"layers" => Question::Layers(words.read()?),
+            b"find_by_edo" => Question::FindByEdo(words.read()?),
+            b"move_table" => Question::MoveTable(words.read()?),
+            b"reach" => Question::Reach(words.read()?, words.read()?, words.read()?),
+            b"to_chain_order" => Question::ToChainOrder(words.read()?, words.read()?),
+            b"to_key_order" => Question::ToKeyOrder(words.read()?, words.read()?),
+            b"widen" => Question::Widen(words.read()?),
+            b"read_kbm" => Question::ReadKbm(words.read()?, words.read()?),
+            b"lamps" => Question::Lamps(words::default_layout(words)?),
+            b"lamps_from" => Question::Lamps(words.read()?),
+            b"key_layers" => Question::KeyLayers(words::default_layout(words)?),
+            b"key_layers_from" => Question::KeyLayers(words.read()?),
+            _ => return None,
+        })
     }
-}
 
-fn write_of_pattern(kind: usize, m: Mos, out: &mut [u16]) -> CountAnswer {
-    match kind {
-        names::CHILDREN => mos_listings::children(m, out),
-        names::PARENTS => mos_listings::parents(m, out),
-        names::LAYER_SIZES => mos_layers::layer_sizes(m, out),
-        _ => mos_layers::get_layers(m, out),
-    }
-}
-
-fn write_of_layout(
-    kind: usize,
-    layout: IsomorphicLayout,
-    n: Values,
-    out: &mut [u16],
-) -> CountAnswer {
-    match kind {
-        names::REACH => layout_reach::keys_in_reach(layout, n.key, n.last, out),
-        names::LAMPS => layout_lamps::lamp_strip(layout, out),
-        _ => layout_layers::get_layers(layout, out),
-    }
-}
-
-// What was written to the front of a slice, or the refusal to write it.
-fn put(stdout: Stdout, kind: usize, layout: IsomorphicLayout, out: &[u16], answer: CountAnswer) {
-    match answer {
-        CountAnswer::Refused(q) => print::refusal(stdout, q),
-        CountAnswer::Given(count) => {
-            if count <= out.len() {
-                put_front(stdout, kind, layout, &out[..count]);
+    fn answer(self, stdout: Stdout, room: u16) {
+        // here, and not in one generic function: tried, an array of a type parameter owes that its size is below 2 ^ 63
+        let mut all = [0u16; 65536];
+        let out = &mut all[..room as usize];
+        match self {
+            Question::KeyLayers(layout) => {
+                let total = layout_layers::layer_count(layout);
+                print::filled(
+                    stdout,
+                    out,
+                    |out: &mut [u16]| layout_layers::get_layers(layout, out),
+                    |to: Stdout, layers: &[u16]| layouts::put_layers(to, total, layers),
+                )
             }
+            question => print::filled(
+                stdout,
+                out,
+                |out: &mut [u16]| write(question, out),
+                print::list,
+            ),
         }
     }
 }
 
-fn put_front(stdout: Stdout, kind: usize, layout: IsomorphicLayout, numbers: &[u16]) {
-    if kind == names::KEY_LAYERS {
-        layouts::put_layers(stdout, layout_layers::layer_count(layout), numbers);
-        return;
+fn write(question: Question, out: &mut [u16]) -> Result<usize, Refusal> {
+    match question {
+        Question::Children(m) => mos_listings::children(m, out),
+        Question::Parents(m) => mos_listings::parents(m, out),
+        Question::LayerSizes(m) => mos_layers::layer_sizes(m, out),
+        Question::Layers(m) => mos_layers::get_layers(m, out),
+        Question::FindByEdo(n) => edo_layouts::find_by_edo(n, out),
+        Question::MoveTable(retuning) => layout_retuning::move_table(retuning, out),
+        Question::Reach(layout, key, distance) => {
+            layout_reach::keys_in_reach(layout, key, distance, out)
+        }
+        Question::ToChainOrder(layout, entries) => {
+            layout_order::to_chain_order(layout, entries.as_slice(), out)
+        }
+        Question::ToKeyOrder(layout, entries) => {
+            layout_order::to_key_order(layout, entries.as_slice(), out)
+        }
+        Question::Widen(strip) => lamp_codes::widen_strip(strip.as_slice(), out),
+        Question::ReadKbm(layout, text) => layout_kbm::read_kbm(layout, text.as_slice(), out),
+        Question::Lamps(layout) => layout_lamps::lamp_strip(layout, out),
+        Question::KeyLayers(layout) => layout_layers::get_layers(layout, out),
     }
-    print::list(stdout, numbers);
 }

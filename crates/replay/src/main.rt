@@ -14,185 +14,63 @@ mod fractional;
 mod layouts;
 mod lists;
 mod moves;
-mod names;
 mod numbers;
 mod patterns;
 mod pergens;
 mod plain;
 mod print;
+mod questions;
 mod sheets;
 mod texts;
 mod words;
 
-ghost use Rattle.std.specs.Prelude.{◌≤◌};
 ghost use Rattle.replay.specs.Counts.{IsPrefixLen};
 
-use layout::IsomorphicLayout;
+use questions::answered;
 use std::io::{Read, Stdin, Stdout};
-use words::Values;
+use words::Line;
 
 // Whether the line, with or without a room before its question, is one; if so, it is answered.
-fn answered(stdout: Stdout, line: &[u8]) -> bool {
-    let room = words::wide_at(line, 0);
-    if words::NOWHERE <= room.end {
-        return answered_from(stdout, line, 0, 65535);
+fn answered_any(stdout: Stdout, line: Line) -> bool {
+    if let b"table" = line.name {
+        return texts::answer_table(stdout, line);
     }
-    if 65535 < room.value {
-        return false;
-    }
-    answered_from(
-        stdout,
-        line,
-        words::past(line, room.end, b' '),
-        room.value as u16,
-    )
+    answered::<numbers::Question>(stdout, line)
+        || answered::<pergens::Question>(stdout, line)
+        || answered::<patterns::Question>(stdout, line)
+        || answered::<fractional::Question>(stdout, line)
+        || answered::<plain::Question>(stdout, line)
+        || answered::<moves::Question>(stdout, line)
+        || answered::<lists::Question>(stdout, line)
+        || answered::<texts::Question>(stdout, line)
+        || answered::<sheets::Question>(stdout, line)
+        || answered::<books::Question>(stdout, line)
 }
 
-// Whether a question stands from a place on; if so, it is answered.
-fn answered_from(stdout: Stdout, line: &[u8], from: usize, room: u16) -> bool
-    requires { from ≤ 65536 }
-{
-    let end = words::word_end(line, from);
-    let kind = names::kind_of(line, from, end);
-    let row = names::row_of(kind);
-    let n = words::values_after(line, end, row % 100000, room);
-    let group = row / 100000;
-    match group {
-        names::NO_GROUP => false,
-        names::GROUP_PLACES => patterns::get_key(stdout, line, n),
-        names::GROUP_TABLES => answered_table(stdout, line, n),
-        _ => answered_to_the_end(stdout, group, kind, line, n),
-    }
-}
-
-// Whether a space and a line of the key table program stand behind the name; if so, the line is answered.
-fn answered_table(stdout: Stdout, line: &[u8], n: Values) -> bool {
-    let at = n.end;
-    if line.len() <= at {
-        return false;
-    }
-    if line[at] != b' ' {
-        return false;
-    }
-    let from = at + 1;
-    let none = [0u16; 1];
-    texts::answer(
-        stdout,
-        names::TABLE,
-        layouts::layout_of(names::TABLE, n),
-        n,
-        &none,
-        &line[from..],
-    );
-    true
-}
-
-// Whether the line ends behind all the numbers that its name wants; if so, it is answered.
-fn answered_to_the_end(stdout: Stdout, group: usize, kind: usize, line: &[u8], n: Values) -> bool {
-    let more = words::values_after(line, n.end, names::more_of(kind), 0);
-    let mut entries = [0u16; 256];
-    let mut bytes = [0u8; 256];
-    let read = words::list_after(
-        line,
-        more.end,
-        names::limit_of(kind),
-        &mut entries,
-        &mut bytes,
-    );
-    if words::is_at(line, read.end, b'\n') {
-        let count = read.count;
-        answer(
-            stdout,
-            group,
-            kind,
-            n,
-            more,
-            &entries[..count],
-            &bytes[..count],
-        );
-        return true;
-    }
-    false
-}
-
-fn answer(
-    stdout: Stdout,
-    group: usize,
-    kind: usize,
-    n: Values,
-    more: Values,
-    entries: &[u16],
-    bytes: &[u8],
-) {
-    match group {
-        names::GROUP_NUMBERS => numbers::answer(stdout, kind, n),
-        names::GROUP_PERGENS => pergens::answer(stdout, kind, n),
-        names::GROUP_PATTERNS => patterns::answer(stdout, kind, n),
-        names::GROUP_FRACTIONAL => fractional::answer(stdout, kind, n, more),
-        names::GROUP_BOOKS => books::put_lookup(stdout, bytes, n.key),
-        _ => {
-            let layout = layouts::layout_of(kind, n);
-            answer_on(
-                stdout,
-                layout,
-                group,
-                names::asked(kind),
-                n,
-                more,
-                entries,
-                bytes,
-            );
-        }
-    }
-}
-
-// Of these groups some questions are on a layout.
-fn answer_on(
-    stdout: Stdout,
-    layout: IsomorphicLayout,
-    group: usize,
-    kind: usize,
-    n: Values,
-    more: Values,
-    entries: &[u16],
-    bytes: &[u8],
-) {
-    match group {
-        names::GROUP_PLAIN => plain::answer(stdout, kind, layout, n, more),
-        names::GROUP_MOVES => moves::answer(stdout, kind, layout, n),
-        names::GROUP_MOVE_LISTS => moves::answer_list(stdout, kind, layout, n),
-        names::GROUP_LISTS => lists::answer(stdout, kind, layout, n, entries, bytes),
-        names::GROUP_SHEETS => sheets::answer(stdout, layout, n, more),
-        _ => texts::answer(stdout, kind, layout, n, entries, bytes),
-    }
-}
-
-fn answer_line(stdout: Stdout, line: &[u8]) {
-    if answered(stdout, line) {
-        print::letter(stdout, b'\n');
-        return;
-    }
-    print::text(stdout, b"?\n");
+fn answer_line(stdout: Stdout, bytes: &[u8]) {
+    let is_answered = match Line::new(bytes) {
+        Some(line) => answered_any(stdout, line),
+        None => false,
+    };
+    print::text(stdout, if is_answered { b"\n" } else { b"?\n" });
 }
 
 // The bytes of the next line, its line feed with them, and how many there are.
 fn read_line(stdin: Stdin, line: &mut [u8]) -> usize
     ensures { IsPrefixLen result line.new }
 {
-    let mut len: usize = 0;
-    while len < line.len() {
+    for len in 0..line.len() {
         let mut byte = [0u8; 1];
         let mut from = stdin;
         if from.read_exact(&mut byte).is_err() {
             return len;
         }
         line[len] = byte[0];
-        len += 1;
         if byte[0] == b'\n' {
-            return len;
+            return len + 1;
         }
     }
-    len
+    line.len()
 }
 
 // Reads a line and answers it; false at the end of the input. A line has at most 512 bytes.
@@ -208,11 +86,8 @@ fn answer_next(stdin: Stdin, stdout: Stdout) -> bool {
 
 // Answers a list of up to 65,536 lines.
 fn main(rt: HostRuntime) {
-    let mut lines: u32 = 0;
-    while lines < 65536 {
-        if answer_next(rt.stdin(), rt.stdout()) {
-            lines += 1;
-        } else {
+    for _ in 0..65536 {
+        if !answer_next(rt.stdin(), rt.stdout()) {
             return;
         }
     }

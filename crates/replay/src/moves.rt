@@ -7,98 +7,85 @@
 //     walk_moves PERIOD GENERATOR          the moves of all patterns of the walk
 ghost use Rattle.std.specs.Prelude.{◌≡◌, length};
 
-use crate::words::Values;
-use crate::{names, patterns, print};
-use answer::CountAnswer;
+use crate::questions::Ask;
+use crate::words::Words;
+use crate::{patterns, print};
+use answer::Refusal;
 use layout::IsomorphicLayout;
-use mos::{MosAnswer, WalkAnswer};
+use mos::Mos;
 use mos_moves::Moves;
 use std::io::Stdout;
 
-pub(crate) fn answer(stdout: Stdout, kind: usize, layout: IsomorphicLayout, n: Values) {
-    let mut moves = [[0i32; 2]; 2];
-    let found = find(kind, layout, n, &mut moves);
-    put(stdout, found, moves);
+#[derive(Clone, Copy)]
+pub(crate) enum Question {
+    Moves(IsomorphicLayout),
+    WriteMoves(IsomorphicLayout),
+    GenesisMoves(u16, u16),
+    NthMoves(u16, u16, u32),
+    WalkMoves(u16, u16),
 }
 
-fn find(kind: usize, layout: IsomorphicLayout, n: Values, moves: &mut Moves) -> WalkAnswer {
-    match kind {
-        names::MOVES => walked(layout_moves::get_moves(layout, moves)),
-        names::GENESIS_MOVES => walked(mos_moves::genesis_moves(n.first, n.second, moves)),
-        _ => mos_moves::nth_moves(n.first, n.second, n.wide, moves),
+impl Ask for Question {
+    fn asked(name: &[u8], words: &mut Words) -> Option<Question> {
+        Some(match name {
+            b"moves" => Question::Moves(words.read()?),
+            b"write_moves" => Question::WriteMoves(words.read()?),
+            b"genesis_moves" => Question::GenesisMoves(words.read()?, words.read()?),
+            b"nth_moves" => Question::NthMoves(words.read()?, words.read()?, words.read()?),
+            b"walk_moves" => Question::WalkMoves(words.read()?, words.read()?),
+            _ => return None,
+        })
     }
-}
 
-// The pattern of an answer that has one, or else a refusal.
-fn walked(answer: MosAnswer) -> WalkAnswer {
-    match answer {
-        MosAnswer::Given(m) => WalkAnswer::Found(m),
-        MosAnswer::Refused(q) => WalkAnswer::Refused(q),
-    }
-}
-
-fn put(stdout: Stdout, answer: WalkAnswer, moves: Moves) {
-    match answer {
-        WalkAnswer::Nothing => print::none(stdout),
-        WalkAnswer::Refused(q) => print::refusal(stdout, q),
-        WalkAnswer::Found(m) => {
-            patterns::put_pattern(stdout, m);
-            put_row(stdout, moves[0]);
-            put_row(stdout, moves[1]);
+    fn answer(self, stdout: Stdout, room: u16) {
+        let mut moves = [[0i32; 2]; 2];
+        match self {
+            Question::Moves(layout) => {
+                let found = layout_moves::get_moves(layout, &mut moves);
+                print::answer(stdout, found, |to, m| put(to, m, moves))
+            }
+            Question::GenesisMoves(period, generator) => {
+                let found = mos_moves::genesis_moves(period, generator, &mut moves);
+                print::answer(stdout, found, |to, m| put(to, m, moves))
+            }
+            Question::NthMoves(period, generator, k) => {
+                let found = mos_moves::nth_moves(period, generator, k, &mut moves);
+                print::answer(stdout, found, |to, walked| {
+                    print::found(to, walked, |to, m| put(to, m, moves))
+                })
+            }
+            Question::WriteMoves(layout) => put_list(stdout, room, |out: &mut [i32]| {
+                layout_moves::write_moves(layout, out)
+            }),
+            Question::WalkMoves(period, generator) => put_list(stdout, room, |out: &mut [i32]| {
+                mos_moves::walk_moves(period, generator, out)
+            }),
         }
     }
 }
 
-fn put_row(stdout: Stdout, row: [i32; 2]) {
-    print::next_signed(stdout, row[0]);
-    print::next_signed(stdout, row[1]);
-}
-
-pub(crate) fn answer_list(stdout: Stdout, kind: usize, layout: IsomorphicLayout, n: Values) {
-    let mut out = list_room();
-    let end = n.room as usize;
-    put_list(stdout, kind, layout, n, &mut out[..end]);
-}
-
-fn put_list(stdout: Stdout, kind: usize, layout: IsomorphicLayout, n: Values, out: &mut [i32]) {
-    let answer = write(kind, layout, n, out);
-    put_written(stdout, out, answer);
-}
-
-// Room for a list of 65,536 moves. The `ensures` is what lending the array needs.
+// Room for a list of 65,536 moves. The `ensures` is what lending the array needs: tried without this function, slicing the array leaves its
+// goal open.
 fn list_room() -> [i32; 65536]
     ensures { 65536 ≡ length result }
 {
     [0; 65536]
 }
 
-// A layout's moves, or those of a walk.
-fn write(kind: usize, layout: IsomorphicLayout, n: Values, out: &mut [i32]) -> CountAnswer {
-    if kind == names::WRITE_MOVES {
-        return layout_moves::write_moves(layout, out);
-    }
-    mos_moves::walk_moves(n.first, n.second, out)
+// The moves that a call writes to a slice of so many elements.
+fn put_list<W: FnOnce(&mut [i32]) -> Result<usize, Refusal>>(stdout: Stdout, room: u16, write: W)
+    requires { W.IsAlwaysCallable write }
+{
+    let mut all = list_room();
+    let end = room as usize;
+    print::filled(stdout, &mut all[..end], write, print::joined);
 }
 
-// What was written to the front of a slice, or the refusal to write it.
-fn put_written(stdout: Stdout, out: &[i32], answer: CountAnswer) {
-    match answer {
-        CountAnswer::Refused(q) => print::refusal(stdout, q),
-        CountAnswer::Given(count) => put_front(stdout, out, count),
-    }
-}
-
-// The first `count` moves, which the slice holds.
-fn put_front(stdout: Stdout, moves: &[i32], count: usize) {
-    let mut i: usize = 0;
-    while i < count {
-        if moves.len() <= i {
-            return;
-        }
-        if 0 < i {
-            print::space(stdout);
-        }
-        print::signed32(stdout, moves[i]);
-        i += 1;
+// A pattern, and the moves of its two steps.
+fn put(stdout: Stdout, m: Mos, moves: Moves) {
+    patterns::put_pattern(stdout, m);
+    for [octaves, generators] in moves {
+        print::next(stdout, octaves);
+        print::next(stdout, generators);
     }
 }

@@ -6,38 +6,71 @@
 //     child, parent, genesis, dual, mirror, coprime PATTERN
 //                                      another pattern, or `none`
 //     get_key PATTERN PRIMARY SECONDARY
-//                                      the key at a place of the board
-use crate::words::Values;
-use crate::{names, print, words};
-use mos::{KeyAnswer, Mos, MosAnswer, SharpnessAnswer, TotalAnswer, WalkAnswer};
+//                                      the key at a place of the board, of 16 signed bits each
+use crate::print;
+use crate::questions::Ask;
+use crate::words::Words;
+use mos::Mos;
 use std::io::Stdout;
 
-pub(crate) fn answer(stdout: Stdout, kind: usize, n: Values) {
-    match kind {
-        names::NEW_GENESIS => put_made(stdout, Mos::new_genesis(n.first, n.second)),
-        names::NEW_COLLAPSED => put_pattern(stdout, Mos::new_collapsed(n.first, n.second)),
-        names::PATTERN => put_new(stdout, Mos::new(n.first, n.second, n.third, n.fourth)),
-        _ => answer_pattern(stdout, kind, pattern_of(n)),
-    }
+#[derive(Clone, Copy)]
+pub(crate) enum Question {
+    NewGenesis(u16, u16),
+    NewCollapsed(u16, u16),
+    Pattern(Mos),
+    Child(Mos),
+    Parent(Mos),
+    Genesis(Mos),
+    Dual(Mos),
+    Mirror(Mos),
+    Coprime(Mos),
+    GetKey(Mos, i16, i16),
 }
 
-pub(crate) fn pattern_of(n: Values) -> Mos {
-    Mos {
-        num_primary_steps: n.first,
-        num_secondary_steps: n.second,
-        primary_step: n.third,
-        secondary_step: n.fourth,
+impl Ask for Question {
+    fn asked(name: &[u8], words: &mut Words) -> Option<Question> {
+        Some(match name {
+            b"new_genesis" => Question::NewGenesis(words.read()?, words.read()?),
+            b"new_collapsed" => Question::NewCollapsed(words.read()?, words.read()?),
+            b"pattern" => Question::Pattern(words.read()?),
+            b"child" => Question::Child(words.read()?),
+            b"parent" => Question::Parent(words.read()?),
+            b"genesis" => Question::Genesis(words.read()?),
+            b"dual" => Question::Dual(words.read()?),
+            b"mirror" => Question::Mirror(words.read()?),
+            b"coprime" => Question::Coprime(words.read()?),
+            b"get_key" => Question::GetKey(words.read()?, words.read()?, words.read()?),
+            _ => return None,
+        })
     }
-}
 
-fn answer_pattern(stdout: Stdout, kind: usize, m: Mos) {
-    match kind {
-        names::CHILD => put_walked(stdout, m.child()),
-        names::PARENT => put_walked(stdout, m.parent()),
-        names::GENESIS => put_made(stdout, mos_walks::genesis(m)),
-        names::DUAL => put_made(stdout, m.dual()),
-        names::MIRROR => put_made(stdout, m.mirror()),
-        _ => put_made(stdout, m.coprime()),
+    fn answer(self, stdout: Stdout, _room: u16) {
+        match self {
+            Question::NewGenesis(period, generator) => {
+                print::answer(stdout, Mos::new_genesis(period, generator), put_pattern)
+            }
+            Question::NewCollapsed(large, small) => {
+                put_pattern(stdout, Mos::new_collapsed(large, small))
+            }
+            Question::Pattern(m) => {
+                let made = Mos::new(
+                    m.num_primary_steps,
+                    m.num_secondary_steps,
+                    m.primary_step,
+                    m.secondary_step,
+                );
+                print::answer(stdout, made, put_numbers)
+            }
+            Question::Child(m) => print::answer(stdout, m.child(), put_walked),
+            Question::Parent(m) => print::answer(stdout, m.parent(), put_walked),
+            Question::Genesis(m) => print::answer(stdout, mos_walks::genesis(m), put_pattern),
+            Question::Dual(m) => print::answer(stdout, m.dual(), put_pattern),
+            Question::Mirror(m) => print::answer(stdout, m.mirror(), put_pattern),
+            Question::Coprime(m) => print::answer(stdout, m.coprime(), put_pattern),
+            Question::GetKey(m, primary, secondary) => {
+                print::answer(stdout, m.get_key(primary, secondary), print::number)
+            }
+        }
     }
 }
 
@@ -51,67 +84,15 @@ pub(crate) fn put_pattern(stdout: Stdout, m: Mos) {
     );
 }
 
-// A pattern, or a refusal.
-pub(crate) fn put_made(stdout: Stdout, answer: MosAnswer) {
-    match answer {
-        MosAnswer::Given(m) => put_pattern(stdout, m),
-        MosAnswer::Refused(q) => print::refusal(stdout, q),
-    }
+fn put_walked(stdout: Stdout, walked: Option<Mos>) {
+    print::found(stdout, walked, put_pattern);
 }
 
-fn put_walked(stdout: Stdout, answer: WalkAnswer) {
-    match answer {
-        WalkAnswer::Found(m) => put_pattern(stdout, m),
-        WalkAnswer::Nothing => print::none(stdout),
-        WalkAnswer::Refused(q) => print::refusal(stdout, q),
-    }
-}
-
-fn put_new(stdout: Stdout, answer: MosAnswer) {
-    match answer {
-        MosAnswer::Refused(q) => print::refusal(stdout, q),
-        MosAnswer::Given(m) => {
-            put_sharpness(stdout, m.sharpness());
-            print::space(stdout);
-            put_steps(stdout, m.num_steps());
-            print::next_answer(stdout, m.size());
-            print::next_answer(stdout, m.num_cycles());
-            print::next_answer(stdout, m.reduced_size());
-        }
-    }
-}
-
-fn put_sharpness(stdout: Stdout, answer: SharpnessAnswer) {
-    match answer {
-        SharpnessAnswer::Given(n) => print::signed32(stdout, n),
-        SharpnessAnswer::Refused(q) => print::refusal(stdout, q),
-    }
-}
-
-fn put_steps(stdout: Stdout, answer: TotalAnswer) {
-    match answer {
-        TotalAnswer::Given(n) => print::number(stdout, n as u64),
-        TotalAnswer::Refused(q) => print::refusal(stdout, q),
-    }
-}
-
-// Whether two numbers of 16 signed bits are the rest of the line; if so, it is answered.
-pub(crate) fn get_key(stdout: Stdout, line: &[u8], n: Values) -> bool {
-    let primary = words::short_after(line, n.end);
-    let secondary = words::short_after(line, primary.end);
-    if words::is_at(line, secondary.end, b'\n') {
-        put_key(
-            stdout,
-            pattern_of(n).get_key(primary.value, secondary.value),
-        );
-        return true;
-    }
-    false
-}
-
-fn put_key(stdout: Stdout, answer: KeyAnswer) {
-    match answer {
-        KeyAnswer::Given(key) => print::signed(stdout, key),
-        KeyAnswer::Refused(q) => print::refusal(stdout, q),
-    }
+fn put_numbers(stdout: Stdout, m: Mos) {
+    print::answer(stdout, m.sharpness(), print::number);
+    print::space(stdout);
+    print::answer(stdout, m.num_steps(), print::number);
+    print::next_answer(stdout, m.size());
+    print::next_answer(stdout, m.num_cycles());
+    print::next_answer(stdout, m.reduced_size());
 }

@@ -5,84 +5,90 @@
 //     accidentals PERIOD GENERATOR SYMBOLS ORIGIN KEY     sharp index and count, flat index and count, cycle
 //
 // An absent cycle is `-`.
-use crate::words::Values;
-use crate::{names, print};
-use pergen::{AccidentalsAnswer, AccidentalsFormat, Cycle, GenerationAnswer, PerGen, PerGenAnswer};
+use crate::print;
+use crate::questions::Ask;
+use crate::words::Words;
+use pergen::{Accidentals, AccidentalsFormat, Generation, PerGen};
 use std::io::Stdout;
 
-pub(crate) fn answer(stdout: Stdout, kind: usize, n: Values) {
-    if kind == names::PERGEN {
-        put_pergen(stdout, PerGen::new(n.first, n.second));
-        return;
-    }
-    let pergen = PerGen {
-        period: n.first,
-        generator: n.second,
-    };
-    if kind == names::GENERATION {
-        put_generated(stdout, pergen.get_generation(n.key));
-        return;
-    }
-    put_spelled(
-        stdout,
-        pergen.get_accidentals(
-            AccidentalsFormat {
-                num_symbols: n.third,
-                genchain_origin: n.fourth,
-            },
-            n.key,
-        ),
-    );
+#[derive(Clone, Copy)]
+pub(crate) enum Question {
+    Pergen(u16, u16),
+    Generation(PerGen, i32),
+    Accidentals(PerGen, AccidentalsFormat, i32),
 }
 
-// Period, generator, cycles, reduced period and inverse, or a refusal.
-pub(crate) fn put_pergen(stdout: Stdout, answer: PerGenAnswer) {
-    match answer {
-        PerGenAnswer::Refused(q) => print::refusal(stdout, q),
-        PerGenAnswer::Given(pergen) => {
-            print::short(stdout, pergen.period);
-            print::next_short(stdout, pergen.generator);
-            print::next_answer(stdout, pergen.num_cycles());
-            print::next_answer(stdout, pergen.reduced_period());
-            print::next_answer(stdout, pergen.generator_inverse());
+impl Ask for Question {
+    fn asked(name: &[u8], words: &mut Words) -> Option<Question> {
+        Some(match name {
+            b"pergen" => Question::Pergen(words.read()?, words.read()?),
+            b"generation" => Question::Generation(pergen_of(words)?, words.read()?),
+            b"accidentals" => Question::Accidentals(
+                pergen_of(words)?,
+                AccidentalsFormat {
+                    num_symbols: words.read()?,
+                    genchain_origin: words.read()?,
+                },
+                words.read()?,
+            ),
+            _ => return None,
+        })
+    }
+
+    fn answer(self, stdout: Stdout, _room: u16) {
+        match self {
+            Question::Pergen(period, generator) => {
+                print::answer(stdout, PerGen::new(period, generator), put_pergen)
+            }
+            Question::Generation(pergen, key) => {
+                print::answer(stdout, pergen.get_generation(key), put_generation)
+            }
+            Question::Accidentals(pergen, format, key) => print::answer(
+                stdout,
+                pergen.get_accidentals(format, key),
+                put_accidentals,
+            ),
         }
     }
 }
 
-fn put_generated(stdout: Stdout, answer: GenerationAnswer) {
-    match answer {
-        GenerationAnswer::Refused(q) => print::refusal(stdout, q),
-        GenerationAnswer::Given(generation) => {
-            print::short(stdout, generation.degree);
-            let cycle = generation.cycle;
-            put_cycle(stdout, cycle);
-        }
-    }
+fn pergen_of(words: &mut Words) -> Option<PerGen> {
+    Some(PerGen {
+        period: words.read()?,
+        generator: words.read()?,
+    })
+}
+
+// Period, generator, cycles, reduced period and inverse.
+pub(crate) fn put_pergen(stdout: Stdout, pergen: PerGen) {
+    print::number(stdout, pergen.period);
+    print::next(stdout, pergen.generator);
+    print::next_answer(stdout, pergen.num_cycles());
+    print::next_answer(stdout, pergen.reduced_period());
+    print::next_answer(stdout, pergen.generator_inverse());
+}
+
+fn put_generation(stdout: Stdout, generation: Generation) {
+    print::number(stdout, generation.degree);
+    put_cycle(stdout, generation.cycle);
 }
 
 // The last word of a line.
-fn put_cycle(stdout: Stdout, cycle: Cycle) {
-    print::space(stdout);
+fn put_cycle(stdout: Stdout, cycle: Option<u16>) {
     match cycle {
-        Cycle::Absent => print::letter(stdout, b'-'),
-        Cycle::Number(number) => print::short(stdout, number),
+        None => print::text(stdout, b" -"),
+        Some(number) => print::next(stdout, number),
     }
 }
 
-// A key's two spellings, or a refusal.
-pub(crate) fn put_spelled(stdout: Stdout, answer: AccidentalsAnswer) {
-    match answer {
-        AccidentalsAnswer::Refused(q) => print::refusal(stdout, q),
-        AccidentalsAnswer::Given(a) => {
-            print::four(
-                stdout,
-                a.sharp_index,
-                a.sharp_count,
-                a.flat_index,
-                a.flat_count,
-            );
-            let cycle = a.cycle;
-            put_cycle(stdout, cycle);
-        }
-    }
+// A key's two spellings.
+pub(crate) fn put_accidentals(stdout: Stdout, a: Accidentals) {
+    print::four(
+        stdout,
+        a.sharp_index,
+        a.sharp_count,
+        a.flat_index,
+        a.flat_count,
+    );
+    put_cycle(stdout, a.cycle);
 }

@@ -3,36 +3,42 @@
 //     sheet LAYOUT KEY KEY KEY KEY     how many records were filled, or the refusal; then the four records, a comma before each
 //
 // Before the call a record holds 9 8 7 6 5 4 behind its key, so that it is seen where one is left untouched.
-ghost use Rattle.answer.specs.Lent.{Filled};
-ghost use Rattle.answer.specs.Refusals.{count_outcome};
-ghost use Rattle.layout_sheet.specs.Answers.{get_sheet};
-
 use crate::print;
-use crate::words::Values;
-use answer::CountAnswer;
+use crate::questions::Ask;
+use crate::words::Words;
 use layout::IsomorphicLayout;
 use layout_sheet::Record;
 use std::io::Stdout;
 
-// What the library answered, and the records.
 #[derive(Clone, Copy)]
-pub(crate) struct Page {
-    pub(crate) answer: CountAnswer,
-    pub(crate) records: [Record; 4],
+pub(crate) struct Question {
+    layout: IsomorphicLayout,
+    keys: [i32; 4],
 }
 
-pub(crate) fn answer(stdout: Stdout, layout: IsomorphicLayout, n: Values, more: Values) {
-    let records = [
-        asked(n.key),
-        asked(n.next_key),
-        asked(more.key),
-        asked(more.next_key),
-    ];
-    put(stdout, fill_page(layout, records));
+impl Ask for Question {
+    fn asked(name: &[u8], words: &mut Words) -> Option<Question> {
+        Some(match name {
+            b"sheet" => Question {
+                layout: words.read()?,
+                keys: [words.read()?, words.read()?, words.read()?, words.read()?],
+            },
+            _ => return None,
+        })
+    }
+
+    fn answer(self, stdout: Stdout, _room: u16) {
+        let mut records = self.keys.map(asking);
+        let answer = layout_sheet::fill_sheet(self.layout, &mut records);
+        print::answer(stdout, answer, print::number);
+        for record in records {
+            put_record(stdout, record);
+        }
+    }
 }
 
 // A record that asks for a key.
-fn asked(key: i32) -> Record {
+fn asking(key: i32) -> Record {
     Record {
         key,
         sharp_index: 9,
@@ -44,32 +50,9 @@ fn asked(key: i32) -> Record {
     }
 }
 
-// The array is lent for the call alone.
-fn fill_page(layout: IsomorphicLayout, records: [Record; 4]) -> Page
-    ensures { Filled (get_sheet layout records) (count_outcome result.answer) records result.records }
-{
-    let mut sheet = records;
-    let answer = layout_sheet::fill_sheet(layout, &mut sheet);
-    Page {
-        answer,
-        records: sheet,
-    }
-}
-
-fn put(stdout: Stdout, page: Page) {
-    let answer = page.answer;
-    print::count(stdout, answer);
-    let records = page.records;
-    let mut i: usize = 0;
-    while i < 4 {
-        put_record(stdout, records[i]);
-        i += 1;
-    }
-}
-
 fn put_record(stdout: Stdout, record: Record) {
     print::text(stdout, b", ");
-    print::signed32(stdout, record.key);
+    print::number(stdout, record.key);
     print::space(stdout);
     print::four(
         stdout,
@@ -78,6 +61,6 @@ fn put_record(stdout: Stdout, record: Record) {
         record.flat_index,
         record.flat_count,
     );
-    print::next_short(stdout, record.stars);
-    print::next_short(stdout, record.lamp);
+    print::next(stdout, record.stars);
+    print::next(stdout, record.lamp);
 }

@@ -6,85 +6,112 @@
 //     kbm LAYOUT        the bytes of the layout's mapping, as numbers
 //     narrow CODE..     lamp codes of two bytes, in one byte again
 //     table LINE        all that the key table program prints for the line
-ghost use Rattle.std.specs.Prelude.{◌≡◌, length};
-
-use crate::words::Values;
-use crate::{books, layouts, names, print};
-use answer::CountAnswer;
+use crate::questions::Ask;
+use crate::words::{self, Line, List, Words};
+use crate::{books, layouts, print};
 use layout::IsomorphicLayout;
 use std::io::Stdout;
 
-pub(crate) fn answer(
-    stdout: Stdout,
-    kind: usize,
-    layout: IsomorphicLayout,
-    n: Values,
-    entries: &[u16],
-    line: &[u8],
-) {
-    let mut out = text_room();
-    let end = n.room as usize;
-    put_into(stdout, kind, layout, n, entries, line, &mut out[..end]);
+#[derive(Drop)]
+pub(crate) enum Question {
+    Chain(u16),
+    EdoReport,
+    Kbm(IsomorphicLayout),
+    Narrow(List<u16>),
+    Layout(IsomorphicLayout),
+    Names(IsomorphicLayout),
+    Name(IsomorphicLayout, i32),
+    Book(IsomorphicLayout),
+    Find(IsomorphicLayout, i32),
 }
 
-// Room for a text of 65,536 bytes. The `ensures` is what lending the array needs.
-fn text_room() -> [u8; 65536]
-    ensures { 65536 ≡ length result }
-{
-    [0; 65536]
-}
-
-fn put_into(
-    stdout: Stdout,
-    kind: usize,
-    layout: IsomorphicLayout,
-    n: Values,
-    entries: &[u16],
-    line: &[u8],
-    out: &mut [u8],
-) {
-    let answer = write(stdout, kind, layout, n, entries, line, out);
-    put(stdout, kind, n.key, out, answer);
-}
-
-fn write(
-    stdout: Stdout,
-    kind: usize,
-    layout: IsomorphicLayout,
-    n: Values,
-    entries: &[u16],
-    line: &[u8],
-    out: &mut [u8],
-) -> CountAnswer {
-    match kind {
-        names::CHAIN => genchain::name(n.first, out),
-        names::EDO_REPORT => edo_counts::report(out),
-        names::KBM => layout_kbm::write_kbm(layout, out),
-        names::NARROW => lamp_codes::narrow_strip(entries, out),
-        names::TABLE => layout_table::respond(line, out),
-        names::NAME => layout.get_note_name(n.key, out),
-        names::BOOK | names::FIND => layout_book::write_book(layout, out),
-        _ => layouts::put_made(stdout, kind, layout, out),
+impl Ask for Question {
+    fn asked(name: &[u8], words: &mut Words) -> Option<Question> {
+        Some(match name {
+            b"chain" => Question::Chain(words.read()?),
+            b"edo_report" => Question::EdoReport,
+            b"kbm" => Question::Kbm(words.read()?),
+            b"narrow" => Question::Narrow(words.read()?),
+            b"layout" => Question::Layout(words::default_layout(words)?),
+            b"layout_from" => Question::Layout(words.read()?),
+            b"names" => Question::Names(words::default_layout(words)?),
+            b"names_from" => Question::Names(words.read()?),
+            b"name" => Question::Name(words::default_layout(words)?, words.read()?),
+            b"name_from" => Question::Name(words.read()?, words.read()?),
+            b"book" => Question::Book(words::default_layout(words)?),
+            b"book_from" => Question::Book(words.read()?),
+            b"find" => Question::Find(words::default_layout(words)?, words.read()?),
+            b"find_from" => Question::Find(words.read()?, words.read()?),
+            _ => return None,
+        })
     }
-}
 
-// What was written to the front of a slice, or the refusal to write it.
-pub(crate) fn put(stdout: Stdout, kind: usize, key: i32, out: &[u8], answer: CountAnswer) {
-    match answer {
-        CountAnswer::Refused(q) => print::refusal(stdout, q),
-        CountAnswer::Given(count) => {
-            if count <= out.len() {
-                put_front(stdout, kind, key, &out[..count]);
+    fn answer(self, stdout: Stdout, room: u16) {
+        let mut all = [0u8; 65536];
+        let out = &mut all[..room as usize];
+        match self {
+            Question::Chain(code) => print::filled(
+                stdout,
+                out,
+                |out: &mut [u8]| genchain::name(code, out),
+                print::text,
+            ),
+            Question::EdoReport => { print::filled(stdout, out, edo_counts::report, print::lines) }
+            Question::Kbm(layout) => print::filled(
+                stdout,
+                out,
+                |out: &mut [u8]| layout_kbm::write_kbm(layout, out),
+                print::list,
+            ),
+            Question::Narrow(strip) => print::filled(
+                stdout,
+                out,
+                |out: &mut [u8]| lamp_codes::narrow_strip(strip.as_slice(), out),
+                print::list,
+            ),
+            Question::Layout(layout) => {
+                print::answer(stdout, layouts::made(layout), |to, layout| {
+                    layouts::put_layout(to, layout, out)
+                })
             }
+            Question::Names(layout) => {
+                print::answer(stdout, layouts::made(layout), |to, layout| {
+                    layouts::put_names(to, layout, out)
+                })
+            }
+            Question::Name(layout, key) => print::filled(
+                stdout,
+                out,
+                |out: &mut [u8]| layout.get_note_name(key, out),
+                print::text,
+            ),
+            Question::Book(layout) => print::filled(
+                stdout,
+                out,
+                |out: &mut [u8]| layout_book::write_book(layout, out),
+                print::list,
+            ),
+            Question::Find(layout, key) => print::filled(
+                stdout,
+                out,
+                |out: &mut [u8]| layout_book::write_book(layout, out),
+                |to: Stdout, book: &[u8]| books::put_lookup(to, book, key),
+            ),
         }
     }
 }
 
-fn put_front(stdout: Stdout, kind: usize, key: i32, text: &[u8]) {
-    match kind {
-        names::KBM | names::NARROW | names::BOOK => print::codes(stdout, text),
-        names::EDO_REPORT | names::TABLE => print::lines(stdout, text),
-        names::FIND => books::put_lookup(stdout, text, key),
-        _ => print::text(stdout, text),
-    }
+// Whether a space and a line of the key table program stand behind the name; if so, the line is answered.
+pub(crate) fn answer_table(stdout: Stdout, line: Line) -> bool {
+    let Some(table_line) = line.words.behind_space() else {
+        return false;
+    };
+    let mut all = [0u8; 65536];
+    print::filled(
+        stdout,
+        &mut all[..line.room as usize],
+        |out: &mut [u8]| layout_table::respond(table_line, out),
+        print::lines,
+    );
+    true
 }

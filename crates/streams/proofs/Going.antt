@@ -1,10 +1,11 @@
 -- Reading goes on while no line feed came: the bytes so far, and each way in which reading ends.
-use Rattle.std.proofs.Common.{◌≡◌, ℕ, ◌+◌, ◌≤◌, min, true, false, List, [], ◌∷◌, ◌++◌, length, sym, refl, ap, ◌∙◌, subst, arith, length-append}
-use mathlib.Core.Bool.{false≢true}
+use Rattle.std.proofs.Common.{◌≡◌, ℕ, ◌+◌, ◌≤◌, min, List, [], ◌∷◌, ◌++◌, length, sym, refl, ap, ◌∙◌, subst, arith, length-append}
 use Rattle.line.specs.Lines.{line_feed}
-use Rattle.streams.specs.Streams.{longest, Taken, Begun, Next}
+use Rattle.streams.specs.Streams.{longest, Taken, Begun, Moved, Next, OneMore, NoMore}
 use Rattle.streams.specs.Reading.{kept_in, Begins, LineRead}
 use Rattle.streams.specs.declared.input.Input.{Input}
+use Rattle.streams.specs.declared.input.LastRead.{LastRead}
+use Rattle.streams.specs.declared.input.LastRead.TheVariants.{Unread, Byte, End}
 use Rattle.streams.proofs.OneLine.{Open, open_more, open_whole, open_ended}
 use Rattle.streams.proofs.Keeping.{keeps, kept_at_most}
 
@@ -39,51 +40,72 @@ read_full buffer input count turns g full = record {
   kept_is = g.kept_is;
 }
 
-module _ (buffer : List ℕ) (past next : Input) (before count turns : ℕ) (g : Going buffer past before turns) (read : Next past before next count) where
-  pub read_to_end : next.at_end ≡ true → LineRead buffer next
-  read_to_end e = record {
-    line = g.line;
-    count = count;
-    taken = read.ended e g.line g.taken;
-    one_line = open_whole g.line g.no_feed_lem;
-    to_its_end = λ f h. absurd (false≢true (sym f ∙ e));
-    begins = g.begins;
-    kept_is = read.same_kept e ∙ g.kept_is;
-  }
+-- what a read told, by what it had
+module _ (past next : Input) (before count : ℕ) where
+  pub moved_byte : (byte : ℕ) → next.last ≡ Byte byte → Next past before next count → OneMore byte past before next count
+  moved_byte byte e read = subst (λ (l : LastRead). Moved l past before next count) e read
 
-  module _ (room : longest ≤ length buffer) (goes : next.at_end ≡ false) where
+  moved_end : next.last ≡ End → Next past before next count → NoMore past before next count
+  moved_end e read = subst (λ (l : LastRead). Moved l past before next count) e read
+
+  no_byte : (l : LastRead) → Moved l past before next count → ((byte : ℕ) → l ≡ Byte byte → ⊥) → l ≡ End
+  no_byte Unread told h = absurd told
+  no_byte (Byte byte) told h = absurd (h byte refl)
+  no_byte End told h = refl
+
+  pub ended : Next past before next count → ((byte : ℕ) → next.last ≡ Byte byte → ⊥) → next.last ≡ End
+  ended told h = no_byte next.last told h
+
+module _ (buffer : List ℕ) (past next : Input) (before count turns : ℕ) (g : Going buffer past before turns) (read : Next past before next count) where
+  pub read_to_end : next.last ≡ End → LineRead buffer next
+  read_to_end e =
+      let told = moved_end past next before count e read in
+      record {
+        line = g.line;
+        count = count;
+        taken = told.same g.line g.taken;
+        one_line = open_whole g.line g.no_feed_lem;
+        to_its_end = λ f h. absurd (f e);
+        begins = g.begins;
+        kept_is = told.same_kept ∙ g.kept_is;
+      }
+
+  module _ (room : longest ≤ length buffer) (byte : ℕ) (goes : next.last ≡ Byte byte) where
+    told : OneMore byte past before next count
+    told = moved_byte past next before count byte goes read
+
     abbrev more : List ℕ
-    more = g.line ++ next.last ∷ []
+    more = g.line ++ byte ∷ []
 
     longer : length more ≡ length g.line + 1
-    longer = length-append g.line (next.last ∷ [])
+    longer = length-append g.line (byte ∷ [])
 
-    begins_more : Begins (kept_in buffer past.kept next.last) more
+    begins_more : Begins (kept_in buffer past.kept byte) more
     begins_more =
         subst (λ (b : List ℕ). Begins b more)
-        (sym (ap (λ (n : ℕ). kept_in buffer n next.last) g.kept_is ∙ kept_at_most buffer (length g.line) next.last))
-        (keeps buffer g.line next.last room g.begins)
+        (sym (ap (λ (n : ℕ). kept_in buffer n byte) g.kept_is ∙ kept_at_most buffer (length g.line) byte))
+        (keeps buffer g.line byte room g.begins)
 
     kept_more : next.kept ≡ min longest (length more)
-    kept_more = omega (arith, read.more_kept goes, g.kept_is, longer)
+    kept_more = omega (arith, told.more_kept, g.kept_is, longer)
 
-    pub going_on : (next.last ≡ line_feed → ⊥) → Going (kept_in buffer past.kept next.last) next count (turns + 1)
+    pub going_on : (byte ≡ line_feed → ⊥) → Going (kept_in buffer past.kept byte) next count (turns + 1)
     going_on e = record {
       line = more;
-      taken = read.more goes g.line g.taken;
+      taken = told.more g.line g.taken;
       as_many = omega (arith, g.as_many, longer);
-      no_feed_lem = open_more g.line next.last e g.no_feed_lem;
+      no_feed_lem = open_more g.line byte e g.no_feed_lem;
       begins = begins_more;
       kept_is = kept_more;
     }
 
-    pub read_to_feed : next.last ≡ line_feed → LineRead (kept_in buffer past.kept next.last) next
+    pub read_to_feed : byte ≡ line_feed → LineRead (kept_in buffer past.kept byte) next
     read_to_feed e = record {
       line = more;
       count = count;
-      taken = read.more goes g.line g.taken;
-      one_line = open_ended g.line next.last e g.no_feed_lem;
-      to_its_end = λ f h. e;
+      taken = told.more g.line g.taken;
+      one_line = open_ended g.line byte e g.no_feed_lem;
+      to_its_end = λ f h. goes ∙ ap Byte e;
       begins = begins_more;
       kept_is = kept_more;
     }

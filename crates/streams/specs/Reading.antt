@@ -3,6 +3,7 @@
 use Rattle.std.specs.Prelude.{◌≡◌, ℕ, ◌<◌, min, true, false, List, [], ◌∷◌, ◌++◌, length, take, ◌==◌, nat_lt, slice_set}
 use Rattle.line.specs.Lines.{line_feed}
 use Rattle.streams.specs.declared.input.Input.{Input}
+use Rattle.streams.specs.declared.input.LastRead.TheVariants.{Byte, End}
 use Rattle.streams.specs.Streams.{longest, Taken}
 
 -- "one line": the bytes up to and with the first line feed, or all where none comes.
@@ -27,7 +28,7 @@ pub record LineRead (buffer : List ℕ) (input : Input) : Type 0 where
   -- nothing past the first line feed
   pub one_line : first_line line ≡ line
   -- and all up to it, unless the input ended before, or 2^64 - 1 bytes came
-  pub to_its_end : input.at_end ≡ false → length line < 18446744073709551615 → input.last ≡ line_feed
+  pub to_its_end : (input.last ≡ End → ⊥) → length line < 18446744073709551615 → input.last ≡ Byte line_feed
   pub begins : Begins buffer line
   pub kept_is : input.kept ≡ min longest (length line)
 

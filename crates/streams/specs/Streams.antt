@@ -3,9 +3,11 @@
 -- module opens them, and whoever says that bytes were moved has it from the contracts of `begin`, `next_byte` and `write`. The laws at the
 -- end are for the proofs of these functions and are part of the abstraction: what they ask of an `Input` or an `Output`, its count,
 -- no contract tells, so no caller can show it.
-use Rattle.std.specs.Prelude.{◌≡◌, ℕ, ◌+◌, ◌%◌, min, true, false, List, [], ◌∷◌, ◌++◌, length}
+use Rattle.std.specs.Prelude.{◌≡◌, ℕ, ◌+◌, ◌%◌, min, true, List, [], ◌∷◌, ◌++◌, length}
 use Rattle.std.proofs.Common.{arith, length-append}
 use Rattle.streams.specs.declared.input.Input.{Input}
+use Rattle.streams.specs.declared.input.LastRead.{LastRead}
+use Rattle.streams.specs.declared.input.LastRead.TheVariants.{Unread, Byte, End}
 use Rattle.streams.specs.declared.output.Output.{Output}
 
 -- The counts go round at 2^64.
@@ -42,14 +44,26 @@ Taken bytes input count = (input.taken ≡ length bytes % round) × (count ≡ i
 pub record Begun (input : Input) : Type 0 where
   pub none : Taken [] input 0
   pub none_kept : input.kept ≡ 0
-  pub not_ended : input.at_end ≡ false
+  pub not_ended : input.last ≡ Unread
 
--- What `next_byte` promises: nothing more where the input ended, else one byte more, which is the last.
-pub record Next (past : Input) (before : ℕ) (input : Input) (count : ℕ) : Type 0 where
-  pub ended : input.at_end ≡ true → (bytes : List ℕ) → Taken bytes past before → Taken bytes input count
-  pub more : input.at_end ≡ false → (bytes : List ℕ) → Taken bytes past before → Taken (bytes ++ input.last ∷ []) input count
-  pub same_kept : input.at_end ≡ true → input.kept ≡ past.kept
-  pub more_kept : input.at_end ≡ false → input.kept ≡ min longest (past.kept + 1)
+-- What `next_byte` promises where the input ended: nothing more.
+pub record NoMore (past : Input) (before : ℕ) (input : Input) (count : ℕ) : Type 0 where
+  pub same : (bytes : List ℕ) → Taken bytes past before → Taken bytes input count
+  pub same_kept : input.kept ≡ past.kept
+
+-- And else: one byte more, which is the last.
+pub record OneMore (byte : ℕ) (past : Input) (before : ℕ) (input : Input) (count : ℕ) : Type 0 where
+  pub more : (bytes : List ℕ) → Taken bytes past before → Taken (bytes ++ byte ∷ []) input count
+  pub more_kept : input.kept ≡ min longest (past.kept + 1)
+
+abbrev pub Moved : LastRead → Input → ℕ → Input → ℕ → Type 0
+Moved Unread past before input count = ⊥
+Moved (Byte byte) past before input count = OneMore byte past before input count
+Moved End past before input count = NoMore past before input count
+
+-- What `next_byte` promises, by what it read.
+abbrev pub Next : Input → ℕ → Input → ℕ → Type 0
+Next past before input count = Moved input.last past before input count
 
 -- ---- laws for the proofs of `begin`, `write` and `next_byte`
 

@@ -6,15 +6,22 @@ ghost use Rattle.streams.specs.Streams.{longest, Begun, Next};
 use std::io::{Read, Stdin};
 use std::num::wrapping_add_usize;
 
-// Where reading stands: the handle that it reads by, how many bytes were taken (modulo 2^64), of these how many a buffer keeps, the last of
-// them (0 before the first), and whether the last read had none.
+// What the last read had: nothing before the first one, a byte, or none where the input ended or could not be read.
+#[derive(Clone, Copy)]
+pub enum LastRead {
+    Unread,
+    Byte(u8),
+    End,
+}
+
+// Where reading stands: the handle that it reads by, how many bytes were taken (modulo 2^64), of these how many a buffer keeps, and what the
+// last read had.
 #[derive(Clone, Copy)]
 pub struct Input {
     stdin: Stdin,
     taken: usize,
     kept: usize,
-    last: u8,
-    at_end: bool,
+    last: LastRead,
 }
 
 // Before the first read.
@@ -25,8 +32,7 @@ pub fn begin(stdin: Stdin) -> Input
         stdin,
         taken: 0,
         kept: 0,
-        last: 0,
-        at_end: false,
+        last: LastRead::Unread,
     }
 }
 
@@ -46,11 +52,8 @@ pub fn next_byte(past: Input, count: &mut usize) -> Input
     let mut stdin = past.stdin;
     if stdin.read_exact(&mut byte).is_err() {
         return Input {
-            stdin,
-            taken: past.taken,
-            kept: past.kept,
-            last: past.last,
-            at_end: true,
+            last: LastRead::End,
+            ..past
         };
     }
     *count = wrapping_add_usize(*count, 1);
@@ -58,23 +61,15 @@ pub fn next_byte(past: Input, count: &mut usize) -> Input
         stdin,
         taken: wrapping_add_usize(past.taken, 1),
         kept: one_more(past.kept),
-        last: byte[0],
-        at_end: false,
+        last: LastRead::Byte(byte[0]),
     }
 }
 
-// The last byte that was taken.
-pub fn last(input: Input) -> u8
+// What the last read had.
+pub fn last(input: Input) -> LastRead
     ensures { result ≡ input.last }
 {
     input.last
-}
-
-// Whether the last read had no byte.
-pub fn at_end(input: Input) -> bool
-    ensures { result ≡ input.at_end }
-{
-    input.at_end
 }
 
 // How many of the bytes that were taken are kept.

@@ -30,19 +30,11 @@ pub fn write(past: Output, text: &[u8]) -> Output
     ensures { Written past text.now result }
 {
     let mut stdout = past.stdout;
-    let taken = stdout.write_all(text).is_ok();
-    let handed = wrapping_add_usize(past.handed, text.len());
-    if past.taken {
-        return Output {
-            stdout,
-            handed,
-            taken,
-        };
-    }
+    let written = stdout.write_all(text).is_ok();
     Output {
         stdout,
-        handed,
-        taken: false,
+        handed: wrapping_add_usize(past.handed, text.len()),
+        taken: written && past.taken,
     }
 }
 

@@ -6,18 +6,25 @@ use mathlib.Core.Path.{◌≡◌, refl, sym, ap, ◌∙◌}
 use mathlib.Core.List.{List, ◌++◌, append_assoc}
 use lib.ListN.{length, get_or}
 use lib.Seq.{get_or-append-add}
+use Rattle.std.specs.Int.{to_le_bytes}
+use Rattle.std.proofs.Common.{w32}
 use Rattle.text.specs.LittleEndian.{le32, value32}
 use Rattle.text.specs.Theorems.{FourBytesReadBack}
+
+-- the kit's four bytes
+pub four_bytes : (n : ℕ) → to_le_bytes w32 n ≡ le32 n
+unfolding le32
+four_bytes n = refl
 
 pub length_le32 : (n : ℕ) → length (le32 n) ≡ 4
 unfolding le32
 length_le32 n = refl
 
--- from four bytes that were read
-pub value_is : (bytes : List ℕ) (at a b c d : ℕ) → a ≡ get_or bytes at 0 → b ≡ get_or bytes (at + 1) 0 → c ≡ get_or bytes (at + 2) 0
-    → d ≡ get_or bytes (at + 3) 0 → a + 256 * b + 65536 * c + 16777216 * d ≡ value32 bytes at
+-- as the kit reads them
+pub value_is : (bytes : List ℕ) (at : ℕ)
+    → get_or bytes at 0 + get_or bytes (at + 1) 0 * 256 + get_or bytes (at + 2) 0 * 65536 + get_or bytes (at + 3) 0 * 16777216 ≡ value32 bytes at
 unfolding value32
-value_is bytes at a b c d ea eb ec ed = omega arith
+value_is bytes at = omega arith
 
 -- only what stands from the place on counts
 pub value_behind : (before bytes : List ℕ) (at : ℕ) → value32 (before ++ bytes) (length before + at) ≡ value32 bytes at

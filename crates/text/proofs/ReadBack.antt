@@ -6,9 +6,8 @@ use mathlib.Core.Path.{◌≡◌, refl, sym, ap, ◌∙◌, subst}
 use mathlib.Core.List.{List, [], ◌∷◌, ◌++◌}
 use lib.ListN.{length, drop}
 use lib.Seq.{drop_at}
-use Rattle.text.specs.Decimal.{is_digit, leading, value, digits, digits_at, value_at, end_at, is_number, number_at}
+use Rattle.text.specs.Decimal.{is_digit, leading, value, digits, digits_at, value_at, end_at, is_number, numeral, number_at}
 use Rattle.text.specs.Theorems.{DigitsReadBack}
-use Rattle.text.specs.declared.decimal.Reading.TheVariants.{Number}
 use Rattle.text.proofs.Digits.{digits_one, digits_more, by_digits, is_digit_lem, leading_digit, leading_other, value_digits, digits_length}
 use Rattle.text.proofs.Numbers.{is_number_lem, a_number, length_is}
 
@@ -63,13 +62,13 @@ module _ (text before rest : List ℕ) (at n behind : ℕ) (where-is : length be
       (rw value_stands (omega arith))
 
 in_text : (n byte : ℕ) (before rest : List ℕ) → n < 65536 → is_digit byte ≡ false
-    → number_at (before ++ (digits n ++ byte ∷ rest)) (length before) ≡ Number n (length before + length (digits n))
+    → number_at (before ++ (digits n ++ byte ∷ rest)) (length before) ≡ numeral n (length before + length (digits n))
 in_text n byte before rest h e =
     let text = before ++ (digits n ++ byte ∷ rest) in
     let at = length before in
     sym (a_number text at (number_stands text before rest at n byte refl refl e h))
-    ∙ ap (λ (k : ℕ). Number k (end_at text at)) (value_stands text before rest at n byte refl refl e)
-    ∙ ap (λ (k : ℕ). Number n k) (end_stands text before rest at n byte refl refl e)
+    ∙ ap (λ (k : ℕ). numeral k (end_at text at)) (value_stands text before rest at n byte refl refl e)
+    ∙ ap (λ (k : ℕ). numeral n k) (end_stands text before rest at n byte refl refl e)
 
 pub digits_read_back : DigitsReadBack
 digits_read_back = record { back = value_digits; lengths = digits_length; in_text = in_text }

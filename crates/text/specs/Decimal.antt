@@ -1,8 +1,6 @@
 -- Numbers in decimal, as bytes: 48 is the digit 0, 57 the digit 9.
-use Rattle.std.specs.Prelude.{ℕ, zero, suc, ◌+◌, ◌-◌, ◌*◌, ◌/◌, ◌%◌, ◌≤◌, Bool, true, false, ◌&&◌, List, [], ◌∷◌, ◌++◌, ◌≡◌, length, get_or, drop, leb, ltb}
+use Rattle.std.specs.Prelude.{ℕ, zero, suc, ◌+◌, ◌-◌, ◌*◌, ◌/◌, ◌%◌, ◌≤◌, Bool, true, false, ◌&&◌, List, [], ◌∷◌, ◌++◌, Option, Some, None, ◌≡◌, length, get_or, drop, leb, ltb}
 use Rattle.answer.specs.Choice.{pick}
-use Rattle.text.specs.declared.decimal.Reading.{Reading}
-use Rattle.text.specs.declared.decimal.Reading.TheVariants.{Number, Nothing}
 
 -- ---- reading
 
@@ -43,14 +41,18 @@ unfoldable pub is_number : List ℕ → ℕ → Bool
 unfolding digits_at value_at
 is_number text at = leb 1 (length (digits_at text at)) && leb (length (digits_at text at)) 5 && leb (value_at text at) 65535
 
--- The number at a place, and the place after its digits.
-unfoldable pub number_at : List ℕ → ℕ → Reading
-unfolding is_number value_at end_at
-number_at text at = pick (is_number text at) (Number (value_at text at) (end_at text at)) Nothing
+-- A number that was read, and the place after it.
+abbrev pub numeral : ℕ → ℕ → Option (ℕ × ℕ)
+numeral value next = Some (value, next)
 
--- What `digit_at` promises: the digit at a place, or 10.
-unfoldable pub digit_at : List ℕ → ℕ → ℕ
-digit_at text at = pick (is_digit (get_or text at 0)) (get_or text at 0 - 48) 10
+-- The number at a place, and the place after its digits.
+unfoldable pub number_at : List ℕ → ℕ → Option (ℕ × ℕ)
+unfolding is_number value_at end_at
+number_at text at = pick (is_number text at) (numeral (value_at text at) (end_at text at)) None
+
+-- What `digit_at` promises: the digit at a place, where one stands there.
+unfoldable pub digit_at : List ℕ → ℕ → Option ℕ
+digit_at text at = pick (is_digit (get_or text at 0)) (Some (get_or text at 0 - 48)) None
 
 -- ---- writing
 

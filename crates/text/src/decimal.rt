@@ -9,53 +9,35 @@ ghost use Rattle.text.specs.Decimal.{digits, DigitsLength, digit_at, number_at};
 
 use crate::writer::put_byte;
 
-// A number and the place after its digits, or none.
-#[derive(Clone, Copy)]
-pub enum Reading {
-    Number(u16, usize),
-    Nothing,
-}
-
 // How many digits a number has: 1 to 5.
 pub fn number_len(n: u16) -> usize
     ensures { DigitsLength n result }
 {
-    if n < 10 {
-        return 1;
+    match n {
+        0..=9 => 1,
+        10..=99 => 2,
+        100..=999 => 3,
+        1000..=9999 => 4,
+        _ => 5,
     }
-    if n < 100 {
-        return 2;
-    }
-    if n < 1000 {
-        return 3;
-    }
-    if n < 10000 {
-        return 4;
-    }
-    5
 }
 
 // The first digit of a number below 100, and how far behind it the last one stands.
 fn first_digit(n: u16) -> u16
     ensures { result ≡ pick (ltb n 10) n (n / 10) }
 {
-    if n < 10 {
-        return n;
-    }
-    n / 10
+    if n < 10 { n } else { n / 10 }
 }
 
 fn last_place(n: u16) -> usize
     ensures { result ≡ pick (ltb n 10) 0 1 }
 {
-    if n < 10 {
-        return 0;
-    }
-    1
+    if n < 10 { 0 } else { 1 }
 }
 
-// The digits of a number, one function for each length: none calls itself, so that a number is written in one piece of code. Whether a lamp
-// code has one digit or two is as good as chance, so both go one way: a single digit is stored twice at its place.
+// The digits of a number, one function for each length: none calls itself, so that a number is written in one piece of code, which was
+// measured to be faster than one function for all lengths. Whether a lamp code has one digit or two is as good as chance, so both go one
+// way: a single digit is stored twice at its place.
 fn put_short(out: &mut [u8], at: usize, n: u16) -> usize
     requires { (n < 100) × Room out.old at (digits n) }
     ensures { Wrote out.old at (digits n) out.new result }
@@ -94,16 +76,12 @@ pub fn put_number(out: &mut [u8], at: usize, n: u16) -> usize
     requires { Room out.old at (digits n) }
     ensures { Wrote out.old at (digits n) out.new result }
 {
-    if n < 100 {
-        return put_short(out, at, n);
+    match n {
+        0..=99 => put_short(out, at, n),
+        100..=999 => put_three(out, at, n),
+        1000..=9999 => put_four(out, at, n),
+        _ => put_five(out, at, n),
     }
-    if n < 1000 {
-        return put_three(out, at, n);
-    }
-    if n < 10000 {
-        return put_four(out, at, n);
-    }
-    put_five(out, at, n)
 }
 
 // The same with one byte right behind the digits.
@@ -115,43 +93,35 @@ pub fn put_number_then(out: &mut [u8], at: usize, n: u16, behind: u8) -> usize
     put_byte(out, next, behind)
 }
 
-// The digit at a place, or 10 where there is none.
-fn digit_at(text: &[u8], at: usize) -> u32
+// The digit at a place, where one stands there.
+fn digit_at(text: &[u8], at: usize) -> Option<u32>
     ensures { result ≡ digit_at text.now at }
 {
-    if text.len() <= at {
-        return 10;
+    let byte = *text.get(at)?;
+    match byte {
+        b'0'..=b'9' => Some(u32::from(byte - b'0')),
+        _ => None,
     }
-    let byte = text[at];
-    if byte < b'0' {
-        return 10;
-    }
-    if b'9' < byte {
-        return 10;
-    }
-    (byte - b'0') as u32
 }
 
-// The number that begins at a place: 1 to 5 digits, leading zeros among them, which say at most 65,535.
-pub fn read_number(text: &[u8], at: usize) -> Reading
+// The number that begins at a place, and the place after its digits: 1 to 5 digits, leading zeros among them, which say at most 65,535.
+pub fn read_number(text: &[u8], at: usize) -> Option<(u16, usize)>
     ensures { result ≡ number_at text.now at }
 {
     let mut value: u32 = 0;
     let mut next = at;
-    let mut digit = digit_at(text, next);
-    while digit < 10 {
+    while let Some(digit) = digit_at(text, next) {
         value = 10 * value + digit;
         next += 1;
         if 65535 < value {
-            return Reading::Nothing;
+            return None;
         }
         if 5 < next - at {
-            return Reading::Nothing;
+            return None;
         }
-        digit = digit_at(text, next);
     }
-    if next <= at {
-        return Reading::Nothing;
+    if next == at {
+        return None;
     }
-    Reading::Number(value as u16, next)
+    Some((value as u16, next))
 }

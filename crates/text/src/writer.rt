@@ -13,19 +13,16 @@ pub fn put_byte(out: &mut [u8], at: usize, byte: u8) -> usize
     at + 1
 }
 
-// One byte as often as `count` says; the place after the last.
-pub fn put_run(out: &mut [u8], at: usize, byte: u8, count: u16) -> usize
-    requires { Room out.old at (replicate count byte) }
-    ensures { Wrote out.old at (replicate count byte) out.new result }
+// One element as often as `count` says, a byte or a number; the place after the last.
+pub fn put_run<T: Copy>(out: &mut [T], at: usize, element: T, count: u16) -> usize
+    requires { Room out.old at (replicate count element) }
+    ensures { Wrote out.old at (replicate count element) out.new result }
 {
-    let mut written: u16 = 0;
-    let mut place = at;
-    while written < count {
-        out[place] = byte;
-        place += 1;
-        written += 1;
+    let end = at + count as usize;
+    for place in at..end {
+        out[place] = element;
     }
-    place
+    end
 }
 
 // The bytes of a text from a place on; the place after the last.

@@ -1,4 +1,6 @@
 -- Two typed spellings stand less than 2⁶³ places apart: a place is made of less than 2³² signs of at most nine letters.
+use Rattle.answer.specs.declared.Refusal.{Refusal}
+use Rattle.std.specs.Prelude.{Result, Ok, Err}
 use Prim.Native.Nat.{ℕ, ◌+◌, ◌*◌, ◌≤◌, ◌<◌, ◌^◌}
 use native.Mathlib.Nat.{mul-le-mul, le_refl}
 use native.Mathlib.Omega.{arith}
@@ -6,8 +8,6 @@ use mathlib.Core.Path.{◌≡◌, sym, subst}
 use mathlib.Core.List.{List}
 use lib.IntN.{ℤ, nat_abs, ◌-ℤ◌}
 use Rattle.answer.specs.Outcome.{given}
-use Rattle.answer.specs.declared.CountAnswer.{CountAnswer}
-use Rattle.answer.specs.declared.CountAnswer.TheVariants as Count
 use Rattle.math.proofs.Integers.{Rep, rep_minus, abs_rep}
 use Rattle.notes.specs.Names.{signs_in}
 use Rattle.pergen.specs.declared.Signs.{Signs}
@@ -71,6 +71,7 @@ apart_small r first second e q =
     (place_near l s x.other x.is_other.letter u.2.signs))
 
 -- and what is said of them has less than 2⁶³ bytes
-pub words_small : (first second : List ℕ) (a : CountAnswer) → ShortAnswer first second a → SmallCount a
-words_small first second (Count.Given n) h = h.held
-words_small first second (Count.Refused q) h = tt
+pub words_small : (first second : List ℕ) (a : Result ℕ Refusal) → ShortAnswer first second a → SmallCount a
+words_small first second (Ok n) h m is =
+    let same : m ≡ n = cc in subst (λ (k : ℕ). k < 2 ^ 63) (sym same) h.held
+words_small first second (Err q) h m is = cc

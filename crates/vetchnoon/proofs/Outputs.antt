@@ -1,16 +1,14 @@
 -- What each call writes, from what the library answered.
+use Rattle.std.specs.Prelude.{Option}
 use Prim.Native.Nat.{ℕ, ◌≤◌, ◌<◌, ◌^◌}
-use mathlib.Core.Path.{◌≡◌, refl, sym, ap, ap₂, ◌∙◌, subst}
+use mathlib.Core.Path.{◌≡◌, refl, sym, ap, ◌∙◌, subst}
 use mathlib.Core.Bool.{Bool, true}
-use mathlib.Core.Option.{Option}
 use mathlib.Core.List.{List, [], ◌∷◌, ◌++◌}
 use native.Mathlib.Omega.{arith}
 use lib.Dec.{leb, ltb}
 use lib.IntN.{ℤ}
 use lib.ListN.{length}
 use borrow.Author.Tests.{leb-true}
-use mir.Syntax.{w16, w32}
-use mir.Val.{SFits, to_z, of_z}
 use Rattle.answer.specs.Outcome.{Outcome, given, refused, ask, and_then}
 use Rattle.answer.specs.Lent.{held_in, in_room}
 use Rattle.answer.proofs.Asked.{given_same, asked_yes, asked_rest, ask_then}
@@ -28,19 +26,15 @@ use Rattle.layout.proofs.Finding.{accepted, octave_is}
 use Rattle.layout_book.specs.LayoutBooks.{book_in, get_book}
 use Rattle.layout_book.proofs.NameBounds.{name_short}
 use Rattle.layout_book.proofs.Theorems.{offsets_fit}
-use Rattle.layout_layers.specs.declared.Layer.{Layer}
-use Rattle.math.proofs.Signed.{read_back_lem}
 use Rattle.mos.specs.Answers.{of_pattern, genesis_outcome, listing_outcome}
-use Rattle.mos.specs.Patterns.{is_pattern, key_at}
+use Rattle.mos.specs.Patterns.{is_pattern}
 use Rattle.mos.specs.Walks.{children, first_with, fields, listed}
 use Rattle.mos.specs.declared.Mos.{Mos}
 use Rattle.mos.proofs.Theorems.{made_patterns}
 use Rattle.pergen.specs.Parts.{solved_of}
-use Rattle.pergen.specs.Spelling.{stars_of}
-use Rattle.pergen.specs.declared.Generation.{Generation}
 use Rattle.pergen.specs.declared.euclid.Solved.{Solved}
 use Rattle.vetchnoon_codes.specs.Numbers.{as_numbers, walk_numbers}
-use Rattle.vetchnoon.specs.Written.{pergen_numbers, pergen_output, presence, generation_numbers, find_output, letters_output, name_output, layout_numbers, layout_output, kind_number, kind_level, kind_numbers}
+use Rattle.vetchnoon.specs.Written.{pergen_numbers, pergen_output, find_output, letters_output, name_output, layout_numbers, layout_output}
 
 -- ---- pergens
 
@@ -58,11 +52,6 @@ pergen_refused P G none = sym (ask_none 2 P _ none)
 pub pergen_given : (P G : ℕ) (s : Solved) → (P ≡ 0 → ⊥) → s ≡ solved_of P G → given (solved_numbers s) ≡ pergen_output P G
 unfolding pergen_output
 pergen_given P G s some is = ap given (solved_numbers_lem P G s is) ∙ sym (ask_some 2 P _ some)
-
-pub generation_given : {o : Outcome Generation} (g : Generation) (p s : ℕ) → given g ≡ o → p ≡ presence g.cycle → s ≡ stars_of g.cycle
-    → given (g.degree ∷ p ∷ s ∷ []) ≡ as_numbers generation_numbers o
-generation_given g p s e q r =
-    ap₂ (λ (x y : ℕ). given (g.degree ∷ x ∷ y ∷ [])) q r ∙ ap (as_numbers generation_numbers) e
 
 -- ---- step patterns
 
@@ -97,15 +86,6 @@ pub layers_in_room : (room : ℕ) (m : Mos) → in_room room (of_pattern m (laye
 unfolding of_pattern layers_outcome
 layers_in_room room m = ask_then 7 (is_pattern m) (given (layers_of m)) (held_in room)
 
--- a key is a signed number, which comes as it is read back
-pub key_handed_on : {A : Type 0} (answer : ℤ → A) (key : ℤ) → SFits w32 key → answer (to_z w32 (of_z w32 key)) ≡ answer key
-key_handed_on answer key f = ap answer (read_back_lem w32 key f)
-
--- a key's place is two signed numbers, which come as they are read back
-pub key_read_back : (m : Mos) (p s : ℤ) → SFits w16 p → SFits w16 s
-    → of_pattern m (key_at m (to_z w16 (of_z w16 p)) (to_z w16 (of_z w16 s))) ≡ of_pattern m (key_at m p s)
-key_read_back m p s f g = ap₂ (λ (x y : ℤ). of_pattern m (key_at m x y)) (read_back_lem w16 p f) (read_back_lem w16 s g)
-
 -- ---- chains
 
 pub letters_in_room : (room code : ℕ) → in_room room (letters_output code) ≡ letters_outcome code room
@@ -115,11 +95,6 @@ letters_in_room room code = ask_then 1 (ltb code 6) (given (chain_of code).lette
 pub name_in_room : (room code : ℕ) → in_room room (name_output code) ≡ name_outcome code room
 unfolding name_output name_outcome
 name_in_room room code = ask_then 1 (ltb code 6) (given (chain_of code).name) (held_in room)
-
--- ---- layers
-
-pub kind_given : {layer kind : Layer} (n k : ℕ) → layer ≡ kind → n ≡ kind_number layer → k ≡ kind_level layer → given (n ∷ k ∷ []) ≡ given (kind_numbers kind)
-kind_given n k is p q = ap₂ (λ (x y : ℕ). given (x ∷ y ∷ [])) p q ∙ ap (λ (l : Layer). given (kind_numbers l)) is
 
 -- ---- layouts
 

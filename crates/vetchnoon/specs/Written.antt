@@ -1,5 +1,5 @@
 -- The lists of numbers that the calls write, each after the questions of its call.
-use Rattle.std.specs.Prelude.{ℕ, List, [], ◌∷◌, ◌++◌, leb, ℤ}
+use Rattle.std.specs.Prelude.{ℕ, List, [], ◌∷◌, ◌++◌, leb, ℤ, None, Option, Some}
 use Rattle.answer.specs.Outcome.{Outcome, given, ask, and_then}
 use Rattle.book.specs.declared.Place.{Place}
 use Rattle.book.specs.Books.{find_outcome}
@@ -16,8 +16,6 @@ use Rattle.mos.specs.declared.Mos.{Mos}
 use Rattle.mos.specs.Walks.{children, first_with, fields}
 use Rattle.mos.specs.Answers.{genesis_outcome}
 use Rattle.pergen.specs.declared.AccidentalsFormat.{AccidentalsFormat}
-use Rattle.pergen.specs.declared.Cycle.{Cycle}
-use Rattle.pergen.specs.declared.Cycle.TheVariants.{Absent, Number}
 use Rattle.pergen.specs.declared.Generation.{Generation}
 use Rattle.pergen.specs.declared.PerGen.{PerGen}
 use Rattle.pergen.specs.declared.Spelling.{Spelling}
@@ -60,9 +58,9 @@ unfolding pergen_numbers
 pergen_output P G = ask 2 (leb 1 P) (given (pergen_numbers P G))
 
 -- 1 if a cycle is present, else 0.
-abbrev pub presence : Cycle → ℕ
-presence Absent = 0
-presence (Number c) = 1
+abbrev pub presence : Option ℕ → ℕ
+presence None = 0
+presence (Some c) = 1
 
 -- The degree, whether a cycle is present, and the cycle, 0 where it is absent.
 abbrev pub generation_numbers : Generation → List ℕ

@@ -5,7 +5,7 @@ ghost use Rattle.mos_moves.specs.Answers.{get_walk_moves};
 ghost use Rattle.vetchnoon_codes.specs.Codes.{Fills};
 ghost use Rattle.vetchnoon.specs.Written.{layout};
 
-use layout::IsomorphicLayout;
+use crate::parts;
 
 // The first octave many entries of a list, each at its key's place in the chain (1, 2, 3, 4, 18, 10).
 #[unsafe(no_mangle)]
@@ -19,12 +19,7 @@ pub extern "C" fn vn_to_chain_order(
 ) -> i64
     ensures { Fills (get_chain_order (layout chain octave tritave start) keys.now) result out.old out.new }
 {
-    let layout = IsomorphicLayout {
-        genchain: chain,
-        octave,
-        tritave,
-        start,
-    };
+    let layout = parts::layout_of(chain, octave, tritave, start);
     vetchnoon_codes::count(layout_order::to_chain_order(layout, keys, out))
 }
 
@@ -40,12 +35,7 @@ pub extern "C" fn vn_to_key_order(
 ) -> i64
     ensures { Fills (get_key_order (layout chain octave tritave start) keys.now) result out.old out.new }
 {
-    let layout = IsomorphicLayout {
-        genchain: chain,
-        octave,
-        tritave,
-        start,
-    };
+    let layout = parts::layout_of(chain, octave, tritave, start);
     vetchnoon_codes::count(layout_order::to_key_order(layout, keys, out))
 }
 
@@ -60,12 +50,7 @@ pub extern "C" fn vn_moves(
 ) -> i64
     ensures { Fills (get_move_numbers (layout chain octave tritave start)) result out.old out.new }
 {
-    let layout = IsomorphicLayout {
-        genchain: chain,
-        octave,
-        tritave,
-        start,
-    };
+    let layout = parts::layout_of(chain, octave, tritave, start);
     vetchnoon_codes::count(layout_moves::write_moves(layout, out))
 }
 

@@ -7,21 +7,16 @@ ghost use Rattle.layout_table.specs.Tables.{output};
 ghost use Rattle.vetchnoon_codes.specs.Codes.{code_of, Fills};
 ghost use Rattle.vetchnoon.specs.Written.{layout, pair_output};
 
+use crate::parts;
 use answer::Refusal;
-use book::FindAnswer;
-use layout::IsomorphicLayout;
 
 // How many bytes a layout's book has (1, 2, 3, 4, 18).
 #[unsafe(no_mangle)]
+#[tactic(auto, using(crate::proofs::Outputs::books_fit, vetchnoon_codes::proofs::Coding::small_counted))]
 pub extern "C" fn vn_book_len(chain: u16, octave: u16, tritave: u16, start: u16) -> i64
     ensures { result ≡ code_of (counted (get_book (layout chain octave tritave start))) }
 {
-    let layout = IsomorphicLayout {
-        genchain: chain,
-        octave,
-        tritave,
-        start,
-    };
+    let layout = parts::layout_of(chain, octave, tritave, start);
     vetchnoon_codes::count(layout_book::book_len(layout))
 }
 
@@ -30,16 +25,11 @@ pub extern "C" fn vn_book_len(chain: u16, octave: u16, tritave: u16, start: u16)
 pub extern "C" fn vn_book(chain: u16, octave: u16, tritave: u16, start: u16, out: &mut [u8]) -> i64
     ensures { Fills (get_book (layout chain octave tritave start)) result out.old out.new }
 {
-    let layout = IsomorphicLayout {
-        genchain: chain,
-        octave,
-        tritave,
-        start,
-    };
+    let layout = parts::layout_of(chain, octave, tritave, start);
     vetchnoon_codes::count(layout_book::write_book(layout, out))
 }
 
-// Offset and length of a key's name in a book (10, 11, 12, 13).
+// Offset and length of a key's name in a book (10, 11, 12, 13). Room for both is asked first, as the header says.
 #[unsafe(no_mangle)]
 pub extern "C" fn vn_book_find(book: &[u8], key: i32, out: &mut [u32]) -> i64
     ensures { Fills (pair_output (length out.old) book.now key) result out.old out.new }
@@ -48,12 +38,8 @@ pub extern "C" fn vn_book_find(book: &[u8], key: i32, out: &mut [u32]) -> i64
         return vetchnoon_codes::refused(Refusal::Room);
     }
     match book::find(book, key) {
-        FindAnswer::Refused(question) => vetchnoon_codes::refused(question),
-        FindAnswer::Found(place) => {
-            out[0] = place.offset;
-            out[1] = place.length;
-            2
-        }
+        Err(question) => vetchnoon_codes::refused(question),
+        Ok(place) => vetchnoon_codes::put_all(out, &[place.offset, place.length]),
     }
 }
 

@@ -6,6 +6,7 @@ ghost use Rattle.vetchnoon.specs.Written.{letters_output, name_output};
 
 // A chain's letters in order, as code points (1, 10).
 #[unsafe(no_mangle)]
+#[tactic(auto, using(crate::proofs::Outputs::letters_in_room))]
 pub extern "C" fn vn_chain_letters(chain: u16, out: &mut [u16]) -> i64
     ensures { Fills (letters_output chain) result out.old out.new }
 {
@@ -14,6 +15,7 @@ pub extern "C" fn vn_chain_letters(chain: u16, out: &mut [u16]) -> i64
 
 // A chain's name (1, 10).
 #[unsafe(no_mangle)]
+#[tactic(auto, using(crate::proofs::Outputs::name_in_room))]
 pub extern "C" fn vn_chain_name(chain: u16, out: &mut [u8]) -> i64
     ensures { Fills (name_output chain) result out.old out.new }
 {

@@ -6,18 +6,16 @@ ghost use Rattle.edo_counts.specs.Counts.{report};
 ghost use Rattle.vetchnoon_codes.specs.Codes.{Fills};
 ghost use Rattle.vetchnoon_codes.specs.Numbers.{as_numbers};
 
-use edo_tritaves::{Choices, TritavesAnswer};
+use edo_tritaves::Choices;
 
 // One number, or two (10).
 fn put_choices(out: &mut [u16], choices: Choices) -> i64
     ensures { Fills (given (choice_numbers choices)) result out.old out.new }
 {
-    if choices.second == 0 {
-        let numbers: [u16; 1] = [choices.first];
-        return vetchnoon_codes::put(out, &numbers);
+    match choices.second {
+        None => vetchnoon_codes::put(out, &[choices.first]),
+        Some(second) => vetchnoon_codes::put(out, &[choices.first, second]),
     }
-    let numbers: [u16; 2] = [choices.first, choices.second];
-    vetchnoon_codes::put(out, &numbers)
 }
 
 // How many steps make a tritave where n make an octave: the first choice, and the second where there is one (15, 10).
@@ -26,8 +24,8 @@ pub extern "C" fn vn_tritaves(n: u16, out: &mut [u16]) -> i64
     ensures { Fills (as_numbers choice_numbers (tritaves_of n)) result out.old out.new }
 {
     match edo_tritaves::tritaves(n) {
-        TritavesAnswer::Refused(q) => vetchnoon_codes::refused(q),
-        TritavesAnswer::Given(choices) => put_choices(out, choices),
+        Err(q) => vetchnoon_codes::refused(q),
+        Ok(choices) => put_choices(out, choices),
     }
 }
 

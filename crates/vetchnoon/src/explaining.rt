@@ -7,11 +7,10 @@ ghost use Rattle.vetchnoon_codes.specs.Codes.{code_of, Fills};
 ghost use Rattle.vetchnoon.specs.Written.{layout};
 ghost use Rattle.vetchnoon.specs.TypedNames.{as_signed, verdict_number, explanation_numbers};
 
-use answer::Refusal;
-use layout::IsomorphicLayout;
-use layout_explaining::{Explanation, ExplanationAnswer, Verdict};
+use crate::parts;
+use layout_explaining::{Explanation, Verdict};
 
-// A verdict: the numbers of VN_ONE_KEY, VN_TWO_ON_ONE_CHAIN and VN_TWO_ON_DIFFERENT_CHAINS.
+// A verdict, as C gets it: the numbers of VN_ONE_KEY, VN_TWO_ON_ONE_CHAIN and VN_TWO_ON_DIFFERENT_CHAINS.
 fn verdict_number(verdict: Verdict) -> u16
     ensures { result ≡ verdict_number verdict }
 {
@@ -27,30 +26,26 @@ fn put_explanation(out: &mut [i64], explanation: Explanation) -> i64
     requires { explanation.apart < 2 ^ 63 }
     ensures { Fills (given (explanation_numbers explanation)) result out.old out.new }
 {
-    if out.len() < 9 {
-        return vetchnoon_codes::refused(Refusal::Room);
-    }
     let first = explanation.first;
     let second = explanation.second;
-    let verdict = explanation.verdict;
-    let number = verdict_number(verdict);
-    let place = first.place;
-    let other_place = second.place;
-    out[0] = place;
-    out[1] = other_place;
-    out[2] = first.stars as i64;
-    out[3] = second.stars as i64;
-    out[4] = first.key as i64;
-    out[5] = second.key as i64;
-    out[6] = explanation.apart as i64;
-    out[7] = explanation.reduced_period as i64;
-    out[8] = number as i64;
-    9
+    let numbers = [
+        first.place,
+        second.place,
+        first.stars as i64,
+        second.stars as i64,
+        first.key as i64,
+        second.key as i64,
+        explanation.apart as i64,
+        explanation.reduced_period as i64,
+        verdict_number(explanation.verdict) as i64,
+    ];
+    vetchnoon_codes::put_all(out, &numbers)
 }
 
 // Why two spellings, typed as texts, are one key or two: nine numbers (1, 2, 3, 4, 18, of the first text and of the second 23, then 21,
 // then 10).
 #[unsafe(no_mangle)]
+#[tactic(auto, using(crate::proofs::Distances::apart_small))]
 pub extern "C" fn vn_explain(
     chain: u16,
     octave: u16,
@@ -62,20 +57,16 @@ pub extern "C" fn vn_explain(
 ) -> i64
     ensures { Fills (as_signed explanation_numbers (get_explanation (layout chain octave tritave start) first.now second.now)) result out.old out.new }
 {
-    let layout = IsomorphicLayout {
-        genchain: chain,
-        octave,
-        tritave,
-        start,
-    };
+    let layout = parts::layout_of(chain, octave, tritave, start);
     match layout_explaining::explain(layout, first, second) {
-        ExplanationAnswer::Refused(question) => vetchnoon_codes::refused(question),
-        ExplanationAnswer::Given(explanation) => put_explanation(out, explanation),
+        Err(question) => vetchnoon_codes::refused(question),
+        Ok(explanation) => put_explanation(out, explanation),
     }
 }
 
 // How many bytes the sentences have (1, 2, 3, 4, 18, of the first text and of the second 23, then 21).
 #[unsafe(no_mangle)]
+#[tactic(auto, using(crate::proofs::Distances::words_small))]
 pub extern "C" fn vn_explain_text_len(
     chain: u16,
     octave: u16,
@@ -86,12 +77,7 @@ pub extern "C" fn vn_explain_text_len(
 ) -> i64
     ensures { result ≡ code_of (counted (get_explanation_text (layout chain octave tritave start) first.now second.now)) }
 {
-    let layout = IsomorphicLayout {
-        genchain: chain,
-        octave,
-        tritave,
-        start,
-    };
+    let layout = parts::layout_of(chain, octave, tritave, start);
     vetchnoon_codes::count(layout_explaining::explain_text_len(layout, first, second))
 }
 
@@ -108,11 +94,6 @@ pub extern "C" fn vn_explain_text(
 ) -> i64
     ensures { Fills (get_explanation_text (layout chain octave tritave start) first.now second.now) result out.old out.new }
 {
-    let layout = IsomorphicLayout {
-        genchain: chain,
-        octave,
-        tritave,
-        start,
-    };
+    let layout = parts::layout_of(chain, octave, tritave, start);
     vetchnoon_codes::count(layout_explaining::explain_text(layout, first, second, out))
 }

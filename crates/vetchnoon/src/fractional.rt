@@ -5,62 +5,24 @@ ghost use Rattle.mos_fractional.specs.Fractional.{child_of};
 ghost use Rattle.mos_fractional.specs.Walk.{children_from};
 ghost use Rattle.mos_fractional.specs.Answers.{of_generator, length_outcome};
 ghost use Rattle.vetchnoon_codes.specs.Codes.{code_of, Fills};
-ghost use Rattle.vetchnoon.specs.FractionalPatterns.{child_patterns, PlansChild};
+ghost use Rattle.vetchnoon.specs.FractionalPatterns.{child_patterns};
 
-use answer::Refusal;
-use mos_fractional::{ChildAnswer, FractionalMos};
-
-// What is answered for a child, and whether it is stored.
-#[derive(Clone, Copy)]
-pub(crate) struct ChildPlan {
-    pub code: i64,
-    pub stores: bool,
-    pub child: FractionalMos,
-}
-
-// The child of a pattern, for a slice of `room` patterns (10).
-pub(crate) fn plan_child(pattern: FractionalMos, room: usize) -> ChildPlan
-    ensures { PlansChild pattern room result }
-{
-    let answer = pattern.child();
-    match answer {
-        ChildAnswer::Nothing => ChildPlan {
-            code: 0,
-            stores: false,
-            child: pattern,
-        },
-        ChildAnswer::Child(child) => {
-            if room < 1 {
-                return ChildPlan {
-                    code: vetchnoon_codes::refused(Refusal::Room),
-                    stores: false,
-                    child,
-                };
-            }
-            ChildPlan {
-                code: 1,
-                stores: true,
-                child,
-            }
-        }
-    }
-}
+use mos_fractional::FractionalMos;
 
 // The child, or nothing (10).
 #[unsafe(no_mangle)]
 pub extern "C" fn vn_fractional_child(pattern: FractionalMos, out: &mut [FractionalMos]) -> i64
     ensures { Fills (given (child_patterns (child_of pattern))) result out.old out.new }
 {
-    let plan = plan_child(pattern, out.len());
-    let stores = plan.stores;
-    if stores {
-        out[0] = plan.child;
+    match pattern.child() {
+        None => 0,
+        Some(child) => vetchnoon_codes::put_all(out, &[child]),
     }
-    plan.code
 }
 
 // How many patterns a generator's walk has (22).
 #[unsafe(no_mangle)]
+#[tactic(auto, using(crate::proofs::FractionalCalls::small_length))]
 pub extern "C" fn vn_fractional_children_len(generator: f64) -> i64
     ensures { result ≡ code_of (length_outcome generator) }
 {
@@ -69,6 +31,7 @@ pub extern "C" fn vn_fractional_children_len(generator: f64) -> i64
 
 // All patterns of that walk, the genesis first (22, 10).
 #[unsafe(no_mangle)]
+#[tactic(auto, using(crate::proofs::FractionalCalls::patterns_in_room))]
 pub extern "C" fn vn_fractional_children(generator: f64, out: &mut [FractionalMos]) -> i64
     ensures { Fills (of_generator generator (children_from generator)) result out.old out.new }
 {

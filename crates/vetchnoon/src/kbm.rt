@@ -5,19 +5,15 @@ ghost use Rattle.layout_kbm.specs.Mappings.{get_kbm, get_mapped_keys};
 ghost use Rattle.vetchnoon_codes.specs.Codes.{code_of, Fills};
 ghost use Rattle.vetchnoon.specs.Written.{layout};
 
-use layout::IsomorphicLayout;
+use crate::parts;
 
 // How many bytes the keyboard mapping of a layout has (1, 2, 3, 4, 18).
 #[unsafe(no_mangle)]
+#[tactic(auto, using(layout_kbm::proofs::Natural::files_fit, vetchnoon_codes::proofs::Coding::small_counted))]
 pub extern "C" fn vn_kbm_len(chain: u16, octave: u16, tritave: u16, start: u16) -> i64
     ensures { result ≡ code_of (counted (get_kbm (layout chain octave tritave start))) }
 {
-    let layout = IsomorphicLayout {
-        genchain: chain,
-        octave,
-        tritave,
-        start,
-    };
+    let layout = parts::layout_of(chain, octave, tritave, start);
     vetchnoon_codes::count(layout_kbm::kbm_len(layout))
 }
 
@@ -26,12 +22,7 @@ pub extern "C" fn vn_kbm_len(chain: u16, octave: u16, tritave: u16, start: u16) 
 pub extern "C" fn vn_kbm(chain: u16, octave: u16, tritave: u16, start: u16, out: &mut [u8]) -> i64
     ensures { Fills (get_kbm (layout chain octave tritave start)) result out.old out.new }
 {
-    let layout = IsomorphicLayout {
-        genchain: chain,
-        octave,
-        tritave,
-        start,
-    };
+    let layout = parts::layout_of(chain, octave, tritave, start);
     vetchnoon_codes::count(layout_kbm::write_kbm(layout, out))
 }
 
@@ -47,11 +38,6 @@ pub extern "C" fn vn_kbm_read(
 ) -> i64
     ensures { Fills (get_mapped_keys (layout chain octave tritave start) text.now) result out.old out.new }
 {
-    let layout = IsomorphicLayout {
-        genchain: chain,
-        octave,
-        tritave,
-        start,
-    };
+    let layout = parts::layout_of(chain, octave, tritave, start);
     vetchnoon_codes::count(layout_kbm::read_kbm(layout, text, out))
 }

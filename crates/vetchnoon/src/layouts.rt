@@ -8,15 +8,15 @@ ghost use Rattle.layout_layers.specs.Answers.{get_layers, get_layer_count, get_l
 ghost use Rattle.layout_layers.specs.KeyLayers.{kind_of};
 ghost use Rattle.vetchnoon_codes.specs.Codes.{code_of, Fills};
 ghost use Rattle.vetchnoon_codes.specs.Numbers.{as_numbers, accidentals_numbers};
-ghost use Rattle.vetchnoon.specs.Written.{layout, layout_output, spelling, kind_number, kind_level, kind_numbers};
+ghost use Rattle.vetchnoon.specs.Written.{layout, layout_output, spelling, kind_numbers};
 
-use layout::IsomorphicLayout;
-use layout::parts::FoundAnswer;
+use crate::parts;
 use layout_layers::Layer;
 use pergen::{Signs, Spelling};
 
 // Generator, cycles, reduced period, inverse, then the pattern's four numbers (1, 2, 3, 4, 18, 10).
 #[unsafe(no_mangle)]
+#[tactic(auto, using(crate::proofs::Outputs::layout_refused, crate::proofs::Outputs::layout_given))]
 pub extern "C" fn vn_layout(
     chain: u16,
     octave: u16,
@@ -26,19 +26,14 @@ pub extern "C" fn vn_layout(
 ) -> i64
     ensures { Fills (layout_output (layout chain octave tritave start)) result out.old out.new }
 {
-    let layout = IsomorphicLayout {
-        genchain: chain,
-        octave,
-        tritave,
-        start,
-    };
+    let layout = parts::layout_of(chain, octave, tritave, start);
     match layout::parts::ask(layout) {
-        FoundAnswer::Refused(question) => vetchnoon_codes::refused(question),
-        FoundAnswer::Given(found) => {
+        Err(question) => vetchnoon_codes::refused(question),
+        Ok(found) => {
             let prepared = layout::prepared::prepare(found);
             let solved = prepared.solved;
             let pattern = found.pattern;
-            let numbers: [u16; 8] = [
+            let numbers = [
                 found.generator,
                 solved.num_cycles,
                 solved.reduced_period,
@@ -64,17 +59,13 @@ pub extern "C" fn vn_scale_name(
 ) -> i64
     ensures { Fills (get_scale_name (layout chain octave tritave start)) result out.old out.new }
 {
-    let layout = IsomorphicLayout {
-        genchain: chain,
-        octave,
-        tritave,
-        start,
-    };
+    let layout = parts::layout_of(chain, octave, tritave, start);
     vetchnoon_codes::count(layout_scale_names::get_scale_name(layout, out))
 }
 
 // How many bytes a key's name has (1, 2, 3, 4, 18).
 #[unsafe(no_mangle)]
+#[tactic(auto, using(crate::proofs::Outputs::names_fit, vetchnoon_codes::proofs::Coding::small_counted))]
 pub extern "C" fn vn_note_name_len(
     chain: u16,
     octave: u16,
@@ -84,12 +75,7 @@ pub extern "C" fn vn_note_name_len(
 ) -> i64
     ensures { result ≡ code_of (counted (get_note_name (layout chain octave tritave start) key)) }
 {
-    let layout = IsomorphicLayout {
-        genchain: chain,
-        octave,
-        tritave,
-        start,
-    };
+    let layout = parts::layout_of(chain, octave, tritave, start);
     vetchnoon_codes::count(layout.note_name_len(key))
 }
 
@@ -105,12 +91,7 @@ pub extern "C" fn vn_note_name(
 ) -> i64
     ensures { Fills (get_note_name (layout chain octave tritave start) key) result out.old out.new }
 {
-    let layout = IsomorphicLayout {
-        genchain: chain,
-        octave,
-        tritave,
-        start,
-    };
+    let layout = parts::layout_of(chain, octave, tritave, start);
     vetchnoon_codes::count(layout.get_note_name(key, out))
 }
 
@@ -126,13 +107,8 @@ pub extern "C" fn vn_layout_accidentals(
 ) -> i64
     ensures { Fills (as_numbers accidentals_numbers (get_accidentals (layout chain octave tritave start) key)) result out.old out.new }
 {
-    let layout = IsomorphicLayout {
-        genchain: chain,
-        octave,
-        tritave,
-        start,
-    };
-    vetchnoon_codes::accidentals(out, layout.get_accidentals(key))
+    let layout = parts::layout_of(chain, octave, tritave, start);
+    vetchnoon_codes::fill(out, layout.get_accidentals(key))
 }
 
 // The key of the octave that a spelling sounds: a letter, signs (sharps above 0, flats below), stars (1, 2, 3, 4, 18, 16, 21).
@@ -148,12 +124,7 @@ pub extern "C" fn vn_sounded_key(
 ) -> i64
     ensures { result ≡ code_of (get_sounded_key (layout chain octave tritave start) (spelling letter signs stars)) }
 {
-    let layout = IsomorphicLayout {
-        genchain: chain,
-        octave,
-        tritave,
-        start,
-    };
+    let layout = parts::layout_of(chain, octave, tritave, start);
     let spelling = Spelling {
         index: letter,
         signs: Signs::from_number(signs),
@@ -167,12 +138,7 @@ pub extern "C" fn vn_sounded_key(
 pub extern "C" fn vn_layer_count(chain: u16, octave: u16, tritave: u16, start: u16) -> i64
     ensures { result ≡ code_of (get_layer_count (layout chain octave tritave start)) }
 {
-    let layout = IsomorphicLayout {
-        genchain: chain,
-        octave,
-        tritave,
-        start,
-    };
+    let layout = parts::layout_of(chain, octave, tritave, start);
     vetchnoon_codes::number(layout_layers::layer_count(layout))
 }
 
@@ -187,12 +153,7 @@ pub extern "C" fn vn_layout_layers(
 ) -> i64
     ensures { Fills (get_layers (layout chain octave tritave start)) result out.old out.new }
 {
-    let layout = IsomorphicLayout {
-        genchain: chain,
-        octave,
-        tritave,
-        start,
-    };
+    let layout = parts::layout_of(chain, octave, tritave, start);
     vetchnoon_codes::count(layout_layers::get_layers(layout, out))
 }
 
@@ -201,36 +162,20 @@ pub extern "C" fn vn_layout_layers(
 pub extern "C" fn vn_layer(chain: u16, octave: u16, tritave: u16, start: u16, key: i32) -> i64
     ensures { result ≡ code_of (get_layer (layout chain octave tritave start) key) }
 {
-    let layout = IsomorphicLayout {
-        genchain: chain,
-        octave,
-        tritave,
-        start,
-    };
+    let layout = parts::layout_of(chain, octave, tritave, start);
     vetchnoon_codes::number(layout_layers::get_layer(layout, key))
 }
 
-// A kind of layer: the numbers of VN_NATURAL, VN_SHARP, VN_ENHARMONIC and VN_FLAT.
-fn kind_number(layer: Layer) -> u16
-    ensures { result ≡ kind_number layer }
+// A kind of layer, by the numbers of VN_NATURAL, VN_SHARP, VN_ENHARMONIC and VN_FLAT, and which of its kind it is, from 0; 0 for the natural
+// one.
+fn numbers_of(layer: Layer) -> [u16; 2]
+    ensures { result ≡ kind_numbers layer }
 {
     match layer {
-        Layer::Natural => 0,
-        Layer::Sharp(_) => 1,
-        Layer::Enharmonic(_) => 2,
-        Layer::Flat(_) => 3,
-    }
-}
-
-// Which of its kind a layer is, from 0; 0 for the natural one.
-fn kind_level(layer: Layer) -> u16
-    ensures { result ≡ kind_level layer }
-{
-    match layer {
-        Layer::Natural => 0,
-        Layer::Sharp(level) => level,
-        Layer::Enharmonic(level) => level,
-        Layer::Flat(level) => level,
+        Layer::Natural => [0, 0],
+        Layer::Sharp(level) => [1, level],
+        Layer::Enharmonic(level) => [2, level],
+        Layer::Flat(level) => [3, level],
     }
 }
 
@@ -239,9 +184,7 @@ fn kind_level(layer: Layer) -> u16
 pub extern "C" fn vn_layer_kind(total: u16, number: u16, out: &mut [u16]) -> i64
     ensures { Fills (given (kind_numbers (kind_of total number))) result out.old out.new }
 {
-    let layer = layout_layers::kind(total, number);
-    let numbers: [u16; 2] = [kind_number(layer), kind_level(layer)];
-    vetchnoon_codes::put(out, &numbers)
+    vetchnoon_codes::put(out, &numbers_of(layout_layers::kind(total, number)))
 }
 
 // The lamp code of each key (1, 2, 3, 4, 18, 10).
@@ -255,12 +198,7 @@ pub extern "C" fn vn_lamp_strip(
 ) -> i64
     ensures { Fills (get_strip (layout chain octave tritave start)) result out.old out.new }
 {
-    let layout = IsomorphicLayout {
-        genchain: chain,
-        octave,
-        tritave,
-        start,
-    };
+    let layout = parts::layout_of(chain, octave, tritave, start);
     vetchnoon_codes::count(layout_lamps::lamp_strip(layout, out))
 }
 
@@ -269,11 +207,6 @@ pub extern "C" fn vn_lamp_strip(
 pub extern "C" fn vn_lamp(chain: u16, octave: u16, tritave: u16, start: u16, key: i32) -> i64
     ensures { result ≡ code_of (get_lamp (layout chain octave tritave start) key) }
 {
-    let layout = IsomorphicLayout {
-        genchain: chain,
-        octave,
-        tritave,
-        start,
-    };
+    let layout = parts::layout_of(chain, octave, tritave, start);
     vetchnoon_codes::number(layout_lamps::lamp(layout, key))
 }

@@ -18,6 +18,7 @@ pub mod fractional;
 pub mod kbm;
 pub mod layouts;
 pub mod numbers;
+mod parts;
 pub mod patterns;
 pub mod reach;
 pub mod retuning;

@@ -5,10 +5,10 @@ ghost use Rattle.math.specs.Gcd.{gcd_or_one};
 ghost use Rattle.pergen.specs.Answers.{get_generation, get_accidentals};
 ghost use Rattle.vetchnoon_codes.specs.Codes.{code_of, Fills};
 ghost use Rattle.vetchnoon_codes.specs.Numbers.{as_numbers, accidentals_numbers};
-ghost use Rattle.vetchnoon.specs.Written.{pergen, format, pergen_output, presence, generation_numbers};
+ghost use Rattle.vetchnoon.specs.Written.{pergen, format, pergen_output, generation_numbers};
 
 use answer::Refusal;
-use pergen::{AccidentalsFormat, Cycle, GenerationAnswer, PerGen, euclid};
+use pergen::{AccidentalsFormat, PerGen, euclid};
 
 // The version, 7.8.0, in one number, as VN_VERSION of the header is.
 #[unsafe(no_mangle)]
@@ -36,6 +36,7 @@ pub extern "C" fn vn_rem(numer: i32, denom: u16) -> i64
 
 // Cycles, reduced period and inverse (2, 10).
 #[unsafe(no_mangle)]
+#[tactic(auto, using(crate::proofs::Outputs::pergen_refused, crate::proofs::Outputs::pergen_given))]
 pub extern "C" fn vn_pergen(period: u16, generator: u16, out: &mut [u16]) -> i64
     ensures { Fills (pergen_output period generator) result out.old out.new }
 {
@@ -43,7 +44,7 @@ pub extern "C" fn vn_pergen(period: u16, generator: u16, out: &mut [u16]) -> i64
         return vetchnoon_codes::refused(Refusal::Period);
     }
     let solved = euclid::solve(period, generator);
-    let numbers: [u16; 3] = [
+    let numbers = [
         solved.num_cycles,
         solved.reduced_period,
         solved.generator_inverse,
@@ -51,27 +52,21 @@ pub extern "C" fn vn_pergen(period: u16, generator: u16, out: &mut [u16]) -> i64
     vetchnoon_codes::put(out, &numbers)
 }
 
-// 1 if a cycle is present, else 0.
-fn presence(cycle: Cycle) -> u16
-    ensures { result ≡ presence cycle }
-{
-    match cycle {
-        Cycle::Absent => 0,
-        Cycle::Number(_) => 1,
-    }
-}
-
-// A key's degree, whether it has a cycle, and the cycle (2, 10).
+// A key's degree, whether it has a cycle, and the cycle (2, 10). No `fill`: an impl of `Coded` for another crate's `Generation` is refused here.
 #[unsafe(no_mangle)]
 pub extern "C" fn vn_generation(period: u16, generator: u16, key: i32, out: &mut [u16]) -> i64
     ensures { Fills (as_numbers generation_numbers (get_generation (pergen period generator) key)) result out.old out.new }
 {
     let pergen = PerGen { period, generator };
     match pergen.get_generation(key) {
-        GenerationAnswer::Refused(question) => vetchnoon_codes::refused(question),
-        GenerationAnswer::Given(generation) => {
+        Err(question) => vetchnoon_codes::refused(question),
+        Ok(generation) => {
             let cycle = generation.cycle;
-            let numbers: [u16; 3] = [generation.degree, presence(cycle), cycle.stars()];
+            let numbers = [
+                generation.degree,
+                cycle.is_some() as u16,
+                cycle.unwrap_or(0),
+            ];
             vetchnoon_codes::put(out, &numbers)
         }
     }
@@ -94,5 +89,5 @@ pub extern "C" fn vn_accidentals(
         num_symbols: symbols,
         genchain_origin: origin,
     };
-    vetchnoon_codes::accidentals(out, pergen.get_accidentals(format, key))
+    vetchnoon_codes::fill(out, pergen.get_accidentals(format, key))
 }

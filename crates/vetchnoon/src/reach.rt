@@ -4,7 +4,7 @@ ghost use Rattle.layout_reach.specs.Answers.{get_nearest, get_reach};
 ghost use Rattle.vetchnoon_codes.specs.Codes.{code_of, Fills};
 ghost use Rattle.vetchnoon.specs.Written.{layout};
 
-use layout::IsomorphicLayout;
+use crate::parts;
 
 // The key of the octave nearest to a key, of those that a letter alone names, with any stars (1, 2, 3, 4, 18, 16).
 #[unsafe(no_mangle)]
@@ -18,12 +18,7 @@ pub extern "C" fn vn_nearest_natural(
 ) -> i64
     ensures { result ≡ code_of (get_nearest (layout chain octave tritave start) key letter) }
 {
-    let layout = IsomorphicLayout {
-        genchain: chain,
-        octave,
-        tritave,
-        start,
-    };
+    let layout = parts::layout_of(chain, octave, tritave, start);
     vetchnoon_codes::number(layout_reach::nearest_natural(layout, key, letter))
 }
 
@@ -40,11 +35,6 @@ pub extern "C" fn vn_keys_in_reach(
 ) -> i64
     ensures { Fills (get_reach (layout chain octave tritave start) key distance) result out.old out.new }
 {
-    let layout = IsomorphicLayout {
-        genchain: chain,
-        octave,
-        tritave,
-        start,
-    };
+    let layout = parts::layout_of(chain, octave, tritave, start);
     vetchnoon_codes::count(layout_reach::keys_in_reach(layout, key, distance, out))
 }

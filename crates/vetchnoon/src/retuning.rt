@@ -4,7 +4,7 @@ ghost use Rattle.layout_retuning.specs.Answers.{get_moved, get_move_table, get_l
 ghost use Rattle.vetchnoon_codes.specs.Codes.{code_of, Fills};
 ghost use Rattle.vetchnoon.specs.Written.{retuning, spelling};
 
-use layout_retuning::Retuning;
+use crate::parts;
 
 // By how many steps round the octave the key that a spelling sounds moves: a letter, signs (sharps above 0, flats below), stars (1, 2, 3,
 // 4, 18, of the second layout 3, 4, then 16, 21).
@@ -21,13 +21,7 @@ pub extern "C" fn vn_moved(
 ) -> i64
     ensures { result ≡ code_of (get_moved (retuning chain octave start from_tritave to_tritave) (spelling letter signs stars)) }
 {
-    let retuning = Retuning {
-        genchain: chain,
-        octave,
-        start,
-        from_tritave,
-        to_tritave,
-    };
+    let retuning = parts::retuning_of(chain, octave, start, from_tritave, to_tritave);
     vetchnoon_codes::number(layout_retuning::moved(retuning, letter, signs, stars))
 }
 
@@ -44,13 +38,7 @@ pub extern "C" fn vn_move_table(
 ) -> i64
     ensures { Fills (get_move_table (retuning chain octave start from_tritave to_tritave)) result out.old out.new }
 {
-    let retuning = Retuning {
-        genchain: chain,
-        octave,
-        start,
-        from_tritave,
-        to_tritave,
-    };
+    let retuning = parts::retuning_of(chain, octave, start, from_tritave, to_tritave);
     vetchnoon_codes::count(layout_retuning::move_table(retuning, out))
 }
 
@@ -65,12 +53,6 @@ pub extern "C" fn vn_largest_move(
 ) -> i64
     ensures { result ≡ code_of (get_largest_move (retuning chain octave start from_tritave to_tritave)) }
 {
-    let retuning = Retuning {
-        genchain: chain,
-        octave,
-        start,
-        from_tritave,
-        to_tritave,
-    };
+    let retuning = parts::retuning_of(chain, octave, start, from_tritave, to_tritave);
     vetchnoon_codes::number(layout_retuning::largest_move(retuning))
 }

@@ -3,7 +3,7 @@ ghost use Rattle.layout_sheet.specs.Answers.{get_sheet};
 ghost use Rattle.vetchnoon_codes.specs.Codes.{Fills};
 ghost use Rattle.vetchnoon.specs.Written.{layout};
 
-use layout::IsomorphicLayout;
+use crate::parts;
 use layout_sheet::Record;
 
 // Fills each record from its key, in list order; the number of records (1, 2, 3, 4, 18).
@@ -17,11 +17,6 @@ pub extern "C" fn vn_sheet(
 ) -> i64
     ensures { Fills (get_sheet (layout chain octave tritave start) records.old) result records.old records.new }
 {
-    let layout = IsomorphicLayout {
-        genchain: chain,
-        octave,
-        tritave,
-        start,
-    };
+    let layout = parts::layout_of(chain, octave, tritave, start);
     vetchnoon_codes::count(layout_sheet::fill_sheet(layout, records))
 }

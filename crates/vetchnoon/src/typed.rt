@@ -5,9 +5,7 @@ ghost use Rattle.vetchnoon_codes.specs.Codes.{code_of, Fills};
 ghost use Rattle.vetchnoon.specs.Written.{layout};
 ghost use Rattle.vetchnoon.specs.TypedNames.{as_signed, signs_number, spelling_numbers};
 
-use answer::Refusal;
-use layout::IsomorphicLayout;
-use layout_reading::SpellingAnswer;
+use crate::parts;
 use pergen::Signs;
 
 // Signs as one number: as many sharps as it is above 0, or flats as it is below.
@@ -32,24 +30,16 @@ pub extern "C" fn vn_read_spelling(
 ) -> i64
     ensures { Fills (as_signed spelling_numbers (get_spelling (layout chain octave tritave start) text.now)) result out.old out.new }
 {
-    let layout = IsomorphicLayout {
-        genchain: chain,
-        octave,
-        tritave,
-        start,
-    };
+    let layout = parts::layout_of(chain, octave, tritave, start);
     match layout_reading::read_spelling(layout, text) {
-        SpellingAnswer::Refused(question) => vetchnoon_codes::refused(question),
-        SpellingAnswer::Given(spelling) => {
-            if out.len() < 3 {
-                return vetchnoon_codes::refused(Refusal::Room);
-            }
-            let signs = spelling.signs;
-            let number = signs_number(signs);
-            out[0] = spelling.index as i64;
-            out[1] = number;
-            out[2] = spelling.stars as i64;
-            3
+        Err(question) => vetchnoon_codes::refused(question),
+        Ok(spelling) => {
+            let numbers = [
+                spelling.index as i64,
+                signs_number(spelling.signs),
+                spelling.stars as i64,
+            ];
+            vetchnoon_codes::put_all(out, &numbers)
         }
     }
 }
@@ -59,11 +49,6 @@ pub extern "C" fn vn_read_spelling(
 pub extern "C" fn vn_find_key(chain: u16, octave: u16, tritave: u16, start: u16, text: &[u8]) -> i64
     ensures { result ≡ code_of (get_named_key (layout chain octave tritave start) text.now) }
 {
-    let layout = IsomorphicLayout {
-        genchain: chain,
-        octave,
-        tritave,
-        start,
-    };
+    let layout = parts::layout_of(chain, octave, tritave, start);
     vetchnoon_codes::number(layout_reading::find_key(layout, text))
 }

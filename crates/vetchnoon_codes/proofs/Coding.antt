@@ -1,4 +1,7 @@
 -- From the library's answers to C's: one law for each way in which a call ends. A signed result comes as `to_z w64 (of_z w64 z)`.
+use Rattle.answer.specs.declared.Refusal.{Refusal}
+use Rattle.std.specs.Prelude.{Result}
+use Rattle.answer.specs.Refusals.{outcome_of}
 use Prim.Native.Nat.{ℕ, ◌≤◌, ◌<◌, ◌^◌}
 use mathlib.Core.Path.{◌≡◌, refl, sym, ap, ◌∙◌, subst}
 use mathlib.Core.List.{List, [], ◌∷◌}
@@ -12,10 +15,7 @@ use mir.Val.{SFits, to_z, of_z}
 use mir.ValLaws.{to_z_pos}
 use Rattle.answer.specs.Outcome.{Outcome, given, refused, and_then}
 use Rattle.answer.specs.Lent.{in_room, counted, written, Filled}
-use Rattle.answer.specs.Refusals.{count_outcome}
 use Rattle.text.specs.Writing.{Wrote}
-use Rattle.answer.specs.declared.CountAnswer.{CountAnswer}
-use Rattle.answer.specs.declared.CountAnswer.TheVariants as Count
 use Rattle.answer.proofs.Lent.{held, not_held}
 use Rattle.text.proofs.Writing.{wrote_front}
 use Rattle.math.proofs.Integers.{rep_pos, rep_neg, rep_minus, rep_agree, abs_rep}
@@ -118,19 +118,20 @@ module _ {o : Outcome ℤ} {z : ℤ} (xs : List ℤ) where
 -- ---- counts fit
 
 -- what was written fits the slice, and a slice's length fits
-pub small_filled : {A : Type 0} {o : Outcome (List A)} {xs ys : List A} (a : CountAnswer) → Filled o (count_outcome a) xs ys
+pub small_filled : {A : Type 0} {o : Outcome (List A)} {xs ys : List A} (a : Result ℕ Refusal) → Filled o (outcome_of a) xs ys
     → length ys < 2 ^ 63 → SmallCount a
-small_filled {A} {o} {xs} {ys} (Count.Given n) f h = by o f.answered f.content
+small_filled {A} {o} {xs} {ys} a f h n is = by o (sym (ap outcome_of is) ∙ f.answered) f.content
   where
     by : (p : Outcome (List A)) → given n ≡ counted p → ys ≡ written p xs → n < 2 ^ 63
     by (given text) e w =
         let same : n ≡ length text = cc in omega (arith, same, ap length w, length-append text (drop (length text) xs))
-    by (refused k) e w = absurd (let y : ◌≡◌ {A = ℕ} 0 1 = cc in omega arith)
-small_filled (Count.Refused q) f h = tt
+    by (refused k) e w = cc
 
-pub small_counted : {A : Type 0} (o : Outcome (List A)) (a : CountAnswer) → count_outcome a ≡ counted o
+pub small_counted : {A : Type 0} (o : Outcome (List A)) (a : Result ℕ Refusal) → outcome_of a ≡ counted o
     → ((text : List A) → o ≡ given text → length text < 2 ^ 63) → SmallCount a
-small_counted (given text) (Count.Given n) e h =
-    let same : n ≡ length text = cc in subst (λ (k : ℕ). k < 2 ^ 63) (sym same) (h text refl)
-small_counted (refused k) (Count.Given n) e h = absurd (let y : ◌≡◌ {A = ℕ} 0 1 = cc in omega arith)
-small_counted o (Count.Refused q) e h = tt
+small_counted {A} o a e h n is = by o (sym (ap outcome_of is) ∙ e) h
+  where
+    by : (p : Outcome (List A)) → given n ≡ counted p → ((text : List A) → p ≡ given text → length text < 2 ^ 63) → n < 2 ^ 63
+    by (given text) e h =
+        let same : n ≡ length text = cc in subst (λ (k : ℕ). k < 2 ^ 63) (sym same) (h text refl)
+    by (refused k) e h = cc

@@ -1,9 +1,9 @@
 -- What a C caller is answered with: one signed number, and what a slice that it lent then holds.
-use Rattle.std.specs.Prelude.{ℕ, ◌<◌, ◌^◌, ◌≡◌, List, ◌∷◌, leb, ℤ, pos, neg_ℤ, length, drop}
+use Rattle.answer.specs.declared.Refusal.{Refusal}
+use Rattle.std.specs.Prelude.{ℕ, ◌<◌, ◌^◌, ◌≡◌, List, ◌∷◌, leb, ℤ, pos, neg_ℤ, length, drop, Result}
+use Rattle.std.specs.Result.{ForOk}
 use Rattle.answer.specs.Outcome.{Outcome, given, refused, ask, and_then}
 use Rattle.answer.specs.Lent.{in_room, counted, written}
-use Rattle.answer.specs.declared.CountAnswer.{CountAnswer}
-use Rattle.answer.specs.declared.CountAnswer.TheVariants as Count
 
 -- A value is itself; a refusal ("the first no gives its number and nothing else") is minus that number.
 abbrev pub code_of : Outcome ℕ → ℤ
@@ -38,6 +38,5 @@ pub record FillsOne (outcome : Outcome ℤ) (code : ℤ) (before after : List �
   pub content : after ≡ one_written (and_then outcome (one_held (length before))) before
 
 -- A count that a signed 64-bit number holds.
-abbrev pub SmallCount : CountAnswer → Type 0
-SmallCount (Count.Given n) = n < 2 ^ 63
-SmallCount (Count.Refused q) = Unit {0}
+abbrev pub SmallCount : Result ℕ Refusal → Type 0
+SmallCount answer = ForOk answer (λ n. n < 2 ^ 63)

@@ -1,6 +1,5 @@
 -- Worked examples of codes, of numbers, and of a slice that one number is written to; one theorem that they hold.
-use Rattle.std.proofs.Math.Option.{none, some}
-use Rattle.std.specs.Prelude.{[], ◌∷◌, map, ◌≡◌, pos, negsuc}
+use Rattle.std.specs.Prelude.{[], ◌∷◌, map, ◌≡◌, pos, negsuc, None, Some}
 use Rattle.answer.specs.Outcome.{given, refused}
 use Rattle.mos.specs.Patterns.{mos}
 use Rattle.vetchnoon_codes.specs.Codes.{code_of, one_held, one_counted, one_written}
@@ -14,5 +13,5 @@ pub record ExamplesHold : Type 0 where
   pub one_short : one_written (one_held 0 (negsuc 4)) [] ≡ []
   pub one_counts : map one_counted (one_held 1 (pos 3) ∷ one_held 0 (pos 3) ∷ []) ≡ given 1 ∷ refused 10 ∷ []
   -- a pattern, no pattern, and a refusal
-  pub numbers : map (as_numbers walk_numbers) (given (some (mos 5 2 2 1)) ∷ given none ∷ refused 7 ∷ [])
+  pub numbers : map (as_numbers walk_numbers) (given (Some (mos 5 2 2 1)) ∷ given None ∷ refused 7 ∷ [])
       ≡ given (5 ∷ 2 ∷ 2 ∷ 1 ∷ []) ∷ given [] ∷ refused 7 ∷ []

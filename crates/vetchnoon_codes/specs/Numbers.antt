@@ -1,6 +1,5 @@
 -- The numbers that stand for the library's answers.
-use Rattle.std.specs.Prelude.{ℕ, List, [], ◌∷◌}
-use Rattle.std.proofs.Math.Option.{Option, none, some}
+use Rattle.std.specs.Prelude.{ℕ, List, [], ◌∷◌, Option, None, Some}
 use Rattle.answer.specs.Outcome.{Outcome, given, refused}
 use Rattle.mos.specs.declared.Mos.{Mos}
 use Rattle.mos.specs.Walks.{fields}
@@ -13,8 +12,8 @@ as_numbers numbers (refused n) = refused n
 
 -- "No child" and "no parent" are ordinary answers: no numbers. A pattern has four, its `fields`.
 abbrev pub walk_numbers : Option Mos → List ℕ
-walk_numbers none = []
-walk_numbers (some m) = fields m
+walk_numbers None = []
+walk_numbers (Some m) = fields m
 
 -- "The sharp index and count .. The flat index .. the flat count"
 abbrev pub accidentals_numbers : Accidentals → List ℕ

@@ -1,25 +1,30 @@
--- The extent lies in the book, and the part from its start to its end is the one at the key's place.
+-- The place that is found lies in the book, and the part from its start to its end is the one at the place; a refusal is handed on.
 use mathlib.Core.Path.{◌≡◌, ap, ◌∙◌}
-use lib.IntN.{ℤ}
 use mir.Syntax.{w32}
+use mir.Val.{SFits, to_z, of_z}
+use mathlib.Core.List.{List}
+use Prim.Native.Nat.{ℕ}
+use lib.IntN.{ℤ}
+use Rattle.answer.specs.Outcome.{Outcome}
+use Rattle.answer.proofs.Passing.{passed_on}
 use Rattle.math.proofs.Signed.{read_back_lem}
+use Rattle.book.specs.declared.Place.{Place}
 use Rattle.book.specs.Books.{find_outcome}
-use Rattle.book.specs.Lookups.{slice, extent_at}
-use Rattle.book.proofs.Lookup.{extent_inside, extent_looked_up}
+use Rattle.book.specs.Lookups.{slice}
+use Rattle.book.proofs.Lookup.{place_inside, part_found, lookup_refused}
 use Rattle.book.proofs.name.Goals as goal
-use Rattle.book.proofs.name.Goals.{After-extent_of-extent}
 
--- the extent that was found is the key's
-is_extent : (c : After-extent_of-extent) → c.extent_of-extent.result ≡ extent_at (find_outcome c.args.book.now c.args.key)
-is_extent c =
-    c.extent_of-extent.ensures
-    ∙ ap (λ (key : ℤ). extent_at (find_outcome c.args.book.now key)) (read_back_lem w32 c.args.key c.ranges.key)
+-- the key that is looked up is the one that was passed
+as_passed : {a : Outcome Place} (bytes : List ℕ) (key : ℤ) → SFits w32 key → a ≡ find_outcome bytes (to_z w32 (of_z w32 key)) → a ≡ find_outcome bytes key
+as_passed bytes key fits e = e ∙ ap (find_outcome bytes) (read_back_lem w32 key fits)
 
-pub part_between-name-requires : goal.part_between-name-requires
-part_between-name-requires c =
-    extent_inside c.args.book.now c.args.key c.extent_of-extent.result (is_extent (goal.at.part_between-name-requires c).After-extent_of-extent)
+pub part_between-requires : goal.part_between-requires
+part_between-requires c = place_inside _ c.args.key _ (as_passed _ c.args.key c.ranges.key c.in_ok-place.ensures)
 
 pub returns : goal.returns
-returns c =
-    extent_looked_up (slice c.args.book) c.args.key c.extent_of-extent.result (slice c.part_between-name.result)
-    (is_extent (goal.at.returns c).After-extent_of-extent) c.part_between-name.ensures
+returns c = part_found (slice c.args.book) c.args.key _ _ (as_passed _ c.args.key c.ranges.key c.in_ok-place.ensures) c.part_between.ensures
+
+pub returns-in_err-place : goal.returns-in_err-place
+returns-in_err-place c =
+    rw (passed_on _ _ c.from_residual.ensures)
+    (lookup_refused (slice c.args.book) c.args.key _ (as_passed _ c.args.key c.ranges.key c.in_err-place.ensures))

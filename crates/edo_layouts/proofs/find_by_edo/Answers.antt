@@ -1,23 +1,25 @@
 -- Question 15, then the numbers of all chains, which ask 10.
+use Rattle.answer.proofs.Passing.{passed_on}
+use Rattle.answer.specs.Refusals.{outcome_of}
 use mathlib.Core.Path.{refl, sym, ap, ◌∙◌}
 use Rattle.answer.proofs.Lent.{filled_refused}
 use Rattle.layout.proofs.Calls.{filled_as, refused_in_room}
-use Rattle.edo_tritaves.specs.Tritaves.{tritaves_outcome}
 use Rattle.edo_layouts.proofs.Listing.{find_refused, find_in_room}
 use Rattle.edo_layouts.proofs.find_by_edo.Goals as goal
 
-pub returns-in-Refused : goal.returns-in-Refused
-returns-in-Refused c =
-    filled_refused _ _
+pub returns-in_err-choices : goal.returns-in_err-choices
+returns-in_err-choices c =
+    rw (passed_on _ _ c.from_residual.ensures)
+    (filled_refused _ _
     (refused_in_room _ _ _
-    (find_refused _ _ (sym (ap tritaves_outcome c.in-Refused.is) ∙ c.tritaves.ensures)))
-    refl
+    (find_refused _ _ (sym (ap outcome_of c.in_err-choices.was) ∙ c.tritaves.ensures)))
+    refl)
 
-pub returns-in-Given : goal.returns-in-Given
-returns-in-Given c =
+pub returns : goal.returns
+returns c =
     filled_as
     (find_in_room _ _
-    (sym (ap tritaves_outcome c.in-Given.is)
+    (sym (ap outcome_of c.in_ok-choices.was)
     ∙ c.tritaves.ensures)
     _)
     c.write_layouts.ensures

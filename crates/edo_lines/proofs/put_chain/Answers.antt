@@ -1,23 +1,15 @@
 -- No line, or one.
-use mathlib.Core.Path.{sym, ap, ◌∙◌}
 use native.Mathlib.Omega.{arith}
 use Rattle.text.proofs.Writing.{wrote_none, wrote_as}
-use Rattle.edo_layouts.specs.Layouts.{edo_outcome}
-use Rattle.edo_lines.proofs.LineLaws.{no_line_lem, line_is}
+use Rattle.edo_lines.proofs.LineLaws.{no_line_lem, line_is, of_known_chain}
 use Rattle.edo_lines.proofs.put_chain.Goals as goal
 
-pub returns-in-Refused : goal.returns-in-Refused
-returns-in-Refused c = (
-  wrote_as
-      (no_line_lem _ _ _ _ (sym (ap edo_outcome c.in-Refused.is) ∙ c.serve.ensures))
-      (wrote_none _ _),
-  omega arith,
-)
+pub returns-in-Err : goal.returns-in-Err
+returns-in-Err c = (wrote_as (no_line_lem _ _ _ _ c.in-Err.ensures) (wrote_none _ _), omega arith)
 
-pub returns-in-Given : goal.returns-in-Given
-returns-in-Given c =
-    let e = (sym (ap edo_outcome c.in-Given.is) ∙ c.serve.ensures) in
-    let w = c.put_line.ensures in (
-      wrote_as (line_is c.args.n c.args.choices c.args.genchain c.requires.0 _ e _ c.place_of-scale.ensures) w.0,
-      w.1,
-    )
+pub put_line-requires : goal.put_line-requires
+put_line-requires c = (of_known_chain _ _ _ _ c.in-Ok.ensures c.requires.0, c.requires.1)
+
+pub returns-in-Ok : goal.returns-in-Ok
+returns-in-Ok c =
+    let w = c.put_line.ensures in (wrote_as (line_is _ _ _ _ c.in-Ok.ensures) w.0, w.1)

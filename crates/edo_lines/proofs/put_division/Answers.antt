@@ -1,8 +1,8 @@
 -- Question 15, or all chains.
+use Rattle.answer.specs.Refusals.{outcome_of}
 use Prim.Native.Nat.{◌≤◌}
 use mathlib.Core.Path.{sym, ap, ◌∙◌}
 use native.Mathlib.Omega.{arith}
-use Rattle.edo_tritaves.specs.Tritaves.{tritaves_outcome}
 use Rattle.text.proofs.Writing.{wrote_as}
 use Rattle.edo_lines.proofs.Outputs.{division_refused, division_given, refusal_short}
 use borrow.Author.Rules.{rules}
@@ -13,20 +13,20 @@ put_refusal-requires c =
     let few : c.number.result ≤ 65535 = search rules in
     omega (arith, refusal_short c.number.result few)
 
-pub returns-in-Refused : goal.returns-in-Refused
-returns-in-Refused c =
+pub returns-in-Err : goal.returns-in-Err
+returns-in-Err c =
     let few : c.number.result ≤ 65535 = search rules in
     let w = c.put_refusal.ensures in (
-      wrote_as (division_refused _ _ _ c.number.ensures (sym (ap tritaves_outcome c.in-Refused.is) ∙ c.tritaves.ensures)) w,
+      wrote_as (division_refused _ _ _ c.number.ensures (sym (ap outcome_of c.in-Err.is) ∙ c.tritaves.ensures)) w,
       omega (arith, w.end, refusal_short c.number.result few),
     )
 
-pub returns-in-Given : goal.returns-in-Given
-returns-in-Given c =
+pub returns-in-Ok : goal.returns-in-Ok
+returns-in-Ok c =
     let w = c.put_chains.ensures in (
       wrote_as
           (division_given _ _
-          (sym (ap tritaves_outcome c.in-Given.is)
+          (sym (ap outcome_of c.in-Ok.is)
           ∙ c.tritaves.ensures))
           w.0,
       w.1,

@@ -21,7 +21,7 @@ room p from count out l long = omega (arith, part_room p from count l)
 pub put_lines-bytes-requires : goal.put_lines-bytes-requires
 put_lines-bytes-requires c =
     let l = c.requires.0 in
-    (l.ready, l.inside, omega (arith, part_room c.args.prepared c.args.from c.args.count l, c.requires.1))
+    (l.inside, omega (arith, part_room c.args.prepared c.args.from c.args.count l, c.requires.1))
 
 pub slice_bounds-write-end : goal.slice_bounds-write-end
 slice_bounds-write-end c =

@@ -1,20 +1,19 @@
 -- Questions 1 to 4 and 18, then the layout's file.
+use Rattle.answer.proofs.Passing.{passed_on}
 use mathlib.Core.Path.{refl, sym, ap, ◌∙◌}
 use Rattle.answer.proofs.Lent.{filled_refused}
 use Rattle.layout.specs.Parts.{found_outcome}
-use Rattle.layout.proofs.Calls.{laid_of, ready_given, filled_as, refused_in_room}
+use Rattle.layout.proofs.Calls.{ready_given, filled_as, refused_in_room}
 use Rattle.layout_kbm.proofs.Calls.{kbm_refused, kbm_in_room}
-use borrow.Author.Rules.{rules}
 use Rattle.layout_kbm.proofs.write_kbm.Goals as goal
 
-pub prepare-requires : goal.prepare-requires
-prepare-requires c = laid_of _ _ (sym (ap found_outcome c.in-Given.is) ∙ c.ask.ensures)
+pub returns-in_err-found : goal.returns-in_err-found
+returns-in_err-found c =
+    rw (passed_on _ _ c.from_residual.ensures)
+    (filled_refused _ _ (refused_in_room _ _ _ (kbm_refused _ _ (sym (ap found_outcome c.in_err-found.was) ∙ c.ask.ensures))) refl)
 
-pub returns-in-Refused : goal.returns-in-Refused
-returns-in-Refused c = filled_refused _ _ (refused_in_room _ _ _ (kbm_refused _ _ (sym (ap found_outcome c.in-Refused.is) ∙ c.ask.ensures))) refl
-
-pub returns-in-Given : goal.returns-in-Given
-returns-in-Given c =
-    let e = sym (ap found_outcome c.in-Given.is) ∙ c.ask.ensures in
+pub returns : goal.returns
+returns c =
+    let e = sym (ap found_outcome c.in_ok-found.was) ∙ c.ask.ensures in
     let ready = c.prepare in
     filled_as (kbm_in_room _ _ (ready_given _ _ e ready.result ready.ensures.1) _) c.write_file.ensures

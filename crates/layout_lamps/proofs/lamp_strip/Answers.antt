@@ -1,17 +1,16 @@
 -- Questions 1 to 4 and 18, then the strip of the plan.
+use Rattle.answer.proofs.Passing.{passed_on}
 use mathlib.Core.Path.{sym, ap, ◌∙◌}
 use Rattle.layout.specs.Parts.{found_outcome}
-use Rattle.layout.proofs.Calls.{laid_of}
 use Rattle.layout_lamps.proofs.Calls.{strip_refused, strip_not_written, strip_written}
 use Rattle.layout_lamps.proofs.lamp_strip.Goals as goal
 
-pub plan_of-requires : goal.plan_of-requires
-plan_of-requires c = laid_of _ _ (sym (ap found_outcome c.in-Given.is) ∙ c.ask.ensures)
+pub returns-in_err-found : goal.returns-in_err-found
+returns-in_err-found c =
+    rw (passed_on _ _ c.from_residual.ensures)
+    (strip_not_written _ _ (strip_refused _ _ (sym (ap found_outcome c.in_err-found.was) ∙ c.ask.ensures)) _)
 
-pub returns-in-Refused : goal.returns-in-Refused
-returns-in-Refused c = strip_not_written _ _ (strip_refused _ _ (sym (ap found_outcome c.in-Refused.is) ∙ c.ask.ensures)) _
-
-pub returns-in-Given : goal.returns-in-Given
-returns-in-Given c =
-    let e = sym (ap found_outcome c.in-Given.is) ∙ c.ask.ensures in
+pub returns : goal.returns
+returns c =
+    let e = sym (ap found_outcome c.in_ok-found.was) ∙ c.ask.ensures in
     strip_written _ _ e _ c.plan_of.ensures c.write_strip.ensures

@@ -1,20 +1,16 @@
 -- Questions 1 to 4 and 18, then the entries of the plan.
+use Rattle.answer.proofs.Passing.{passed_on}
 use mathlib.Core.Path.{sym, ap, ◌∙◌}
 use Rattle.layout.specs.Parts.{found_outcome}
-use Rattle.layout.proofs.Calls.{laid_of}
 use Rattle.layout_layers.proofs.Calls.{layers_not_written, layers_written}
 use Rattle.layout_layers.proofs.get_layers.Goals as goal
 
-pub plan_of-requires : goal.plan_of-requires
-plan_of-requires c = laid_of _ _ (sym (ap found_outcome c.in-Given.is) ∙ c.ask.ensures)
+pub returns-in_err-found : goal.returns-in_err-found
+returns-in_err-found c =
+    rw (passed_on _ _ c.from_residual.ensures)
+    (layers_not_written _ _ (sym (ap found_outcome c.in_err-found.was) ∙ c.ask.ensures) _)
 
-pub write_layers-requires : goal.write_layers-requires
-write_layers-requires c = c.plan_of.ensures.sound
-
-pub returns-in-Refused : goal.returns-in-Refused
-returns-in-Refused c = layers_not_written _ _ (sym (ap found_outcome c.in-Refused.is) ∙ c.ask.ensures) _
-
-pub returns-in-Given : goal.returns-in-Given
-returns-in-Given c =
-    let e = sym (ap found_outcome c.in-Given.is) ∙ c.ask.ensures in
+pub returns : goal.returns
+returns c =
+    let e = sym (ap found_outcome c.in_ok-found.was) ∙ c.ask.ensures in
     layers_written _ _ e _ c.plan_of.ensures c.write_layers.ensures

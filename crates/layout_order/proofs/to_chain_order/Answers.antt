@@ -4,4 +4,4 @@ use Rattle.layout_order.proofs.to_chain_order.Goals as goal
 
 pub returns : goal.returns
 unfolding get_chain_order get_order
-returns c = c.order.ensures
+returns c = c.rearrange.ensures

@@ -1,14 +1,13 @@
 -- Questions 1 to 4 and 18, then those of the text.
 use mathlib.Core.Path.{sym, ap, ◌∙◌}
-use Rattle.layout.specs.Parts.{found_outcome}
-use Rattle.layout_reading.proofs.Calls.{asked_of, finding_refused, finding_given}
+use Rattle.answer.proofs.Passing.{passed_on}
+use Rattle.layout_reading.specs.Parts.{reader_outcome}
+use Rattle.layout_reading.proofs.Calls.{finding_refused, finding_given}
 use Rattle.layout_reading.proofs.find_key.Goals as goal
 
-pub find-requires : goal.find-requires
-find-requires c = asked_of _ _ _ c.row-row.ensures (sym (ap found_outcome c.in-Given.is) ∙ c.ask_with_row.ensures) _ c.gcd_u16-cycles.ensures.is
+pub returns-in_err-reader : goal.returns-in_err-reader
+returns-in_err-reader c =
+    rw (passed_on _ _ c.from_residual.ensures) (finding_refused _ _ _ (sym (ap reader_outcome c.in_err-reader.was) ∙ c.ask.ensures))
 
-pub returns-in-Refused : goal.returns-in-Refused
-returns-in-Refused c = finding_refused _ _ _ (sym (ap found_outcome c.in-Refused.is) ∙ c.ask_with_row.ensures)
-
-pub returns-in-Given : goal.returns-in-Given
-returns-in-Given c = finding_given _ _ _ (sym (ap found_outcome c.in-Given.is) ∙ c.ask_with_row.ensures) _ c.find.ensures
+pub returns : goal.returns
+returns c = finding_given _ _ _ (sym (ap reader_outcome c.in_ok-reader.was) ∙ c.ask.ensures) _ c.find.ensures

@@ -1,19 +1,17 @@
 -- The questions of both layouts, then 10 and the moves.
-use mathlib.Core.Path.{sym, ap, ◌∙◌}
+use Rattle.answer.proofs.Passing.{passed_on}
 use Rattle.layout_retuning.specs.Parts.{tunings_outcome}
-use Rattle.layout_retuning.proofs.BothLayouts.{tuned}
+use mathlib.Core.Path.{sym, ap, ◌∙◌}
 use Rattle.layout_retuning.proofs.Tables.{not_written, written_given}
 use Rattle.layout_retuning.proofs.move_table.Goals as goal
 
-pub write_table-requires : goal.write_table-requires
-write_table-requires c =
-    tuned _ _ (sym (ap tunings_outcome c.in-Given.is) ∙ c.ask.ensures)
+pub returns-in_err-tunings : goal.returns-in_err-tunings
+returns-in_err-tunings c =
+    rw (passed_on _ _ c.from_residual.ensures)
+    (not_written _ _ (sym (ap tunings_outcome c.in_err-tunings.was) ∙ c.ask.ensures) _)
 
-pub returns-in-Refused : goal.returns-in-Refused
-returns-in-Refused c = not_written _ _ (sym (ap tunings_outcome c.in-Refused.is) ∙ c.ask.ensures) _
-
-pub returns-in-Given : goal.returns-in-Given
-returns-in-Given c =
+pub returns : goal.returns
+returns c =
     written_given _ _
-    (sym (ap tunings_outcome c.in-Given.is) ∙ c.ask.ensures)
+    (sym (ap tunings_outcome c.in_ok-tunings.was) ∙ c.ask.ensures)
     c.write_table.ensures

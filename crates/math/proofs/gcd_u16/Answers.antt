@@ -1,15 +1,8 @@
-use mathlib.Core.Path.{refl, sym, ap, ◌∙◌}
-use native.Mathlib.Nat.{mod-lt}
+use mathlib.Core.Path.{sym, ap, ◌∙◌}
 use borrow.Author.Rules.{rules}
 use Rattle.math.specs.Gcd.{gcd}
 use Rattle.math.proofs.Gcd.{gcd_step, gcd_found, gcd_none}
 use Rattle.math.proofs.gcd_u16.Goals as goal
-
-pub loop-b-init : goal.loop-b-init
-loop-b-init c = refl
-
-pub loop-b-smaller : goal.loop-b-smaller
-loop-b-smaller c = mod-lt c.loop-b.a (search rules)
 
 pub loop-b-preserved : goal.loop-b-preserved
 loop-b-preserved c = sym (gcd_step c.loop-b.a c.loop-b.b (search rules)) ∙ c.loop-b.invariant

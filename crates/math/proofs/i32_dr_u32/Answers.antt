@@ -1,10 +1,17 @@
 -- Question 2, then what `divide` found, which the remainder law makes the only answer.
+use mathlib.Core.Path.{ap, ◌∙◌}
 use mir.Syntax.{w32}
+use Rattle.answer.specs.Outcome.{refused}
+use Rattle.answer.specs.Refusals.{number_of}
+use Rattle.answer.specs.declared.Refusal.{Refusal}
+use Rattle.answer.proofs.Passing.{passed_on}
 use Rattle.math.proofs.Answers.{divide_refused, divide_given}
 use Rattle.math.proofs.i32_dr_u32.Goals as goal
 
-pub returns-then-denom-eq0 : goal.returns-then-denom-eq0
-returns-then-denom-eq0 c = divide_refused _ _ c.if-denom-eq0.true
+pub returns-in_err-asked : goal.returns-in_err-asked
+returns-in_err-asked c =
+    rw (passed_on _ _ c.from_residual.ensures)
+    (ap (λ (q : Refusal). refused (number_of q)) c.in_err-asked.ensures.0 ∙ divide_refused _ _ c.in_err-asked.ensures.1)
 
 pub returns : goal.returns
-returns c = divide_given w32 _ c.ranges.numer _ c.if-denom-eq0.false _ _ c.divide.ensures
+returns c = divide_given w32 _ c.ranges.numer _ c.in_ok-asked.ensures _ _ c.divide.ensures

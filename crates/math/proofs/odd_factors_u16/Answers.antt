@@ -1,5 +1,4 @@
-use mathlib.Core.Path.{refl, sym, ap, ◌∙◌}
-use native.Mathlib.Nat.{pos_of_ne-zero}
+use mathlib.Core.Path.{sym, ap, ◌∙◌}
 use native.Mathlib.Omega.{arith}
 use Rattle.math.specs.OddFactors.{odd_factors}
 use Rattle.math.proofs.OddFactors.{odd_step, odd_done, odd_zero}
@@ -7,12 +6,6 @@ use Rattle.math.proofs.odd_factors_u16.Goals as goal
 
 pub returns-then-number-eq0 : goal.returns-then-number-eq0
 returns-then-number-eq0 c = odd_zero ∙ ap odd_factors (sym c.if-number-eq0.true)
-
-pub loop-odd-init : goal.loop-odd-init
-loop-odd-init c = (pos_of_ne-zero c.if-number-eq0.false, refl)
-
-pub loop-odd-smaller : goal.loop-odd-smaller
-loop-odd-smaller c = omega arith
 
 pub loop-odd-preserved : goal.loop-odd-preserved
 loop-odd-preserved c = (

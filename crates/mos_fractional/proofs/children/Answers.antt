@@ -1,5 +1,5 @@
--- Nothing of a pattern's fields is used: it is stored whole, and passed whole to `next`.
-use mathlib.Core.Bool.{true, false}
+-- Nothing of a pattern's fields is used: it is stored whole, and passed whole to `child`.
+use Rattle.std.specs.Prelude.{None, Some}
 use mathlib.Core.List.{List}
 use mathlib.Core.Path.{◌≡◌, sym, ap, subst, ◌∙◌}
 use native.Mathlib.Omega.{arith}
@@ -9,32 +9,29 @@ use lib.ListN.{length, set}
 use Rattle.answer.specs.Lent.{Filled}
 use Rattle.answer.specs.Outcome.{Outcome}
 use Rattle.mos_fractional.specs.declared.FractionalMos.{FractionalMos}
-use Rattle.mos_fractional.specs.declared.walks.Turn.{Turn}
 use Rattle.mos_fractional.specs.Answers.{listing_outcome}
 use Rattle.mos_fractional.specs.Parts.{next_turn, Turns, answered_of}
-use Rattle.mos_fractional.proofs.Storing.{nth_turn, nth_turn_none, nth_turn_more, stored, stored_none, stored_more, still_stores, no_more_stored, listed, listed_fits, listing_filled}
+use Rattle.mos_fractional.proofs.Storing.{Turn, nth_turn, nth_turn_none, nth_turn_more, stored, stored_none, stored_more, still_stores, no_more_stored, listed, listed_fits, listing_filled}
 use Rattle.mos_fractional.proofs.children.Goals as goal
 
 module _ (g : Float) (xs : List FractionalMos) (first turn : Turn) (begins : Turns first (listed g (length xs))) (i : ℕ)
     (within : i ≤ length (listed g (length xs))) (is : turn ≡ nth_turn i first) where
   -- a turn that stores a pattern comes before the end
-  less : turn.stores ≡ true → i < length (listed g (length xs))
-  less does = still_stores begins i within (ap (λ (x : Turn). x.stores) (sym is) ∙ does)
+  less : (p : FractionalMos) → turn ≡ Some p → i < length (listed g (length xs))
+  less p does = still_stores begins i within p (sym is ∙ does)
 
   -- a turn that stores none is the last
-  all : turn.stores ≡ false → i ≡ length (listed g (length xs))
-  all ends = no_more_stored begins i within (ap (λ (x : Turn). x.stores) (sym is) ∙ ends)
+  all : turn ≡ None → i ≡ length (listed g (length xs))
+  all ends = no_more_stored begins i within (sym is ∙ ends)
 
   module _ (ys : List FractionalMos) (are : ys ≡ stored i first xs) where
     -- one more pattern is stored
-    more : i < length xs → set ys i turn.pattern ≡ stored (i + 1) first xs
-    more inside =
-        ap (λ (zs : List FractionalMos). set zs i turn.pattern) are
-        ∙ ap (λ (x : Turn). set (stored i first xs) i x.pattern) is
-        ∙ stored_more i first xs inside
+    more : (p : FractionalMos) → turn ≡ Some p → i < length xs → set ys i p ≡ stored (i + 1) first xs
+    more p does inside =
+        ap (λ (zs : List FractionalMos). set zs i p) are ∙ stored_more i first xs p (sym is ∙ does) inside
 
     -- the whole listing is stored, and its answer is told
-    whole : turn.stores ≡ false → {o : Outcome ℕ} → o ≡ answered_of g i → Filled (listing_outcome g (length xs)) o xs ys
+    whole : turn ≡ None → {o : Outcome ℕ} → o ≡ answered_of g i → Filled (listing_outcome g (length xs)) o xs ys
     whole ends {o} told =
         let m = length (listed g (length xs)) in
         let content : ys ≡ stored m first xs = are ∙ ap (λ (k : ℕ). stored k first xs) (all ends) in
@@ -55,27 +52,27 @@ bounds-out-i c =
     let t = c.loop-turn.invariant in
     omega (
       arith,
-      less c.args.generator c.args.out.now _ _ c.first-turn.ensures _ t.within t.turns c.loop-turn-test.true,
+      less c.args.generator c.args.out.now _ _ c.first-turn.ensures _ t.within t.turns _ c.in-Some.is,
       listed_fits c.args.generator (length c.args.out.now),
     )
 
 pub loop-turn-smaller : goal.loop-turn-smaller
 loop-turn-smaller c =
     let t = c.loop-turn.invariant in
-    omega (arith, less c.args.generator c.args.out.now _ _ c.first-turn.ensures _ t.within t.turns c.loop-turn-test.true)
+    omega (arith, less c.args.generator c.args.out.now _ _ c.first-turn.ensures _ t.within t.turns _ c.in-Some.is)
 
 pub loop-turn-preserved : goal.loop-turn-preserved
 loop-turn-preserved c =
     let t = c.loop-turn.invariant in
-    let here = less c.args.generator c.args.out.now _ _ c.first-turn.ensures _ t.within t.turns c.loop-turn-test.true in
+    let here = less c.args.generator c.args.out.now _ _ c.first-turn.ensures _ t.within t.turns _ c.in-Some.is in
     let inside : c.loop-turn.i < length c.args.out.now = omega (arith, here, listed_fits c.args.generator (length c.args.out.now)) in
     record {
       within = omega (arith, here);
-      turns = c.next-turn.ensures ∙ ap (λ (x : Turn). next_turn x.pattern) t.turns ∙ nth_turn_more c.loop-turn.i c.first-turn.result;
-      stores = more c.args.generator c.args.out.now _ _ c.first-turn.ensures _ t.within t.turns _ t.stores inside;
+      turns = c.child-turn.ensures ∙ ap next_turn (sym c.in-Some.is ∙ t.turns) ∙ nth_turn_more c.loop-turn.i c.first-turn.result;
+      stores = more c.args.generator c.args.out.now _ _ c.first-turn.ensures _ t.within t.turns _ t.stores _ c.in-Some.is inside;
     }
 
 pub returns : goal.returns
 returns c =
     let t = c.loop-turn.invariant in
-    whole c.args.generator c.args.out.now _ _ c.first-turn.ensures _ t.within t.turns _ t.stores c.loop-turn-test.false c.answer.ensures
+    whole c.args.generator c.args.out.now _ _ c.first-turn.ensures _ t.within t.turns _ t.stores c.in_default.is c.answer.ensures

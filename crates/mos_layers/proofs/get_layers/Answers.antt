@@ -1,23 +1,26 @@
 -- Questions 7 and 10, then the layers at the front; they are as many as the reduced size says.
-use mathlib.Core.Path.{sym, ◌∙◌}
-use Rattle.mos_layers.proofs.Answers.{layers_no_pattern, layers_no_room, layers_room, layers_given, code_reduced}
-use Rattle.mos_layers.proofs.Theorems.{code_cycles}
+use mathlib.Core.Path.{refl}
+use Rattle.mos_layers.proofs.Answers.{layers_passed, layers_of_lem, layers_no_room, layers_room, layers_given, code_reduced}
 use Rattle.mos_layers.proofs.get_layers.Goals as goal
 
+pub returns-in_err-pattern : goal.returns-in_err-pattern
+returns-in_err-pattern c = layers_passed _ _ _ c.from_residual.ensures c.in_err-pattern.ensures
+
 pub returns-then-out-len : goal.returns-then-out-len
-returns-then-out-len c = layers_no_room _ _ c.is_pattern.ensures c.if-is_pattern.true (code_reduced c.args.mos c.wide_size.ensures c.gcd_u16-cycles.ensures.is) c.if-out-len.true
+returns-then-out-len c =
+    layers_of_lem c.in_ok-pattern.ensures
+    (layers_no_room _ _ refl c.in_ok-pattern.pattern.fits (code_reduced c.in_ok-pattern.pattern.mos c.size.ensures c.num_cycles-cycles.ensures.0) c.if-out-len.true)
 
 pub runs_over-requires : goal.runs_over-requires
-runs_over-requires c = (
-  sym c.is_pattern.ensures ∙ c.if-is_pattern.true,
-  code_cycles c.args.mos _ c.gcd_u16-cycles.ensures.is,
-)
+runs_over-requires c = (c.in_ok-pattern.pattern.fits, c.num_cycles-cycles.ensures.0)
 
 pub put_all_layers-requires : goal.put_all_layers-requires
-put_all_layers-requires c = layers_room c.args.mos c.runs_over.result c.runs_over.ensures c.args.out.now c.is_pattern.ensures c.if-is_pattern.true (code_reduced c.args.mos c.wide_size.ensures c.gcd_u16-cycles.ensures.is) c.if-out-len.false
-
-pub returns-then-is_pattern : goal.returns-then-is_pattern
-returns-then-is_pattern c = layers_given _ c.runs_over.result c.runs_over.ensures _ c.is_pattern.ensures c.if-is_pattern.true (code_reduced c.args.mos c.wide_size.ensures c.gcd_u16-cycles.ensures.is) c.if-out-len.false c.put_all_layers.ensures
+put_all_layers-requires c =
+    layers_room c.in_ok-pattern.pattern.mos c.runs_over.result c.runs_over.ensures c.args.out.now refl c.in_ok-pattern.pattern.fits
+    (code_reduced c.in_ok-pattern.pattern.mos c.size.ensures c.num_cycles-cycles.ensures.0) c.if-out-len.false
 
 pub returns : goal.returns
-returns c = layers_no_pattern _ _ c.is_pattern.ensures c.if-is_pattern.false
+returns c =
+    layers_of_lem c.in_ok-pattern.ensures
+    (layers_given _ c.runs_over.result c.runs_over.ensures _ refl c.in_ok-pattern.pattern.fits
+    (code_reduced c.in_ok-pattern.pattern.mos c.size.ensures c.num_cycles-cycles.ensures.0) c.if-out-len.false c.put_all_layers.ensures)

@@ -1,15 +1,17 @@
 -- Question 7, then how many layers the runs have.
-use mathlib.Core.Path.{sym, ap, ◌∙◌}
+use mathlib.Core.Path.{ap, ◌∙◌}
 use lib.ListN.{length}
-use Rattle.mos.proofs.Sizes.{pattern_given, pattern_refused}
+use Rattle.mos.specs.declared.Mos.{Mos}
+use Rattle.mos.proofs.Sizes.{size_passed, size_given}
+use Rattle.mos_layers.specs.Layers.{layer_sizes}
 use Rattle.mos_layers.proofs.Answers.{runs_sizes}
 use Rattle.mos_layers.proofs.layer_sizes_len.Goals as goal
 
-pub runs_in-requires : goal.runs_in-requires
-runs_in-requires c = sym c.is_pattern.ensures ∙ c.if-is_pattern.true
-
-pub returns-then-is_pattern : goal.returns-then-is_pattern
-returns-then-is_pattern c = pattern_given _ c.is_pattern.ensures c.if-is_pattern.true (c.count_sizes.ensures ∙ ap length (runs_sizes c.args.mos c.runs_in.result c.runs_in.ensures))
+pub returns-in_err-pattern : goal.returns-in_err-pattern
+returns-in_err-pattern c = size_passed _ _ _ c.from_residual.ensures c.in_err-pattern.ensures
 
 pub returns : goal.returns
-returns c = pattern_refused _ _ c.is_pattern.ensures c.if-is_pattern.false
+returns c =
+    let same = c.in_ok-pattern.ensures in
+    size_given _ same c.in_ok-pattern.pattern.fits
+    (c.count_sizes.ensures ∙ ap length (runs_sizes _ c.runs_in.result c.runs_in.ensures) ∙ ap (λ (m : Mos). length (layer_sizes m)) same)

@@ -1,16 +1,20 @@
 -- Question 7, then four numbers a pattern.
 use Prim.Native.Nat.{ℕ, ◌*◌}
+use lib.ListN.{length}
 use mathlib.Core.Path.{sym, ap, ◌∙◌}
-use Rattle.mos.proofs.Sizes.{pattern_given, pattern_refused}
-use Rattle.mos.specs.Walks.{parents}
+use Rattle.mos.specs.declared.Mos.{Mos}
+use Rattle.mos.specs.Walks.{children, parents}
+use Rattle.mos.specs.Patterns.{dual_of}
+use Rattle.mos_listings.proofs.Leaping.{dual_count}
+use Rattle.mos.proofs.Sizes.{size_passed, size_given}
 use Rattle.mos.proofs.Sequences.{length_listed}
 use Rattle.mos_listings.proofs.parents_len.Goals as goal
 
-pub count_parents-requires : goal.count_parents-requires
-count_parents-requires c = sym c.is_pattern.ensures ∙ c.if-is_pattern.true
-
-pub returns-then-is_pattern : goal.returns-then-is_pattern
-returns-then-is_pattern c = pattern_given _ c.is_pattern.ensures c.if-is_pattern.true (ap (λ (n : ℕ). n * 4) c.count_parents.ensures ∙ sym (length_listed (parents c.args.mos)))
+pub returns-in_err-pattern : goal.returns-in_err-pattern
+returns-in_err-pattern c = size_passed _ _ _ c.from_residual.ensures c.in_err-pattern.ensures
 
 pub returns : goal.returns
-returns c = pattern_refused _ _ c.is_pattern.ensures c.if-is_pattern.false
+returns c = size_given _ c.in_ok-pattern.ensures c.in_ok-pattern.pattern.fits
+    (ap (λ (n : ℕ). n * 4)
+    (c.count_children.ensures ∙ ap (λ (m : Mos). length (children m)) (c.dual.ensures ∙ ap dual_of c.in_ok-pattern.ensures) ∙ dual_count c.args.mos)
+    ∙ sym (length_listed (parents c.args.mos)))

@@ -1,26 +1,25 @@
 -- Questions 2 and 10, then the listing at the front.
-use native.Mathlib.Nat.{pos_of_ne-zero}
-use borrow.Author.Rules.{rules}
-use Rattle.mos_moves.proofs.Answering.{genesis_pattern, walk_refused, walk_room, walk_short, walk_listed}
+use native.Mathlib.Omega.{arith}
+use Rattle.mos_moves.proofs.Answering.{walk_passed, walk_room, walk_short, walk_listed}
 use Rattle.mos_moves.proofs.walk_moves.Goals as goal
 
-pub returns-then-period-eq0 : goal.returns-then-period-eq0
-returns-then-period-eq0 c = walk_refused _ _ c.if-period-eq0.true _
-
-pub children_fit-requires : goal.children_fit-requires
-children_fit-requires c = genesis_pattern _ _ c.if-period-eq0.false (search rules) c.genesis_of.ensures
+pub returns-in_err-genesis : goal.returns-in_err-genesis
+returns-in_err-genesis c = walk_passed _ _ _ _ c.from_residual.ensures c.in_err-genesis.ensures
 
 pub returns-then-not-children_fit : goal.returns-then-not-children_fit
 returns-then-not-children_fit c =
-    walk_short _ _ c.if-period-eq0.false _ c.genesis_of.ensures c.children_fit.ensures c.if-not-children_fit.true
+    let asked = c.in_ok-genesis.ensures in
+    walk_short _ _ (λ e. omega (arith, asked.0)) _ asked.1 c.children_fit.ensures c.if-not-children_fit.true
 
 pub list_moves-requires : goal.list_moves-requires
 list_moves-requires c =
-    let some = c.if-period-eq0.false in (
-      pos_of_ne-zero some,
-      walk_room _ _ some c.args.out.now c.genesis_of.ensures c.children_fit.ensures c.if-not-children_fit.false,
+    let asked = c.in_ok-genesis.ensures in (
+      asked.0,
+      asked.1,
+      walk_room _ _ (λ e. omega (arith, asked.0)) c.args.out.now asked.1 c.children_fit.ensures c.if-not-children_fit.false,
     )
 
 pub returns : goal.returns
 returns c =
-    walk_listed _ _ c.if-period-eq0.false _ c.genesis_of.ensures c.children_fit.ensures c.if-not-children_fit.false c.list_moves.ensures
+    let asked = c.in_ok-genesis.ensures in
+    walk_listed _ _ (λ e. omega (arith, asked.0)) _ asked.1 c.children_fit.ensures c.if-not-children_fit.false c.list_moves.ensures

@@ -1,18 +1,17 @@
--- Question 7, then the walk, and the pattern that it left in the array.
-use mathlib.Core.Path.{sym, ap, ◌∙◌}
-use mathlib.Core.Option.{some}
-use Rattle.mos.proofs.Sizes.{pattern_given, pattern_refused}
-use Rattle.mos_walks.proofs.Meeting.{meets_found, meets_nothing}
+-- Question 7, then the walk.
+use mathlib.Core.Path.{ap, ◌∙◌}
+use Rattle.mos.specs.declared.Mos.{Mos}
+use Rattle.mos.specs.Walks.{children, first_with}
+use Rattle.mos.proofs.Sizes.{size_passed, size_given}
 use Rattle.mos_walks.proofs.find_child.Goals as goal
 
+pub returns-in_err-pattern : goal.returns-in_err-pattern
+returns-in_err-pattern c = size_passed _ _ _ c.from_residual.ensures c.in_err-pattern.ensures
+
 pub seek-requires : goal.seek-requires
-seek-requires c = sym c.is_pattern.ensures ∙ c.if-is_pattern.true
-
-pub returns-then-seek : goal.returns-then-seek
-returns-then-seek c = pattern_given _ c.is_pattern.ensures c.if-is_pattern.true (ap some c.pattern_of.ensures ∙ meets_found _ _ c.seek.ensures c.if-seek.true)
-
-pub returns-then-is_pattern : goal.returns-then-is_pattern
-returns-then-is_pattern c = pattern_given _ c.is_pattern.ensures c.if-is_pattern.true (meets_nothing _ _ c.seek.ensures c.if-seek.false)
+seek-requires c = c.in_ok-pattern.pattern.fits
 
 pub returns : goal.returns
-returns c = pattern_refused _ _ c.is_pattern.ensures c.if-is_pattern.false
+returns c =
+    let same = c.in_ok-pattern.ensures in
+    size_given _ same c.in_ok-pattern.pattern.fits (c.seek.ensures ∙ ap (λ (n : Mos). first_with c.args.num_steps (children n)) same)

@@ -1,14 +1,14 @@
--- Question 7, then the walk to the last parent.
-use mathlib.Core.Path.{sym, ◌∙◌}
-use Rattle.mos.proofs.Sizes.{pattern_given, pattern_refused}
-use Rattle.mos_walks.proofs.Meeting.{meets_always}
+-- Question 7, then the walk.
+use mathlib.Core.Path.{ap, ◌∙◌}
+use Rattle.mos.specs.declared.Mos.{Mos}
+use Rattle.mos.specs.Walks.{genesis_of}
+use Rattle.mos.proofs.Sizes.{size_passed, size_given}
 use Rattle.mos_walks.proofs.genesis.Goals as goal
 
-pub root-requires : goal.root-requires
-root-requires c = sym c.is_pattern.ensures ∙ c.if-is_pattern.true
-
-pub returns-then-is_pattern : goal.returns-then-is_pattern
-returns-then-is_pattern c = pattern_given _ c.is_pattern.ensures c.if-is_pattern.true (c.pattern_of.ensures ∙ meets_always _ _ c.root.ensures)
+pub returns-in_err-pattern : goal.returns-in_err-pattern
+returns-in_err-pattern c = size_passed _ _ _ c.from_residual.ensures c.in_err-pattern.ensures
 
 pub returns : goal.returns
-returns c = pattern_refused _ _ c.is_pattern.ensures c.if-is_pattern.false
+returns c =
+    let same = c.in_ok-pattern.ensures in
+    size_given _ same c.in_ok-pattern.pattern.fits (c.root.ensures ∙ ap (λ (n : Mos). genesis_of n) same)

@@ -1,18 +1,15 @@
--- Question 7, then the walk, and the pattern that it left in the array.
-use mathlib.Core.Path.{sym, ap, ◌∙◌}
-use mathlib.Core.Option.{some}
-use Rattle.mos.proofs.Sizes.{pattern_given, pattern_refused}
-use Rattle.mos_walks.proofs.Meeting.{meets_found, meets_nothing}
+-- Question 7, then the walk.
+use Rattle.std.specs.Prelude.{slice_get}
+use mathlib.Core.Path.{ap, ◌∙◌}
+use Rattle.mos.specs.declared.Mos.{Mos}
+use Rattle.mos.specs.Walks.{children}
+use Rattle.mos.proofs.Sizes.{size_passed, size_given}
 use Rattle.mos_walks.proofs.nth_child.Goals as goal
 
-pub descend-requires : goal.descend-requires
-descend-requires c = sym c.is_pattern.ensures ∙ c.if-is_pattern.true
-
-pub returns-then-descend : goal.returns-then-descend
-returns-then-descend c = pattern_given _ c.is_pattern.ensures c.if-is_pattern.true (ap some c.pattern_of.ensures ∙ meets_found _ _ c.descend.ensures c.if-descend.true)
-
-pub returns-then-is_pattern : goal.returns-then-is_pattern
-returns-then-is_pattern c = pattern_given _ c.is_pattern.ensures c.if-is_pattern.true (meets_nothing _ _ c.descend.ensures c.if-descend.false)
+pub returns-in_err-pattern : goal.returns-in_err-pattern
+returns-in_err-pattern c = size_passed _ _ _ c.from_residual.ensures c.in_err-pattern.ensures
 
 pub returns : goal.returns
-returns c = pattern_refused _ _ c.is_pattern.ensures c.if-is_pattern.false
+returns c =
+    let same = c.in_ok-pattern.ensures in
+    size_given _ same c.in_ok-pattern.pattern.fits (c.descend.ensures ∙ ap (λ (n : Mos). slice_get (children n) c.args.k) same)

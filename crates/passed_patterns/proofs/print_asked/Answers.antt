@@ -1,14 +1,14 @@
 -- The generator of the chain, or a refusal.
+use Rattle.answer.specs.Refusals.{outcome_of}
 use mathlib.Core.Path.{sym, ap, ◌∙◌}
-use Rattle.answer.specs.Refusals.{number_outcome}
 use Rattle.passed_patterns.proofs.Outputs.{for_refused, for_given}
 use Rattle.passed_patterns.proofs.print_asked.Goals as goal
 
-pub returns-in-Refused : goal.returns-in-Refused
-returns-in-Refused c =
-    for_refused _ _ _ _ c.number.ensures
-    (sym (ap number_outcome c.in-Refused.is) ∙ c.generator.ensures) c.print_refusal.ensures
+pub returns-in-Err : goal.returns-in-Err
+returns-in-Err c =
+    for_refused _ _ _
+    (sym (ap outcome_of c.in-Err.is) ∙ c.generator.ensures) c.print_refusal.ensures
 
-pub returns-in-Given : goal.returns-in-Given
-returns-in-Given c =
-    for_given _ _ _ (sym (ap number_outcome c.in-Given.is) ∙ c.generator.ensures) c.print_from.ensures
+pub returns-in-Ok : goal.returns-in-Ok
+returns-in-Ok c =
+    for_given _ _ _ (sym (ap outcome_of c.in-Ok.is) ∙ c.generator.ensures) c.print_from.ensures

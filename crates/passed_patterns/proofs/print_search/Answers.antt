@@ -1,8 +1,8 @@
 -- The patterns, then the answer.
+use Rattle.std.specs.Prelude.{Option}
 use Rattle.streams.proofs.Onward.{written_then, written_as, written_first}
 use mathlib.Core.Path.{ap}
 use Rattle.mos.specs.Walks.{children}
-use mathlib.Core.Option.{Option}
 use mathlib.Core.List.{◌++◌}
 use Rattle.mos.specs.declared.Mos.{Mos}
 use Rattle.passed_patterns.specs.Printing.{passed, pattern_lines, answer_line, shown}

@@ -16,23 +16,23 @@ put_number_then-first-requires c =
 pub put_number_then-second-requires : goal.put_number_then-second-requires
 put_number_then-second-requires c =
     let h0 : c.args.genchain ≤ 65535 = search rules in
-    let h1 : c.args.above ≤ 65535 = search rules in
-    omega (arith, short c.args.genchain space h0, short c.args.above space h1)
+    let h1 : c.args.tally.above ≤ 65535 = search rules in
+    omega (arith, short c.args.genchain space h0, short c.args.tally.above space h1)
 
 pub put_number_then-third-requires : goal.put_number_then-third-requires
 put_number_then-third-requires c =
     let h0 : c.args.genchain ≤ 65535 = search rules in
-    let h1 : c.args.above ≤ 65535 = search rules in
-    let h2 : c.args.below ≤ 65535 = search rules in
-    omega (arith, short c.args.genchain space h0, short c.args.above space h1, short c.args.below space h2)
+    let h1 : c.args.tally.above ≤ 65535 = search rules in
+    let h2 : c.args.tally.below ≤ 65535 = search rules in
+    omega (arith, short c.args.genchain space h0, short c.args.tally.above space h1, short c.args.tally.below space h2)
 
 pub put_number_then-requires : goal.put_number_then-requires
 put_number_then-requires c =
     let h0 : c.args.genchain ≤ 65535 = search rules in
-    let h1 : c.args.above ≤ 65535 = search rules in
-    let h2 : c.args.below ≤ 65535 = search rules in
-    let h3 : c.args.equal ≤ 65535 = search rules in
-    omega (arith, short c.args.genchain space h0, short c.args.above space h1, short c.args.below space h2, short c.args.equal line_feed h3)
+    let h1 : c.args.tally.above ≤ 65535 = search rules in
+    let h2 : c.args.tally.below ≤ 65535 = search rules in
+    let h3 : c.args.tally.equal ≤ 65535 = search rules in
+    omega (arith, short c.args.genchain space h0, short c.args.tally.above space h1, short c.args.tally.below space h2, short c.args.tally.equal line_feed h3)
 
 pub returns : goal.returns
 unfolding report_line

@@ -1,5 +1,5 @@
 -- What is written is the numbers of the chains so far.
-use Prim.Native.Nat.{◌*◌, ◌≤◌, ◌-◌}
+use Prim.Native.Nat.{◌*◌, ◌≤◌}
 use mathlib.Core.Path.{◌≡◌}
 use lib.ListN.{length}
 use Rattle.text.specs.Writing.{Wrote, joined}
@@ -8,7 +8,4 @@ use Rattle.edo_layouts.proofs.parts.put_chains.Given as goal
 
 abbrev pub invariant-loop-genchain : goal.invariant-loop-genchain
 invariant-loop-genchain l =
-    Wrote l.initial.out 0 (joined (chain_numbers l.n l.choices) l.genchain) l.out l.place × (l.place ≤ 3 * l.genchain) × (l.genchain ≤ 6) × (length l.out ≡ length l.initial.out)
-
-abbrev pub decreases-loop-genchain : goal.decreases-loop-genchain
-decreases-loop-genchain l = 6 - l.genchain
+    Wrote l.initial.out 0 (joined (chain_numbers l.n l.choices) l.genchain) l.out l.place × (l.place ≤ 3 * l.genchain) × (length l.out ≡ length l.initial.out)

@@ -1,21 +1,18 @@
 -- The first choice; no second; the second.
-use mathlib.Core.Path.{sym, ap, ◌∙◌}
-use Rattle.edo_layouts.specs.Layouts.{edo_outcome}
-use Rattle.edo_layouts.proofs.Serving.{served_first, no_second, served_second}
+use mathlib.Core.Path.{ap, ◌∙◌}
+use Rattle.answer.specs.Outcome.{refused}
+use Rattle.answer.specs.Refusals.{outcome_of}
+use Rattle.edo_layouts.specs.Layouts.{or_else}
+use Rattle.edo_layouts.proofs.Serving.{served_first, no_second, served_second, or_refusal}
 use Rattle.edo_layouts.proofs.parts.serve.Goals as goal
 
-pub returns-then-choices-eq0 : goal.returns-then-choices-eq0
-returns-then-choices-eq0 c =
-    no_second _ _ _ _
-    (sym (ap edo_outcome c.in-Refused.is) ∙ c.try_tritave.ensures)
-    c.if-choices-eq0.true
+pub returns-in-Ok : goal.returns-in-Ok
+returns-in-Ok c = served_first _ _ _ _ c.in-Ok.ensures
 
-pub returns-in-Given : goal.returns-in-Given
-returns-in-Given c = served_first _ _ _ _ (sym (ap edo_outcome c.in-Given.is) ∙ c.try_tritave.ensures)
+pub returns-in-None : goal.returns-in-None
+returns-in-None c = no_second _ _ _ _ c.in-Err.ensures c.in-None.is
 
-pub returns-else-choices-eq0 : goal.returns-else-choices-eq0
-returns-else-choices-eq0 c =
-    served_second _ _ _ _ _
-    (sym (ap edo_outcome c.in-Refused.is)
-    ∙ c.try_tritave.ensures)
-    c.if-choices-eq0.false c.try_second.ensures
+pub returns-in-Some : goal.returns-in-Some
+returns-in-Some c =
+    served_second _ _ _ _ _ _ c.in-Err.ensures c.in-Some.is
+    (ap outcome_of c.or.ensures ∙ or_refusal _ _ ∙ ap (or_else (refused _)) c.try_tritave-in-Some.ensures)

@@ -1,30 +1,20 @@
 -- Questions 1 to 4 and 18, then the length of the planned name of the key round the octave.
+use mathlib.Core.Path.{ap}
 use mir.Syntax.{w32}
-use mathlib.Core.Path.{sym, ap, ◌∙◌}
+use Rattle.math.proofs.Signed.{read_back_lem}
+use Rattle.answer.proofs.Passing.{passed_on}
 use Rattle.answer.specs.Lent.{counted}
-use native.Mathlib.Omega.{arith}
-use Rattle.math.proofs.Answers.{remainder_read}
-use Rattle.math.proofs.Division.{remainder_below}
-use Rattle.layout.specs.Parts.{found_outcome}
-use Rattle.layout.proofs.Calls.{name_refused, parts_of, laid_of, row_found, name_measured}
+use Rattle.layout.proofs.Calls.{asked_back, name_refused, name_measured}
 use Rattle.layout.proofs.IsomorphicLayout.note_name_len.Goals as goal
 
-pub rem_u16-index-requires : goal.rem_u16-index-requires
-rem_u16-index-requires c =
-    (parts_of _ _ (sym (ap found_outcome c.in-Given.is) ∙ c.ask_with_row.ensures)).positive
+pub returns-in_err-asked : goal.returns-in_err-asked
+returns-in_err-asked c =
+    let r = c.args.self in
+    rw (passed_on _ _ c.from_residual.ensures)
+    (ap counted (name_refused r _ (asked_back r _ _ (read_back_lem w32 c.args.key c.ranges.key) _ _ c.in_err-asked.was c.ask_key.ensures) _))
 
-pub name_length-requires : goal.name_length-requires
-name_length-requires c =
-    let e = sym (ap found_outcome c.in-Given.is) ∙ c.ask_with_row.ensures in
-    let key = c.args.key in
-    let round = remainder_read w32 key c.ranges.key _ _ c.rem_u16-index.ensures in
-    record { row_is = row_found _ _ e _ c.row-row.ensures; laid = laid_of _ _ e; below = omega (arith, round, remainder_below key _ (parts_of _ _ e).positive) }
-
-pub returns-in-Refused : goal.returns-in-Refused
-returns-in-Refused c = ap counted (name_refused _ _ (sym (ap found_outcome c.in-Refused.is) ∙ c.ask_with_row.ensures) _)
-
-pub returns-in-Given : goal.returns-in-Given
-returns-in-Given c =
-    let key = c.args.key in
-    name_measured _ _ (sym (ap found_outcome c.in-Given.is) ∙ c.ask_with_row.ensures)
-    key _ (remainder_read w32 key c.ranges.key _ _ c.rem_u16-index.ensures) _ c.name_length.ensures
+pub returns : goal.returns
+returns c =
+    let r = c.args.self in
+    let found = asked_back r _ _ (read_back_lem w32 c.args.key c.ranges.key) _ _ c.in_ok-asked.was c.ask_key.ensures in
+    name_measured r _ found.0 c.args.key _ found.1 _ c.name_length.ensures

@@ -1,6 +1,6 @@
 -- After `cycle` turns the pairs and names of the cycles before it stand side by side.
 -- the first k pairs and names
-use Prim.Native.Nat.{ℕ, ◌-◌, ◌≤◌}
+use Prim.Native.Nat.{ℕ}
 use mathlib.Core.List.{List}
 use Rattle.text.specs.Writing.{joined}
 use Rattle.notes.specs.declared.plans.NamePlan.{NamePlan}
@@ -13,8 +13,4 @@ Written plan pair text before k after front behind =
     Beside before pair (joined (starred_pair plan text) k) text (joined (starred_text plan) k) after front behind
 
 abbrev pub invariant-loop-cycle : goal.invariant-loop-cycle
-invariant-loop-cycle l =
-    Written l.plan l.pair l.text l.initial.out l.cycle l.out l.front l.behind × (l.cycle ≤ l.cycles)
-
-abbrev pub decreases-loop-cycle : goal.decreases-loop-cycle
-decreases-loop-cycle l = l.cycles - l.cycle
+invariant-loop-cycle l = Written l.plan l.pair l.text l.initial.out l.cycle l.out l.front l.behind

@@ -6,23 +6,23 @@ use Rattle.layout_explaining.proofs.sentences.put_moved.Goals as goal
 
 pub put_where-stands-requires : goal.put_where-stands-requires
 put_where-stands-requires c =
-    (c.requires.0, omega (arith, c.requires.1))
+    omega (arith, c.requires)
 
 pub put_stars-starred-requires : goal.put_stars-starred-requires
 put_stars-starred-requires c =
-    omega (arith, c.requires.1, c.put_where-stands.ensures.1)
+    omega (arith, c.requires, c.put_where-stands.ensures.1)
 
 pub put_product-product-requires : goal.put_product-product-requires
 put_product-product-requires c =
-    omega (arith, c.requires.1, c.put_where-stands.ensures.1, c.put_stars-starred.ensures.1)
+    omega (arith, c.requires, c.put_where-stands.ensures.1, c.put_stars-starred.ensures.1)
 
 pub put_text-are-requires : goal.put_text-are-requires
 put_text-are-requires c =
-    omega (arith, c.requires.1, c.put_where-stands.ensures.1, c.put_stars-starred.ensures.1, c.put_product-product.ensures.1)
+    omega (arith, c.requires, c.put_where-stands.ensures.1, c.put_stars-starred.ensures.1, c.put_product-product.ensures.1)
 
 pub put_key-requires : goal.put_key-requires
 put_key-requires c =
-    omega (arith, c.requires.1, c.put_where-stands.ensures.1, c.put_stars-starred.ensures.1, c.put_product-product.ensures.1, c.put_text-are.ensures.end)
+    omega (arith, c.requires, c.put_where-stands.ensures.1, c.put_stars-starred.ensures.1, c.put_product-product.ensures.1, c.put_text-are.ensures.end)
 
 pub returns : goal.returns
 unfolding moved_text

@@ -11,7 +11,7 @@ pub returns : goal.returns
 returns c =
     let read = to_z-of_z w64 c.args.standing.place (search rules) in (
       wrote_as
-          (placed_as (letter_text c.args.letter) c.args.generator c.args.octave c.args.standing.stars c.args.standing.key _ _ read)
+          (placed_as (letter_text c.args.counting.letter) c.args.counting.generator c.args.counting.octave c.args.standing.stars c.args.standing.key _ _ read)
           c.put_placed.ensures.0,
       c.put_placed.ensures.1,
     )

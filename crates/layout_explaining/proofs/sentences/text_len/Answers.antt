@@ -8,10 +8,10 @@ use Rattle.layout_explaining.proofs.sentences.text_len.Goals as goal
 
 pub returns : goal.returns
 returns c = (
-  length_in_parts (letter_text c.args.letter) c.args.generator c.args.octave c.args.first.now c.args.second.now c.args.explanation _ _
+  length_in_parts (letter_text c.args.counting.letter) c.args.counting.generator c.args.counting.octave c.args.first.now c.args.second.now c.args.explanation _ _
       (c.put_standing-one_end.ensures.0.end ∙ zero-add _) (c.put_rest-other_end.ensures.0.end ∙ zero-add _),
   record {
     beside = omega (arith, c.put_standing-one_end.ensures.1, c.put_rest-other_end.ensures.1);
-    held = omega (arith, c.put_standing-one_end.ensures.1, c.put_rest-other_end.ensures.1, c.requires.1.first_short, c.requires.1.second_short);
+    held = omega (arith, c.put_standing-one_end.ensures.1, c.put_rest-other_end.ensures.1, c.requires.first_short, c.requires.second_short);
   },
 )

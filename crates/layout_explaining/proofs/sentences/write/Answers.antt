@@ -16,8 +16,8 @@ pub returns-then-out-bytes : goal.returns-then-out-bytes
 returns-then-out-bytes c =
     let p = c.put_standing-one_end.ensures in
     let q = c.put_rest-other_end.ensures in
-    let bytes = length_in_parts (letter_text c.args.letter) c.args.generator c.args.octave c.args.first.now c.args.second.now c.args.explanation _ _ (p.0.end ∙ zero-add _) (q.0.end ∙ zero-add _) in
-    filled_refused 10 _ (not_held (length c.args.out.now) (sentences (letter_text c.args.letter) c.args.generator c.args.octave c.args.first.now c.args.second.now c.args.explanation) (omega (arith, bytes, c.if-out-bytes.true))) refl
+    let bytes = length_in_parts (letter_text c.args.counting.letter) c.args.counting.generator c.args.counting.octave c.args.first.now c.args.second.now c.args.explanation _ _ (p.0.end ∙ zero-add _) (q.0.end ∙ zero-add _) in
+    filled_refused 10 _ (not_held (length c.args.out.now) (sentences (letter_text c.args.counting.letter) c.args.counting.generator c.args.counting.octave c.args.first.now c.args.second.now c.args.explanation) (omega (arith, bytes, c.if-out-bytes.true))) refl
 
 pub slice_bounds-put_text-end : goal.slice_bounds-put_text-end
 slice_bounds-put_text-end c =
@@ -57,7 +57,7 @@ returns c =
     let room_all = c.if-out-bytes.false in
     let one = front_there p.0 (omega (arith, p.1)) in
     let other = front_there q.0 (omega (arith, q.1)) in
-    let bytes = length_in_parts (letter_text c.args.letter) c.args.generator c.args.octave c.args.first.now c.args.second.now c.args.explanation _ _ (p.0.end ∙ zero-add _) (q.0.end ∙ zero-add _) in
-    filled_given (held (length c.args.out.now) (sentences (letter_text c.args.letter) c.args.generator c.args.octave c.args.first.now c.args.second.now c.args.explanation) (omega (arith, bytes, room_all))) (ap given bytes) (omega (arith, bytes, room_all))
-    (sentences_written (letter_text c.args.letter) c.args.generator c.args.octave c.args.first.now c.args.second.now c.args.explanation
+    let bytes = length_in_parts (letter_text c.args.counting.letter) c.args.counting.generator c.args.counting.octave c.args.first.now c.args.second.now c.args.explanation _ _ (p.0.end ∙ zero-add _) (q.0.end ∙ zero-add _) in
+    filled_given (held (length c.args.out.now) (sentences (letter_text c.args.counting.letter) c.args.counting.generator c.args.counting.octave c.args.first.now c.args.second.now c.args.explanation) (omega (arith, bytes, room_all))) (ap given bytes) (omega (arith, bytes, room_all))
+    (sentences_written (letter_text c.args.counting.letter) c.args.counting.generator c.args.counting.octave c.args.first.now c.args.second.now c.args.explanation
     c.put_text-named.ensures c.put_text-told.ensures one.1 c.put_text-next.ensures c.put_text.ensures other.1)

@@ -1,57 +1,36 @@
-use Prim.Native.Nat.{ℕ, ◌+◌, ◌*◌, ◌-◌, ◌≤◌}
-use mathlib.Core.Path.{sym, subst}
-use native.Mathlib.Nat.{le_antisymm}
 use native.Mathlib.Omega.{arith}
-use Rattle.text.specs.Writing.{joined}
-use Rattle.pergen.specs.Parts.{At}
-use Rattle.kbm_text.specs.Parts.{LengthUpTo}
 use Rattle.layout.specs.Parts.{layout_in}
+use Rattle.layout.proofs.Kept.{made_ready}
 use Rattle.layout.proofs.Readiness.{ready_walkable}
 use Rattle.layout_kbm.specs.Parts.{entry_in}
 use Rattle.layout_kbm.proofs.Calls.{entry_is, measured_none, measured_more}
-use borrow.Author.Rules.{rules}
 use Rattle.layout_kbm.proofs.parts.entries_len.Goals as goal
 
 pub first-key-requires : goal.first-key-requires
-first-key-requires c = ready_walkable _ c.requires
+first-key-requires c = ready_walkable _ (made_ready c.args.prepared)
 
-pub loop-key-init : goal.loop-key-init
-loop-key-init c =
-    let first = c.first-key.ensures in (
-      first.0,
-      subst (λ (n : ℕ). LengthUpTo (6 * n) (joined (entry_in (layout_in c.args.prepared)) n) 0) (sym first.1)
-          (measured_none (entry_in (layout_in c.args.prepared))),
-      omega (arith, first.1),
-    )
+pub loop-number-init : goal.loop-number-init
+loop-number-init c = (c.first-key.ensures.0, c.first-key.ensures.1, measured_none (entry_in (layout_in c.args.prepared)))
 
 pub is_natural-mapped-requires : goal.is_natural-mapped-requires
-is_natural-mapped-requires c = (c.requires, c.loop-key.invariant.0, c.loop-key-test.true)
-
-pub overflow_cast-key : goal.overflow_cast-key
-overflow_cast-key c = omega (arith, c.loop-key.invariant.2)
+is_natural-mapped-requires c =
+    (c.loop-number.invariant.0, omega (arith, c.loop-number.invariant.1, c.loop-number-test.true))
 
 pub overflow_add-total : goal.overflow_add-total
-overflow_add-total c = omega (arith, c.loop-key.invariant.1.few, c.loop-key.invariant.2, c.entry_len-total.ensures.few)
+overflow_add-total c =
+    omega (arith, c.loop-number.invariant.2.few, c.loop-number-test.true, c.entry_len-total.ensures.few)
 
 pub next-key-requires : goal.next-key-requires
 next-key-requires c =
-    (ready_walkable _ c.requires, c.loop-key.invariant.0, omega (arith, c.loop-key.invariant.2))
+    (ready_walkable _ (made_ready c.args.prepared), c.loop-number.invariant.0, omega (arith, c.loop-number.invariant.1, c.loop-number-test.true))
 
-pub loop-key-smaller : goal.loop-key-smaller
-loop-key-smaller c =
-    omega (arith, c.next-key.ensures.1, c.loop-key-test.true)
-
-pub loop-key-preserved : goal.loop-key-preserved
-loop-key-preserved c =
+pub loop-number-preserved : goal.loop-number-preserved
+loop-number-preserved c =
     let lay = layout_in c.args.prepared in
-    let on = c.next-key.ensures in (
+    let w = c.loop-number.invariant in
+    let on = c.next-key.ensures in
+    let mapped = rw w.1 at c.is_natural-mapped.ensures in (
       on.0,
-      subst (λ (n : ℕ). LengthUpTo (6 * n) (joined (entry_in lay) n) (c.loop-key.total + c.entry_len-total.result)) (sym on.1)
-          (measured_more (entry_in lay) _ _ _ c.loop-key.invariant.1 (entry_is lay _ _ c.is_natural-mapped.ensures) c.entry_len-total.ensures),
-      omega (arith, on.1, c.loop-key-test.true),
+      omega (arith, on.1, w.1),
+      measured_more (entry_in lay) _ _ _ w.2 (entry_is lay _ _ mapped) c.entry_len-total.ensures,
     )
-
-pub returns : goal.returns
-returns c =
-    let lay = layout_in c.args.prepared in
-    subst (λ (n : ℕ). LengthUpTo (6 * n) (joined (entry_in lay) n) c.loop-key.total) (le_antisymm c.loop-key.invariant.2 c.loop-key-test.false) c.loop-key.invariant.1

@@ -2,7 +2,6 @@
 use native.Mathlib.Omega.{arith}
 use Rattle.layout_kbm.proofs.Calls.{file_length}
 use Rattle.layout.specs.Parts.{layout_in}
-use borrow.Author.Rules.{rules}
 use Rattle.layout_kbm.proofs.parts.file_len.Goals as goal
 
 pub returns : goal.returns

@@ -1,7 +1,4 @@
 -- Room for any file of so many keys, or for this one.
-use Prim.Native.Nat.{ℕ}
-use mathlib.Core.Path.{ap}
-use lib.Dec.{leb}
 use Rattle.layout_kbm.proofs.Calls.{surely_held}
 use Rattle.layout.specs.Parts.{layout_in}
 use borrow.Author.Rules.{rules}
@@ -9,6 +6,3 @@ use Rattle.layout_kbm.proofs.parts.has_room.Goals as goal
 
 pub returns-then-prepared-room : goal.returns-then-prepared-room
 returns-then-prepared-room c = surely_held (layout_in c.args.prepared) _ (search rules) c.if-prepared-room.true
-
-pub returns : goal.returns
-returns c = ap (λ (n : ℕ). leb n c.args.room) c.file_len.ensures

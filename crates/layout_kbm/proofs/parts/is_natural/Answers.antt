@@ -1,11 +1,7 @@
 -- The number of the key's layer is 0.
-use native.Mathlib.Omega.{arith}
 use Rattle.layout.specs.Parts.{layout_in}
 use Rattle.layout_kbm.proofs.Calls.{natural_by}
 use Rattle.layout_kbm.proofs.parts.is_natural.Goals as goal
-
-pub number_of-requires : goal.number_of-requires
-number_of-requires c = (c.requires.0, c.requires.1, omega (arith, c.requires.2))
 
 pub returns : goal.returns
 returns c = natural_by (layout_in c.args.prepared) _ _ c.number_of.ensures

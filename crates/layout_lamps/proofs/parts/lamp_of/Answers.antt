@@ -2,6 +2,7 @@
 use mathlib.Core.Path.{sym, ◌∙◌}
 use native.Mathlib.Omega.{arith}
 use Rattle.layout.specs.Parts.{layout_in}
+use Rattle.layout.proofs.Kept.{found_laid}
 use borrow.Author.Tests.{eqb-true, eqb-false}
 use Rattle.layout_layers.proofs.Theorems.{numbers_are_below}
 use Rattle.layout_lamps.proofs.StripLaws.{lamp_home, lamp_other}
@@ -14,13 +15,13 @@ returns-then-is_home c =
 
 pub code-requires : goal.code-requires
 code-requires c =
-    let laid = c.requires.0.laid in
+    let laid = found_laid c.args.prepared.found in
     let below = numbers_are_below laid.caller (layout_in c.args.prepared) laid.accepted c.args.key.number in
-    omega (arith, below, c.number_of.ensures, c.requires.1)
+    omega (arith, below, c.number_of.ensures, c.requires.0)
 
 pub returns : goal.returns
 returns c =
     let args = c.args in
     lamp_other (layout_in args.prepared) args.key.number _ _ _
     (eqb-false _ 0 (sym c.is_home.ensures ∙ c.if-is_home.false))
-    c.requires.1 c.number_of.ensures c.code.ensures
+    c.requires.0 c.number_of.ensures c.code.ensures

@@ -1,7 +1,6 @@
 -- Question 10, then the strip of all entries.
-use mathlib.Core.Path.{subst, ◌∙◌}
-use Prim.Native.Nat.{ℕ}
-use Rattle.layout_layers.specs.Parts.{total_of, Fronted}
+use mathlib.Core.Path.{◌∙◌}
+use Rattle.layout_layers.specs.Parts.{total_of}
 use Rattle.layout_layers.proofs.Calls.{text_too_long, text_held}
 use Rattle.layout_lamps.specs.Parts.{plan_strip}
 use Rattle.layout_lamps.proofs.StripLaws.{length_strip}
@@ -14,5 +13,4 @@ returns-then-out-count c =
 pub returns : goal.returns
 returns c =
     let plan = c.args.plan in
-    text_held (plan_strip plan (total_of plan)) _ _ (c.entries-count.ensures ∙ length_strip plan (total_of plan)) c.if-out-count.false
-    (subst (λ (t : ℕ). Fronted (plan_strip plan t) c.args.out.now c.put_strip.new.out) c.total_of.ensures c.put_strip.ensures)
+    text_held (plan_strip plan (total_of plan)) _ _ (c.entries-count.ensures ∙ length_strip plan (total_of plan)) c.if-out-count.false c.put_strip.ensures

@@ -1,4 +1,5 @@
 -- The layer times the cycles, and the key's cycle.
+use Rattle.layout.proofs.Kept.{made_ready}
 use native.Mathlib.Omega.{arith}
 use borrow.Author.Rules.{rules}
 use Rattle.layout_layers.proofs.PreparedLayers.{number_made, number_fits}
@@ -6,12 +7,12 @@ use Rattle.layout_layers.proofs.keys.number_of.Goals as goal
 
 pub overflow_mul-result : goal.overflow_mul-result
 overflow_mul-result c =
-    omega (arith, number_fits c.args.prepared c.requires.0 c.args.key c.requires.1 (search rules) _ c.layer_of.ensures)
+    omega (arith, number_fits c.args.prepared (made_ready c.args.prepared) c.args.key c.requires.0 (search rules) _ c.layer_of.ensures)
 
 pub overflow_add-result : goal.overflow_add-result
 overflow_add-result c =
-    omega (arith, number_fits c.args.prepared c.requires.0 c.args.key c.requires.1 (search rules) _ c.layer_of.ensures)
+    omega (arith, number_fits c.args.prepared (made_ready c.args.prepared) c.args.key c.requires.0 (search rules) _ c.layer_of.ensures)
 
 pub returns : goal.returns
 returns c =
-    number_made c.args.prepared c.requires.0 c.args.key c.requires.1 (search rules) _ c.layer_of.ensures
+    number_made c.args.prepared (made_ready c.args.prepared) c.args.key c.requires.0 (search rules) _ c.layer_of.ensures

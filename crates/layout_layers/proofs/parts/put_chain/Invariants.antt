@@ -1,5 +1,4 @@
 -- After i runs the places of their layers are walked, and `first` is the next layer's number.
-use Prim.Native.Nat.{◌-◌, ◌≤◌}
 use mathlib.Core.Path.{◌≡◌}
 use lib.ListN.{length}
 use Rattle.text.specs.Writing.{joined}
@@ -11,7 +10,4 @@ use Rattle.layout_layers.proofs.parts.put_chain.Given as goal
 
 abbrev pub invariant-loop-i : goal.invariant-loop-i
 invariant-loop-i l =
-    Walk l.chain l.initial.spot l.spot (sum (joined (run_at l.sizes l.times) l.i)) (λ j. shown_as l.total (listed_number (record { sizes = l.sizes; times = l.times }) l.chain j)) l.initial.out l.out × (l.first ≡ length (drop_empty (joined (run_at l.sizes l.times) l.i))) × (l.i ≤ 8)
-
-abbrev pub decreases-loop-i : goal.decreases-loop-i
-decreases-loop-i l = 8 - l.i
+    Walk l.chain l.initial.spot l.spot (sum (joined (run_at l.sizes l.times) l.i)) (λ j. shown_as l.total (listed_number (record { sizes = l.sizes; times = l.times }) l.chain j)) l.initial.out l.out × (l.first ≡ length (drop_empty (joined (run_at l.sizes l.times) l.i)))

@@ -8,7 +8,7 @@ use Rattle.layout_layers.proofs.parts.put_layer.Goals as goal
 
 pub shown-entry-requires : goal.shown-entry-requires
 shown-entry-requires c =
-    layer_fits c.args.layer c.args.chain.num_cycles (limit c.args.total) c.requires.0.unbroken.some_cycles c.requires.1
+    layer_fits c.args.layer c.args.chain.num_cycles (limit c.args.total) c.requires.0.unbroken.some_cycles c.requires.1.0
 
 pub returns-then-chain-eq1 : goal.returns-then-chain-eq1
 returns-then-chain-eq1 c =
@@ -18,45 +18,34 @@ returns-then-chain-eq1 c =
     (λ i t. c.shown-entry.ensures ∙ ap (shown_as c.args.total) (single_number chain.num_cycles c.args.layer i one))
     c.put_single.ensures
 
-pub loop-k-init : goal.loop-k-init
-loop-k-init c =
-    (walk_none c.args.chain c.requires.0.unbroken c.args.from _ _ c.requires.0.at, omega arith)
+pub loop-init : goal.loop-init
+loop-init c =
+    walk_none c.args.chain c.requires.0.unbroken c.args.from _ _ c.requires.0.at
 
 pub put_turn-requires : goal.put_turn-requires
 put_turn-requires c =
-    let loop = c.loop-k in
+    let loop = c.loop in
     let u = c.requires.0.unbroken in (
       u.some_cycles,
-      turn_room c.args.chain u loop.spot.turn loop.invariant.0.arrived.turn_below (omega (arith, c.requires.0.held, loop.invariant.0.spread.kept)),
+      turn_room c.args.chain u loop.spot.turn loop.invariant.arrived.turn_below (omega (arith, c.requires.0.held, loop.invariant.spread.kept)),
       c.requires.1,
     )
 
 pub next_spot-spot-requires : goal.next_spot-spot-requires
 next_spot-spot-requires c =
-    let loop = c.loop-k in
-    (c.requires.0.unbroken, loop.invariant.0.arrived, omega (arith, c.loop-k-test.true, loop.invariant.0.place_is, c.requires.0.on_chain))
+    let loop = c.loop in
+    (c.requires.0.unbroken, loop.invariant.arrived, omega (arith, c.loop-test.true, loop.invariant.place_is, c.requires.0.on_chain))
 
-pub overflow_add-k : goal.overflow_add-k
-overflow_add-k c = omega arith
-
-pub loop-k-smaller : goal.loop-k-smaller
-loop-k-smaller c = omega arith
-
-pub loop-k-preserved : goal.loop-k-preserved
-loop-k-preserved c =
-    let loop = c.loop-k in
+pub loop-preserved : goal.loop-preserved
+loop-preserved c =
+    let loop = c.loop in
     let chain = c.args.chain in
     let u = c.requires.0.unbroken in
-    let more = c.loop-k-test.true in (
-      walk_then chain u c.args.from loop.spot c.next_spot-spot.result _ loop.k 1 loop.invariant.0
-          (walk_one chain u loop.spot c.next_spot-spot.result _ loop.invariant.0.arrived (omega (arith, more, loop.invariant.0.place_is, c.requires.0.on_chain)) c.put_turn.ensures c.next_spot-spot.ensures),
-      omega (arith, more),
-    )
-
-pub shape_of-out : goal.shape_of-out
-shape_of-out c = c.loop-k.invariant.0.spread.kept
+    let more = c.loop-test.true in
+    walk_then chain u c.args.from loop.spot c.next_spot-spot.result _ loop.counter 1 loop.invariant
+    (walk_one chain u loop.spot c.next_spot-spot.result _ loop.invariant.arrived (omega (arith, more, loop.invariant.place_is, c.requires.0.on_chain)) c.put_turn.ensures c.next_spot-spot.ensures)
 
 pub returns : goal.returns
 returns c =
-    let loop = c.loop-k in
-    walk_count c.args.chain c.requires.0.unbroken c.args.from loop.spot _ _ _ (le_antisymm loop.invariant.1 c.loop-k-test.false) loop.invariant.0
+    let loop = c.loop in
+    walk_count c.args.chain c.requires.0.unbroken c.args.from loop.spot _ _ _ (le_antisymm loop.auto.counter-end c.loop-test.false) loop.invariant

@@ -1,11 +1,8 @@
 -- After k layers their places are walked.
-use Prim.Native.Nat.{◌*◌, ◌-◌, ◌≤◌}
+use Prim.Native.Nat.{◌*◌}
 use Rattle.layout_layers.specs.Parts.{Walk, run_number, shown_as}
 use Rattle.layout_layers.proofs.parts.put_run.Given as goal
 
 abbrev pub invariant-loop-k : goal.invariant-loop-k
 invariant-loop-k l =
-    Walk l.chain l.initial.spot l.spot (l.k * l.size) (λ i. shown_as l.total (run_number l.chain l.initial.spot.place l.size l.first i)) l.initial.out l.out × (l.k ≤ l.times)
-
-abbrev pub decreases-loop-k : goal.decreases-loop-k
-decreases-loop-k l = l.times - l.k
+    Walk l.chain l.initial.spot l.spot (l.k * l.size) (λ i. shown_as l.total (run_number l.chain l.initial.spot.place l.size l.first i)) l.initial.out l.out

@@ -1,9 +1,7 @@
 use Prim.Native.Nat.{◌*◌}
 use native.Mathlib.Omega.{arith}
-use borrow.Author.Rules.{rules}
 use mathlib.Core.Path.{ap, ◌∙◌}
 use Rattle.layout_layers.specs.Parts.{shown_as}
-use Rattle.layout_layers.proofs.LampCodeLaws.{limit_fits}
 use Rattle.layout_layers.proofs.SpreadLaws.{block_none, block_more, block_whole, block_number}
 use Rattle.layout_layers.proofs.parts.put_turn.Goals as goal
 
@@ -11,13 +9,13 @@ pub overflow_mul-at : goal.overflow_mul-at
 overflow_mul-at c = omega (arith, c.requires.1)
 
 pub overflow_mul-number : goal.overflow_mul-number
-overflow_mul-number c = omega (arith, c.requires.2, limit_fits c.args.total (search rules))
+overflow_mul-number c = omega (arith, c.requires.2.1)
 
 pub loop-c-init : goal.loop-c-init
-loop-c-init c = (block_none c.args.cycles c.args.turn _ _, omega arith, omega arith)
+loop-c-init c = (block_none c.args.cycles c.args.turn _ _, omega arith)
 
 pub shown-requires : goal.shown-requires
-shown-requires c = omega (arith, c.loop-c.invariant.2, c.requires.2, c.loop-c-test.true)
+shown-requires c = omega (arith, c.loop-c.invariant.1, c.requires.2, c.loop-c-test.true)
 
 pub overflow_add-out : goal.overflow_add-out
 overflow_add-out c = omega (arith, c.requires.1, c.loop-c-test.true)
@@ -32,13 +30,7 @@ bounds-out-at c =
 
 pub overflow_add-number : goal.overflow_add-number
 overflow_add-number c =
-    omega (arith, c.loop-c.invariant.2, c.requires.2, c.loop-c-test.true, limit_fits c.args.total (search rules))
-
-pub overflow_add-c : goal.overflow_add-c
-overflow_add-c c = omega arith
-
-pub loop-c-smaller : goal.loop-c-smaller
-loop-c-smaller c = omega arith
+    omega (arith, c.loop-c.invariant.1, c.requires.2.1, c.loop-c-test.true)
 
 pub loop-c-preserved : goal.loop-c-preserved
 loop-c-preserved c =
@@ -47,14 +39,10 @@ loop-c-preserved c =
       block_more c.args.cycles c.args.turn _ loop.c _ more (omega (arith, c.requires.1, more, loop.invariant.0.kept))
           (c.shown.ensures
           ∙ ap (shown_as c.args.total)
-          (loop.invariant.2 ∙ block_number c.args.cycles (c.args.layer * c.args.cycles) c.args.turn loop.c more))
+          (loop.invariant.1 ∙ block_number c.args.cycles (c.args.layer * c.args.cycles) c.args.turn loop.c more))
           loop.invariant.0,
-      omega (arith, more),
-      omega (arith, loop.invariant.2),
+      omega (arith, loop.invariant.1),
     )
-
-pub shape_of-out : goal.shape_of-out
-shape_of-out c = c.loop-c.invariant.0.kept
 
 pub returns : goal.returns
 returns c =

@@ -1,16 +1,12 @@
 -- The number, or its code.
-use Prim.Native.Nat.{ℕ, ◌<◌}
-use mathlib.Core.Path.{subst}
-use Rattle.layout_layers.proofs.LampCodeLaws.{shown_plain, shown_coded, limit_coded}
+use mathlib.Core.Path.{refl}
+use Rattle.layout_layers.specs.Parts.{shown_as}
 use Rattle.layout_layers.proofs.parts.shown.Goals as goal
 
-pub returns-then-total-eq0 : goal.returns-then-total-eq0
-returns-then-total-eq0 c = shown_plain c.args.total c.args.number c.if-total-eq0.true
+pub returns-in-Some : goal.returns-in-Some
+unfolding shown_as
+returns-in-Some c = rw c.in-Some.is c.code.ensures
 
-pub code-requires : goal.code-requires
-code-requires c =
-    subst (λ (most : ℕ). c.args.number < most) (limit_coded c.args.total c.if-total-eq0.false) c.requires
-
-pub returns : goal.returns
-returns c =
-    shown_coded c.args.total c.args.number c.if-total-eq0.false _ c.code.ensures
+pub returns-in-None : goal.returns-in-None
+unfolding shown_as
+returns-in-None c = rw c.in-None.is refl

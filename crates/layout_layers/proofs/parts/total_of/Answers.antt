@@ -7,7 +7,7 @@ use Rattle.layout_layers.proofs.parts.total_of.Goals as goal
 
 pub overflow_mul-result : goal.overflow_mul-result
 overflow_mul-result c =
-    omega (arith, c.requires.layers_fit, ap (λ (k : ℕ). k * c.args.plan.chain.num_cycles) (count_alternates c.args.plan c.if-plan.true))
+    omega (arith, c.args.plan.sound.layers_fit, ap (λ (k : ℕ). k * c.args.plan.chain.num_cycles) (count_alternates c.args.plan c.if-plan.true))
 
 pub returns-then-plan : goal.returns-then-plan
 returns-then-plan c =
@@ -17,7 +17,7 @@ pub overflow_mul-result-2 : goal.overflow_mul-result-2
 overflow_mul-result-2 c =
     omega (
       arith,
-      c.requires.layers_fit,
+      c.args.plan.sound.layers_fit,
       ap (λ (k : ℕ). k * c.args.plan.chain.num_cycles) (c.count_sizes.ensures ∙ count_listed c.args.plan c.if-plan.false),
     )
 
@@ -25,7 +25,7 @@ pub overflow_cast-result-2 : goal.overflow_cast-result-2
 overflow_cast-result-2 c =
     omega (
       arith,
-      c.requires.layers_fit,
+      c.args.plan.sound.layers_fit,
       ap (λ (k : ℕ). k * c.args.plan.chain.num_cycles) (c.count_sizes.ensures ∙ count_listed c.args.plan c.if-plan.false),
     )
 

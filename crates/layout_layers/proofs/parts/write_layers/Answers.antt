@@ -10,7 +10,7 @@ returns-then-out-count c = text_too_long (plan_layers c.args.plan) _ _ c.entries
 
 pub put_entries-requires : goal.put_entries-requires
 put_entries-requires c =
-    (c.requires, c.requires.layers_fit, omega (arith, c.entries-count.ensures, c.if-out-count.false))
+    (c.args.plan.sound.layers_fit, omega (arith, c.entries-count.ensures, c.if-out-count.false))
 
 pub returns : goal.returns
 returns c =

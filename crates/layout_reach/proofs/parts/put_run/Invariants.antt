@@ -1,5 +1,5 @@
 -- What is stored is a run that grows by one with each turn.
-use Prim.Native.Nat.{◌+◌, ◌-◌, ◌≤◌}
+use Prim.Native.Nat.{◌+◌, ◌-◌}
 use mathlib.Core.Path.{◌≡◌}
 use lib.ListN.{length}
 use Rattle.text.specs.Writing.{Wrote}
@@ -8,7 +8,4 @@ use Rattle.layout_reach.proofs.parts.put_run.Given as goal
 
 abbrev pub invariant-loop-key : goal.invariant-loop-key
 invariant-loop-key l =
-    Wrote l.initial.out l.at (run l.from (l.key - l.from)) l.out l.place × (l.place ≡ l.at + (l.key - l.from)) × (l.from ≤ l.key) × (l.key ≤ l.to) × (length l.out ≡ length l.initial.out)
-
-abbrev pub decreases-loop-key : goal.decreases-loop-key
-decreases-loop-key l = l.to - l.key
+    Wrote l.initial.out l.at (run l.from (l.key - l.from)) l.out (l.at + (l.key - l.from)) × (length l.out ≡ length l.initial.out)

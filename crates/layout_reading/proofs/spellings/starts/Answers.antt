@@ -6,13 +6,13 @@ pub returns-then-text-lt1 : goal.returns-then-text-lt1
 returns-then-text-lt1 c = starts_one_short _ _ c.if-letter-lt128.true c.if-text-lt1.true
 
 pub returns-then-letter-lt128 : goal.returns-then-letter-lt128
-returns-then-letter-lt128 c = starts_one _ _ c.if-letter-lt128.true c.if-text-lt1.false _ c.wide.ensures
+returns-then-letter-lt128 c = starts_one _ _ c.if-letter-lt128.true c.if-text-lt1.false _ c.from.ensures
 
 pub returns-then-text-lt2 : goal.returns-then-text-lt2
 returns-then-text-lt2 c = starts_two_short _ _ c.if-letter-lt128.false c.if-text-lt2.true
 
-pub returns-then-wide-letter : goal.returns-then-wide-letter
-returns-then-wide-letter c = starts_two_not _ _ c.if-letter-lt128.false c.if-text-lt2.false _ c.wide-2.ensures c.if-wide-letter.true
+pub returns-then-from-letter : goal.returns-then-from-letter
+returns-then-from-letter c = starts_two_not _ _ c.if-letter-lt128.false c.if-text-lt2.false _ c.from-2.ensures c.if-from-letter.true
 
 pub returns : goal.returns
-returns c = starts_two _ _ c.if-letter-lt128.false c.if-text-lt2.false _ c.wide-2.ensures c.if-wide-letter.false _ c.wide-3.ensures
+returns c = starts_two _ _ c.if-letter-lt128.false c.if-text-lt2.false _ c.from-2.ensures c.if-from-letter.false _ c.from-3.ensures

@@ -3,4 +3,4 @@ use Rattle.layout_retuning.proofs.Strides.{keys_are}
 use Rattle.layout_retuning.proofs.parts.keys_at.Goals as goal
 
 pub returns : goal.returns
-returns c = keys_are _ _ _ _ _ c.sounded.ensures c.sounded-2.ensures
+returns c = keys_are _ _ _ _ _ c.key_at.ensures c.key_at-2.ensures

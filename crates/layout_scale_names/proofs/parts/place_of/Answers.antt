@@ -1,12 +1,14 @@
--- The definition's tests.
+-- What the comparison says of the two steps.
+use Rattle.std.proofs.Common.{Less, Equal, Greater}
+use Rattle.std.proofs.lemmas.Cmp.{ranked}
 use Rattle.layout_scale_names.proofs.ScalePlaces.{place_above_lem, place_below, place_equal}
 use Rattle.layout_scale_names.proofs.parts.place_of.Goals as goal
 
-pub returns-then-pattern : goal.returns-then-pattern
-returns-then-pattern c = place_above_lem _ _ c.requires c.if-pattern.true
+pub returns-in-Greater : goal.returns-in-Greater
+returns-in-Greater c = place_above_lem _ _ c.requires (ranked _ _ Greater c.in-Greater.ensures)
 
-pub returns-then-pattern-2 : goal.returns-then-pattern-2
-returns-then-pattern-2 c = place_below _ _ c.requires c.if-pattern.false c.if-pattern-2.true
+pub returns-in-Less : goal.returns-in-Less
+returns-in-Less c = place_below _ _ c.requires (ranked _ _ Less c.in-Less.ensures)
 
-pub returns : goal.returns
-returns c = place_equal _ _ c.requires c.if-pattern.false c.if-pattern-2.false
+pub returns-in-Equal : goal.returns-in-Equal
+returns-in-Equal c = place_equal _ _ c.requires (ranked _ _ Equal c.in-Equal.ensures)

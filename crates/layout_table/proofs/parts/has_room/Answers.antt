@@ -5,6 +5,7 @@ use native.Mathlib.Nat.{mul-le-mul}
 use native.Mathlib.Omega.{arith}
 use lib.Dec.{leb}
 use Rattle.layout.specs.Parts.{layout_in}
+use Rattle.layout.proofs.Kept.{found_laid}
 use Rattle.layout_table.proofs.Fitting.{surely_held}
 use borrow.Author.Rules.{rules}
 use Rattle.layout_table.proofs.parts.has_room.Goals as goal
@@ -17,7 +18,7 @@ overflow_mul-keys c =
 
 pub returns-then-keys-room : goal.returns-then-keys-room
 returns-then-keys-room c =
-    surely_held (layout_in c.args.prepared) c.requires.laid (search rules) _ c.if-keys-room.true
+    surely_held (layout_in c.args.prepared) (found_laid c.args.prepared.found) (search rules) _ c.if-keys-room.true
 
 pub returns : goal.returns
 returns c = ap (λ (n : ℕ). leb n c.args.room) c.lines_length.ensures

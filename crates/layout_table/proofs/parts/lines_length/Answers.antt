@@ -10,10 +10,5 @@ use Rattle.layout_table.proofs.parts.lines_length.Goals as goal
 pub returns : goal.returns
 returns c =
     let l = layout_in c.args.prepared in
-    omega (
-      arith,
-      c.names_length.ensures.length_is,
-      c.numbers_length.ensures.0,
-      length_lines l l.octave,
-      ap length (table_lines l),
-    )
+    let names = rw c.of.ensures at c.names_length.ensures in
+    omega (arith, names.length_is, c.numbers_length.ensures.0, length_lines l l.octave, ap length (table_lines l))

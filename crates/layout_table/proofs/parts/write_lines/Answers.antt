@@ -22,7 +22,7 @@ pub put_lines-requires : goal.put_lines-requires
 put_lines-requires c =
     let l = layout_in c.args.prepared in
     let room : length (table_in l) ≤ length c.args.out.now = leb-true _ _ (sym c.has_room.ensures ∙ c.if-not-has_room.false) in
-    (c.requires, omega arith, omega (arith, ap length (whole_table l), room))
+    (omega arith, omega (arith, ap length (whole_table l), room))
 
 pub returns : goal.returns
 returns c =

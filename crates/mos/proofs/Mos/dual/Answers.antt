@@ -1,9 +1,11 @@
 -- Question 7, then what the part found.
-use Rattle.mos.proofs.Sizes.{pattern_given, pattern_refused}
+use mathlib.Core.Path.{ap, ◌∙◌}
+use Rattle.mos.specs.Patterns.{dual_of}
+use Rattle.mos.proofs.Sizes.{size_passed, size_given}
 use Rattle.mos.proofs.Mos.dual.Goals as goal
 
-pub returns-then-is_pattern : goal.returns-then-is_pattern
-returns-then-is_pattern c = pattern_given _ c.is_pattern.ensures c.if-is_pattern.true c.dual_of.ensures
+pub returns-in_err-pattern : goal.returns-in_err-pattern
+returns-in_err-pattern c = size_passed _ _ _ c.from_residual.ensures c.in_err-pattern.ensures
 
 pub returns : goal.returns
-returns c = pattern_refused _ _ c.is_pattern.ensures c.if-is_pattern.false
+returns c = size_given _ c.in_ok-pattern.ensures c.in_ok-pattern.pattern.fits (c.dual.ensures ∙ ap dual_of c.in_ok-pattern.ensures)

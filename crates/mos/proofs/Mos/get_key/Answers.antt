@@ -1,26 +1,27 @@
 -- Question 7, then products and a sum that are exact at 64 bits.
-use Rattle.mos.proofs.Sizes.{pattern_given, pattern_refused}
-use Rattle.mos.proofs.Keys.{wide_fits, times_fits, key_fits, key_is}
+use mathlib.Core.Path.{ap, ◌∙◌}
+use lib.IntN.{pos}
 use borrow.Author.Rules.{rules}
+use Rattle.mos.specs.declared.Mos.{Mos}
+use Rattle.mos.specs.Patterns.{primary, secondary}
+use Rattle.mos.proofs.Sizes.{size_passed, size_given}
+use Rattle.mos.proofs.Keys.{key_fits, key_is}
 use Rattle.mos.proofs.Mos.get_key.Goals as goal
 
-pub overflow_cast-result : goal.overflow_cast-result
-overflow_cast-result c = wide_fits c.args.p c.ranges.p
-
-pub overflow_mul-result : goal.overflow_mul-result
-overflow_mul-result c = times_fits c.args.p c.ranges.p c.args.self.primary_step (search rules)
-
-pub overflow_cast-result-then-is_pattern-2 : goal.overflow_cast-result-then-is_pattern-2
-overflow_cast-result-then-is_pattern-2 c = wide_fits c.args.s c.ranges.s
-
-pub overflow_mul-result-then-is_pattern : goal.overflow_mul-result-then-is_pattern
-overflow_mul-result-then-is_pattern c = times_fits c.args.s c.ranges.s c.args.self.secondary_step (search rules)
+pub returns-in_err-mos : goal.returns-in_err-mos
+returns-in_err-mos c = size_passed _ _ _ c.from_residual.ensures c.in_err-mos.ensures
 
 pub overflow_add-result : goal.overflow_add-result
-overflow_add-result c = key_fits c.args.p c.args.s c.ranges.p c.ranges.s c.args.self.primary_step c.args.self.secondary_step (search rules) (search rules)
-
-pub returns-then-is_pattern : goal.returns-then-is_pattern
-returns-then-is_pattern c = pattern_given _ c.is_pattern.ensures c.if-is_pattern.true (key_is c.args.p c.args.s c.ranges.p c.ranges.s c.args.self.primary_step c.args.self.secondary_step (search rules) (search rules))
+overflow_add-result c =
+    let same = c.in_ok-mos.ensures in
+    let m = c.args.self in
+    key_fits c.args.p c.args.s c.ranges.p c.ranges.s (primary m) (secondary m) (search rules) (search rules) _ _ _ _ c.from.ensures c.from-3.ensures
+    (c.from-2.ensures ∙ ap (λ (n : Mos). pos (primary n)) same) (c.from-4.ensures ∙ ap (λ (n : Mos). pos (secondary n)) same)
 
 pub returns : goal.returns
-returns c = pattern_refused _ _ c.is_pattern.ensures c.if-is_pattern.false
+returns c =
+    let same = c.in_ok-mos.ensures in
+    let m = c.args.self in
+    size_given _ same c.in_ok-mos.field-0.fits
+    (key_is c.args.p c.args.s c.ranges.p c.ranges.s (primary m) (secondary m) (search rules) (search rules) _ _ _ _ c.from.ensures c.from-3.ensures
+    (c.from-2.ensures ∙ ap (λ (n : Mos). pos (primary n)) same) (c.from-4.ensures ∙ ap (λ (n : Mos). pos (secondary n)) same))

@@ -1,10 +1,11 @@
 -- Question 7, then the mirrored pattern.
-use mathlib.Core.Path.{refl}
-use Rattle.mos.proofs.Sizes.{pattern_given, pattern_refused}
+use mathlib.Core.Path.{ap}
+use Rattle.mos.specs.Patterns.{mirror_of}
+use Rattle.mos.proofs.Sizes.{size_passed, size_given}
 use Rattle.mos.proofs.Mos.mirror.Goals as goal
 
-pub returns-then-is_pattern : goal.returns-then-is_pattern
-returns-then-is_pattern c = pattern_given _ c.is_pattern.ensures c.if-is_pattern.true refl
+pub returns-in_err-mos : goal.returns-in_err-mos
+returns-in_err-mos c = size_passed _ _ _ c.from_residual.ensures c.in_err-mos.ensures
 
 pub returns : goal.returns
-returns c = pattern_refused _ _ c.is_pattern.ensures c.if-is_pattern.false
+returns c = size_given _ c.in_ok-mos.ensures c.in_ok-mos.field-0.fits (ap mirror_of c.in_ok-mos.ensures)

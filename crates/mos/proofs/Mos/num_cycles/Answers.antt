@@ -1,11 +1,11 @@
--- Question 7, then the divisor of the steps.
-use Rattle.mos.proofs.Sizes.{pattern_given, pattern_refused}
+-- Question 7, then what the part found.
+use mathlib.Core.Path.{ap, ◌∙◌}
 use Rattle.mos.specs.Patterns.{cycles_of}
+use Rattle.mos.proofs.Sizes.{size_passed, size_given}
 use Rattle.mos.proofs.Mos.num_cycles.Goals as goal
 
-pub returns-then-is_pattern : goal.returns-then-is_pattern
-unfolding cycles_of
-returns-then-is_pattern c = pattern_given _ c.is_pattern.ensures c.if-is_pattern.true c.gcd_u16.ensures.is
+pub returns-in_err-pattern : goal.returns-in_err-pattern
+returns-in_err-pattern c = size_passed _ _ _ c.from_residual.ensures c.in_err-pattern.ensures
 
 pub returns : goal.returns
-returns c = pattern_refused _ _ c.is_pattern.ensures c.if-is_pattern.false
+returns c = size_given _ c.in_ok-pattern.ensures c.in_ok-pattern.pattern.fits (c.num_cycles.ensures.0 ∙ ap cycles_of c.in_ok-pattern.ensures)

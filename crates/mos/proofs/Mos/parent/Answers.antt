@@ -1,17 +1,13 @@
--- Question 7, then whether there is a parent, then that parent.
-use mathlib.Core.Path.{sym, ◌∙◌}
-use Rattle.mos.proofs.Sizes.{pattern_given, pattern_refused}
-use Rattle.mos.proofs.Sequences.{none_of}
+-- Question 7, then the parent.
+use borrow.Author.Rules.{rules}
+use mathlib.Core.Path.{ap, ◌∙◌}
+use Rattle.mos.specs.Patterns.{parent_of}
+use Rattle.mos.proofs.Sequences.{mapped}
+use Rattle.mos.proofs.Sizes.{size_passed, size_given}
 use Rattle.mos.proofs.Mos.parent.Goals as goal
 
-pub parent_of-requires : goal.parent_of-requires
-parent_of-requires c = (sym c.is_pattern.ensures ∙ c.if-is_pattern.true, sym c.has_parent.ensures ∙ c.if-has_parent.true)
-
-pub returns-then-has_parent : goal.returns-then-has_parent
-returns-then-has_parent c = pattern_given _ c.is_pattern.ensures c.if-is_pattern.true (sym c.parent_of.ensures)
-
-pub returns-then-is_pattern : goal.returns-then-is_pattern
-returns-then-is_pattern c = pattern_given _ c.is_pattern.ensures c.if-is_pattern.true (sym (none_of _ (sym c.has_parent.ensures ∙ c.if-has_parent.false)))
+pub returns-in_err-pattern : goal.returns-in_err-pattern
+returns-in_err-pattern c = size_passed _ _ _ c.from_residual.ensures c.in_err-pattern.ensures
 
 pub returns : goal.returns
-returns c = pattern_refused _ _ c.is_pattern.ensures c.if-is_pattern.false
+returns c = size_given _ c.in_ok-pattern.ensures c.in_ok-pattern.pattern.fits (mapped _ _ _ c.map.ensures.cases (λ x y h. search rules) c.parent.ensures ∙ ap parent_of c.in_ok-pattern.ensures)

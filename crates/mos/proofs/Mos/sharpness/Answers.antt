@@ -1,14 +1,20 @@
--- Question 7, then a difference that is exact at 32 bits.
-use Rattle.mos.proofs.Sizes.{pattern_given, pattern_refused}
-use Rattle.mos.proofs.Keys.{difference_fits, difference_is}
+-- Question 7, then the difference of the steps.
+use mathlib.Core.Path.{ap, ◌∙◌}
+use lib.IntN.{pos}
 use borrow.Author.Rules.{rules}
+use Rattle.mos.specs.declared.Mos.{Mos}
+use Rattle.mos.specs.Patterns.{primary, secondary}
+use Rattle.mos.proofs.Sizes.{size_passed, size_given}
+use Rattle.mos.proofs.Keys.{difference_is}
 use Rattle.mos.proofs.Mos.sharpness.Goals as goal
 
-pub overflow_sub-result : goal.overflow_sub-result
-overflow_sub-result c = difference_fits c.args.self.primary_step c.args.self.secondary_step (search rules) (search rules)
-
-pub returns-then-is_pattern : goal.returns-then-is_pattern
-returns-then-is_pattern c = pattern_given _ c.is_pattern.ensures c.if-is_pattern.true (difference_is c.args.self.primary_step c.args.self.secondary_step (search rules) (search rules))
+pub returns-in_err-mos : goal.returns-in_err-mos
+returns-in_err-mos c = size_passed _ _ _ c.from_residual.ensures c.in_err-mos.ensures
 
 pub returns : goal.returns
-returns c = pattern_refused _ _ c.is_pattern.ensures c.if-is_pattern.false
+returns c =
+    let same = c.in_ok-mos.ensures in
+    let m = c.args.self in
+    size_given _ same c.in_ok-mos.field-0.fits
+    (difference_is _ _ (primary m) (secondary m) (c.from.ensures ∙ ap (λ (n : Mos). pos (primary n)) same)
+    (c.from-2.ensures ∙ ap (λ (n : Mos). pos (secondary n)) same) (search rules) (search rules))

@@ -1,9 +1,11 @@
--- The size, where it fits.
-use Rattle.mos.proofs.Sizes.{size_given, size_refused}
+-- Question 7, then what the part found.
+use mathlib.Core.Path.{ap, ◌∙◌}
+use Rattle.mos.specs.Patterns.{size_of}
+use Rattle.mos.proofs.Sizes.{size_passed, size_given}
 use Rattle.mos.proofs.Mos.size.Goals as goal
 
-pub returns-then-size-le65535 : goal.returns-then-size-le65535
-returns-then-size-le65535 c = size_given _ c.wide_size-size.ensures c.if-size-le65535.true c.wide_size-size.ensures
+pub returns-in_err-pattern : goal.returns-in_err-pattern
+returns-in_err-pattern c = size_passed _ _ _ c.from_residual.ensures c.in_err-pattern.ensures
 
 pub returns : goal.returns
-returns c = size_refused _ _ c.wide_size-size.ensures c.if-size-le65535.false
+returns c = size_given _ c.in_ok-pattern.ensures c.in_ok-pattern.pattern.fits (c.size.ensures ∙ ap size_of c.in_ok-pattern.ensures)

@@ -8,9 +8,9 @@ use Rattle.mos_fractional.specs.Parts.{Growing}
 use Rattle.mos_fractional.proofs.Walking.{left}
 use Rattle.mos_fractional.proofs.walks.count_from.Given as goal
 
-abbrev pub invariant-loop-c : goal.invariant-loop-c
-invariant-loop-c l =
+abbrev pub invariant-loop-child : goal.invariant-loop-child
+invariant-loop-child l =
     Growing l.here × (l.count + length (children l.here) ≡ l.initial.count + length (children l.initial.here)) × (l.count < count_of l.here)
 
-abbrev pub decreases-loop-c : goal.decreases-loop-c
-decreases-loop-c l = left l.here
+abbrev pub decreases-loop-child : goal.decreases-loop-child
+decreases-loop-child l = left l.here

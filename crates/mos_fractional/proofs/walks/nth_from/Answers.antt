@@ -1,28 +1,29 @@
-use mathlib.Core.Path.{refl, sym, ap, ◌∙◌}
+use Prim.Native.Nat.{suc, ◌+◌, ◌-◌}
+use Rattle.std.specs.Prelude.{slice_get}
+use mathlib.Core.Path.{◌≡◌, sym, ap, ◌∙◌}
 use native.Mathlib.Omega.{arith}
-use Rattle.mos_fractional.specs.Answers.{child_in}
+use Rattle.mos_fractional.specs.Walk.{children}
 use Rattle.mos_fractional.proofs.Walking.{growing_child, nth_here, nth_end, nth_next}
 use Rattle.mos_fractional.proofs.walks.nth_from.Goals as goal
 
-pub loop-left-init : goal.loop-left-init
-loop-left-init c = (c.requires, refl)
+pub loop-init : goal.loop-init
+loop-init c = (c.requires, ap (slice_get (children c.args.m)) (let e : c.args.k - 0 ≡ c.args.k = omega arith in e))
 
-pub returns-then-left-eq0 : goal.returns-then-left-eq0
-returns-then-left-eq0 c =
-    let at = c.loop-left in
-    nth_here at.here at.invariant.0 at.left c.if-left-eq0.true ∙ at.invariant.1
+pub returns-in_err-here : goal.returns-in_err-here
+returns-in_err-here c =
+    let at = c.loop in
+    let some : c.args.k - at.counter ≡ 0 → ⊥ = (λ e. omega arith) in
+    rw c.from_residual.ensures (nth_end at.here at.invariant.0 (c.args.k - at.counter) some (sym c.child.ensures ∙ c.in_err-here.was) ∙ at.invariant.1)
 
-pub loop-left-smaller : goal.loop-left-smaller
-loop-left-smaller c = omega arith
+pub loop-preserved : goal.loop-preserved
+loop-preserved c =
+    let at = c.loop in
+    let e = sym c.child.ensures ∙ c.in_ok-here.was in
+    let one : c.args.k - at.counter ≡ suc (c.args.k - (at.counter + 1)) = omega arith in
+    (growing_child at.here _ at.invariant.0 e, nth_next at.here at.invariant.0 _ (c.args.k - at.counter) _ e one ∙ at.invariant.1)
 
-pub loop-left-preserved : goal.loop-left-preserved
-loop-left-preserved c =
-    let at = c.loop-left in
-    let e = sym c.child-answer.ensures ∙ ap child_in c.in-Child.is in
-    (growing_child at.here _ at.invariant.0 e, nth_next at.here at.invariant.0 _ at.left _ e (omega arith) ∙ at.invariant.1)
-
-pub returns-in-Nothing : goal.returns-in-Nothing
-returns-in-Nothing c =
-    let at = c.loop-left in
-    let e = sym c.child-answer.ensures ∙ ap child_in c.in-Nothing.is in
-    nth_end at.here at.invariant.0 at.left c.if-left-eq0.false e ∙ at.invariant.1
+pub returns : goal.returns
+returns c =
+    let at = c.loop in
+    let none : c.args.k - at.counter ≡ 0 = omega arith in
+    nth_here at.here at.invariant.0 (c.args.k - at.counter) none ∙ at.invariant.1

@@ -12,28 +12,10 @@ use Rattle.mos_layers.proofs.parts.count_sizes.Goals as goal
 pub loop-i-init : goal.loop-i-init
 loop-i-init c =
     let runs = c.args.runs in
-    (count_none (run_at runs.sizes runs.times), omega arith, omega arith)
-
-pub offset_bounds-sizes-i : goal.offset_bounds-sizes-i
-offset_bounds-sizes-i c = omega arith
-
-pub bounds-sizes-i : goal.bounds-sizes-i
-bounds-sizes-i c = omega arith
-
-pub offset_bounds-times-i : goal.offset_bounds-times-i
-offset_bounds-times-i c = omega arith
-
-pub bounds-times-i : goal.bounds-times-i
-bounds-times-i c = omega arith
+    (count_none (run_at runs.sizes runs.times), omega arith)
 
 pub overflow_add-count : goal.overflow_add-count
 overflow_add-count c = omega arith
-
-pub overflow_add-i : goal.overflow_add-i
-overflow_add-i c = omega arith
-
-pub loop-i-smaller : goal.loop-i-smaller
-loop-i-smaller c = omega arith
 
 pub loop-i-preserved : goal.loop-i-preserved
 loop-i-preserved c =
@@ -41,11 +23,10 @@ loop-i-preserved c =
     let loop = c.loop-i in (
       count_more (run_at runs.sizes runs.times) loop.i loop.invariant.0 c.count_run-count.ensures.0,
       omega arith,
-      omega arith,
     )
 
 pub returns : goal.returns
 returns c =
     let runs = c.args.runs in
     c.loop-i.invariant.0
-    ∙ ap (λ (n : ℕ). length (drop_empty (joined (run_at runs.sizes runs.times) n))) (le_antisymm c.loop-i.invariant.2 c.loop-i-test.false)
+    ∙ ap (λ (n : ℕ). length (drop_empty (joined (run_at runs.sizes runs.times) n))) (le_antisymm c.loop-i.auto.i-end c.loop-i-test.false)

@@ -1,5 +1,5 @@
 -- After i turns the layers of the first i runs are counted; a run has at most 65,535.
-use Prim.Native.Nat.{◌*◌, ◌-◌, ◌≤◌}
+use Prim.Native.Nat.{◌*◌, ◌≤◌}
 use mathlib.Core.Path.{◌≡◌}
 use lib.ListN.{length}
 use Rattle.text.specs.Writing.{joined}
@@ -9,7 +9,4 @@ use Rattle.mos_layers.proofs.parts.count_sizes.Given as goal
 
 abbrev pub invariant-loop-i : goal.invariant-loop-i
 invariant-loop-i l =
-    (l.count ≡ length (drop_empty (joined (run_at l.sizes l.times) l.i))) × (l.count ≤ 65535 * l.i) × (l.i ≤ 8)
-
-abbrev pub decreases-loop-i : goal.decreases-loop-i
-decreases-loop-i l = 8 - l.i
+    (l.count ≡ length (drop_empty (joined (run_at l.sizes l.times) l.i))) × (l.count ≤ 65535 * l.i)

@@ -13,19 +13,7 @@ use Rattle.mos_layers.proofs.parts.put_all_layers.Goals as goal
 pub loop-i-init : goal.loop-i-init
 loop-i-init c =
     let runs = c.args.runs in
-    (all_start (run_at runs.sizes runs.times) _ _, omega arith)
-
-pub offset_bounds-sizes-i : goal.offset_bounds-sizes-i
-offset_bounds-sizes-i c = omega arith
-
-pub bounds-sizes-i : goal.bounds-sizes-i
-bounds-sizes-i c = omega arith
-
-pub offset_bounds-times-i : goal.offset_bounds-times-i
-offset_bounds-times-i c = omega arith
-
-pub bounds-times-i : goal.bounds-times-i
-bounds-times-i c = omega arith
+    all_start (run_at runs.sizes runs.times) _ _
 
 pub put_layers-c-requires : goal.put_layers-c-requires
 put_layers-c-requires c =
@@ -34,29 +22,21 @@ put_layers-c-requires c =
     all_space (run_at runs.sizes runs.times) i 8 c.loop-i-test.true _
     (sum_replicate (get_or runs.times i 0) (get_or runs.sizes i 0))
     (record { fits = omega (arith, c.requires.1); small = omega (arith, c.requires.0); low = omega arith })
-    c.loop-i.invariant.0
-
-pub overflow_add-i : goal.overflow_add-i
-overflow_add-i c = omega arith
-
-pub loop-i-smaller : goal.loop-i-smaller
-loop-i-smaller c = omega arith
+    c.loop-i.invariant
 
 pub loop-i-preserved : goal.loop-i-preserved
 loop-i-preserved c =
     let loop = c.loop-i in
-    let runs = c.args.runs in (
-      all_more (run_at runs.sizes runs.times) loop.i loop.invariant.0 c.put_layers-c.ensures,
-      omega arith,
-    )
+    let runs = c.args.runs in
+    all_more (run_at runs.sizes runs.times) loop.i loop.invariant c.put_layers-c.ensures
 
 pub shape_of-out : goal.shape_of-out
-shape_of-out c = laid_length c.loop-i.invariant.0
+shape_of-out c = laid_length c.loop-i.invariant
 
 pub returns : goal.returns
 returns c =
     let runs = c.args.runs in
-    let done = laid_as (ap (joined (run_at runs.sizes runs.times)) (le_antisymm c.loop-i.invariant.1 c.loop-i-test.false)) c.loop-i.invariant.0 in
+    let done = laid_as (ap (joined (run_at runs.sizes runs.times)) (le_antisymm c.loop-i.auto.i-end c.loop-i-test.false)) c.loop-i.invariant in
     subst (λ (n : ℕ). Wrote c.args.out.now 0 (numbered 0 (drop_empty (joined (run_at runs.sizes runs.times) 8))) c.loop-i.out n)
     (laid_place done ∙ zero-add _)
     done.wrote

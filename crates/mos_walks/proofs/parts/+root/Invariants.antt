@@ -3,4 +3,4 @@ use Rattle.mos.specs.Patterns.{count_of}
 use Rattle.mos_walks.proofs.parts.+root.Given as goal
 
 abbrev pub decreases-root : goal.decreases-root
-decreases-root l = count_of l.m
+decreases-root l = count_of l.m.mos

@@ -3,17 +3,16 @@ use mathlib.Core.Path.{sym, ap, ◌∙◌}
 use mir.Syntax.{w64}
 use mir.ValLaws.{to_z-of_z}
 use Rattle.answer.specs.Outcome.{given}
-use Rattle.pergen.proofs.Calls.{place_no_symbols, place_no_origin, place_given}
+use Rattle.answer.proofs.Passing.{refusal_passed}
+use Rattle.pergen.proofs.Calls.{place_refused, place_given}
 use Rattle.pergen.proofs.AccidentalsFormat.get_place.Goals as goal
 
-pub returns-then-self-eq0 : goal.returns-then-self-eq0
-returns-then-self-eq0 c = place_no_symbols _ _ c.if-self-eq0.true
-
-pub returns-then-self : goal.returns-then-self
-returns-then-self c = place_no_origin _ _ c.if-self-eq0.false c.if-self.true
+pub returns-in_err-asked : goal.returns-in_err-asked
+returns-in_err-asked c =
+    refusal_passed _ _ c.from_residual.ensures ∙ place_refused _ _ _ c.in_err-asked.ensures.answered
 
 pub returns : goal.returns
 returns c =
     ap given (to_z-of_z w64 c.difference.result (record { sfits = c.difference.type_inv }))
-    ∙ place_given _ _ _ c.if-self-eq0.false c.if-self.false
+    ∙ place_given _ _ _ c.in_ok-asked.ensures.below
     (c.difference.ensures ∙ sym c.sides_of.ensures.difference)

@@ -1,23 +1,23 @@
 -- Questions 2, 5 and 6, then the key at the difference of the sides.
 use mathlib.Core.Path.{sym, ap, ◌∙◌}
 use lib.IntN.{ℤ}
+use Rattle.answer.proofs.Passing.{refusal_asked, refusal_passed}
 use Rattle.pergen.specs.Spelling.{sounds, sounded_key}
-use Rattle.pergen.proofs.Calls.{no_key, key_no_symbols, key_no_origin, key_given}
+use Rattle.pergen.proofs.Calls.{no_key, key_refused, key_given}
 use Rattle.pergen.proofs.PerGen.get_sounded_key.Goals as goal
 
-pub returns-then-self-eq0 : goal.returns-then-self-eq0
-returns-then-self-eq0 c = no_key _ c.if-self-eq0.true _ _
+pub returns-in_err-asked : goal.returns-in_err-asked
+returns-in_err-asked c =
+    refusal_asked _ _ _ c.from_residual.ensures c.in_err-asked.ensures.0 ∙ no_key _ c.in_err-asked.ensures.1 _ _
 
-pub returns-then-format-eq0 : goal.returns-then-format-eq0
-returns-then-format-eq0 c = key_no_symbols _ _ c.if-self-eq0.false _ c.if-format-eq0.true
-
-pub returns-then-format : goal.returns-then-format
-returns-then-format c = key_no_origin _ _ c.if-self-eq0.false c.if-format-eq0.false _ c.if-format.true
+pub returns-in_err-asked-2 : goal.returns-in_err-asked-2
+returns-in_err-asked-2 c =
+    refusal_passed _ _ c.from_residual-in_err-asked-2.ensures ∙ key_refused _ _ c.in_ok-asked.ensures _ _ c.in_err-asked-2.ensures.answered
 
 pub returns : goal.returns
 unfolding sounded_key
 returns c =
-    key_given _ _ c.if-self-eq0.false c.if-format-eq0.false c.if-format.false _ _
+    key_given _ _ c.in_ok-asked.ensures c.in_ok-asked-2.ensures.below _ _
     (c.sounded.ensures
     ∙ ap (λ (z : ℤ). sounds c.args.self.period c.args.self.generator z c.args.spelling.stars)
     (sym c.sides_of-sides.ensures.difference))

@@ -1,9 +1,12 @@
 -- Question 2, then the two numbers as they came.
+use mathlib.Core.Path.{◌∙◌}
+use Rattle.answer.proofs.Passing.{refusal_asked}
 use Rattle.pergen.proofs.Calls.{new_refused, new_given}
 use Rattle.pergen.proofs.PerGen.new.Goals as goal
 
-pub returns-then-period-eq0 : goal.returns-then-period-eq0
-returns-then-period-eq0 c = new_refused _ _ c.if-period-eq0.true
+pub returns-in_err-asked : goal.returns-in_err-asked
+returns-in_err-asked c =
+    refusal_asked _ _ _ c.from_residual.ensures c.in_err-asked.ensures.0 ∙ new_refused _ _ c.in_err-asked.ensures.1
 
 pub returns : goal.returns
-returns c = new_given _ _ c.if-period-eq0.false
+returns c = new_given _ _ c.in_ok-asked.ensures

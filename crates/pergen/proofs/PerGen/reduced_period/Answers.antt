@@ -1,10 +1,12 @@
 -- Question 2, then the period divided by what `gcd_u16` found, which is above 0.
-use Rattle.pergen.proofs.Calls.{no_number, number_given, reduced_found}
+use mathlib.Core.Path.{◌∙◌}
+use Rattle.answer.proofs.Passing.{refusal_asked}
+use Rattle.pergen.proofs.Calls.{no_number, number_given, reduced_found, some_period}
 use Rattle.pergen.proofs.PerGen.reduced_period.Goals as goal
 
-pub returns-then-self-eq0 : goal.returns-then-self-eq0
-returns-then-self-eq0 c = no_number _ c.if-self-eq0.true _
+pub returns-in_err-asked : goal.returns-in_err-asked
+returns-in_err-asked c =
+    refusal_asked _ _ _ c.from_residual.ensures c.in_err-asked.ensures.0 ∙ no_number _ c.in_err-asked.ensures.1 _
 
 pub returns : goal.returns
-returns c =
-    number_given _ c.if-self-eq0.false _ _ (reduced_found _ _ _ c.if-self-eq0.false c.gcd_u16.ensures.is)
+returns c = number_given _ c.in_ok-asked.ensures _ _ (reduced_found _ _ _ (some_period c.in_ok-asked.ensures) c.gcd_u16.ensures.is)

@@ -1,23 +1,13 @@
--- Four bytes, one after the other.
+-- The kit's four bytes are those of `le32`.
+use mathlib.Core.Path.{◌∙◌, ap}
 use native.Mathlib.Omega.{arith}
-use Rattle.text.proofs.Writing.{then}
-use Rattle.text.specs.LittleEndian.{le32}
-use Rattle.text.proofs.FourBytes.{length_le32}
+use lib.ListN.{length}
+use Rattle.text.proofs.Writing.{wrote_as}
+use Rattle.text.proofs.FourBytes.{four_bytes}
 use Rattle.text.proofs.little_endian.put_u32.Goals as goal
 
-pub put_byte-second-requires : goal.put_byte-second-requires
-put_byte-second-requires c = omega (arith, length_le32 c.args.n)
-
-pub put_byte-third-requires : goal.put_byte-third-requires
-put_byte-third-requires c = omega (arith, length_le32 c.args.n)
-
-pub put_byte-fourth-requires : goal.put_byte-fourth-requires
-put_byte-fourth-requires c = omega (arith, length_le32 c.args.n)
-
-pub put_byte-requires : goal.put_byte-requires
-put_byte-requires c = omega (arith, length_le32 c.args.n)
+pub put_text-requires : goal.put_text-requires
+put_text-requires c = omega (arith, ap length (c.to_le_bytes.ensures ∙ four_bytes _))
 
 pub returns : goal.returns
-unfolding le32
-returns c =
-    then (then (then c.put_byte-second.ensures c.put_byte-third.ensures) c.put_byte-fourth.ensures) c.put_byte.ensures
+returns c = wrote_as (c.to_le_bytes.ensures ∙ four_bytes _) c.put_text.ensures

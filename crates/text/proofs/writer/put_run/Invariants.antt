@@ -1,13 +1,8 @@
--- After `written` turns, so many copies stand from `at` on, and `place` is the place after them.
-use mathlib.Core.Path.{◌≡◌}
-use Prim.Native.Nat.{◌+◌, ◌≤◌, ◌-◌}
-use lib.ListN.{length, replicate}
+-- Up to a place so many copies stand from `at` on.
+use Prim.Native.Nat.{◌-◌}
+use lib.ListN.{replicate}
 use Rattle.text.specs.Writing.{Wrote}
 use Rattle.text.proofs.writer.put_run.Given as goal
 
-abbrev pub invariant-loop-written : goal.invariant-loop-written
-invariant-loop-written l =
-    Wrote l.initial.out l.at (replicate l.written l.byte) l.out l.place × (l.place ≡ l.at + l.written) × (l.written ≤ l.count) × (length l.out ≡ length l.initial.out)
-
-abbrev pub decreases-loop-written : goal.decreases-loop-written
-decreases-loop-written l = l.count - l.written
+abbrev pub invariant-loop-place : goal.invariant-loop-place
+invariant-loop-place g l = Wrote l.initial.out l.at (replicate (l.place - l.at) l.element) l.out l.place

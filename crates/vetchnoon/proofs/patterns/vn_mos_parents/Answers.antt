@@ -1,11 +1,16 @@
 -- The library filled the slice; the code is its count.
-use native.Mathlib.Omega.{arith}
+use mathlib.Core.Path.{subst}
+use mir.Syntax.{w64}
+use mir.Val.{to_z, of_z}
+use Rattle.mos.specs.declared.Mos.{Mos}
+use Rattle.mos.specs.Answers.{of_pattern}
+use Rattle.mos.specs.Walks.{parents, listed}
+use Rattle.vetchnoon_codes.specs.Codes.{Fills}
+use Rattle.vetchnoon_codes.proofs.Coding.{coded, fills_filled}
 use Rattle.vetchnoon.proofs.Outputs.{listing_in_room}
-use Rattle.vetchnoon_codes.proofs.Coding.{coded, fills_filled, small_filled}
 use Rattle.vetchnoon.proofs.patterns.vn_mos_parents.Goals as goal
 
-pub count-requires : goal.count-requires
-count-requires c = small_filled c.parents.result c.parents.ensures (omega arith)
-
 pub returns : goal.returns
-returns c = fills_filled (listing_in_room _ _ _) c.parents.ensures (coded c.count.type_inv c.count.ensures)
+returns c =
+    subst (λ (m : Mos). Fills (of_pattern m (listed (parents m))) (to_z w64 (of_z w64 c.count.result)) c.args.out.now c.parents.new.out) c.mos_of-mos.ensures
+    (fills_filled (listing_in_room _ _ _) c.parents.ensures (coded c.count.type_inv c.count.ensures))
