@@ -1,3 +1,4 @@
 pub mod Listings
 pub mod Runs
 pub mod Leaping
+pub mod Shortening

@@ -2,7 +2,7 @@
 use Rattle.std.specs.Prelude.{Option, None, Some, option_map}
 use Prim.Native.Nat.{ℕ}
 use mathlib.Core.Path.{◌≡◌, refl, sym, ap, ◌∙◌}
-use mathlib.Core.Bool.{true}
+use mathlib.Core.Bool.{Bool, true, false, ◌&&◌}
 use mathlib.Core.List.{List, [], ◌∷◌, ◌++◌, append_assoc}
 use native.Mathlib.Nat.{le_refl}
 use native.Mathlib.Omega.{arith}
@@ -12,12 +12,14 @@ use Rattle.text.proofs.Writing.{then, wrote_as, wrote_none, wrote_length}
 use Rattle.mos.specs.declared.Mos.{Mos}
 use Rattle.mos.specs.Patterns.{is_pattern, child_of, dual_of, parent_of}
 use Rattle.mos.specs.Walks.{onward, parents, fields, listed}
-use Rattle.mos_listings.specs.declared.Walk.{Walk}
-use Rattle.mos_listings.specs.declared.Walk.TheVariants.{Children, Parents}
-use Rattle.mos_listings.specs.Listed.{walk_of, shown}
 use Rattle.mos_listings.specs.Parts.{Listing, dual_parents}
 use Rattle.mos.proofs.Descent.{child_at, child_falls, child_keeps_pattern}
-use Rattle.mos.proofs.Sequences.{children_follow, parents_follow}
+use Rattle.mos.proofs.Sequences.{parents_follow}
+
+-- a run's test tells that there is a next pattern
+pub both_left : (x y : Bool) {test : Bool} → test ≡ (x && y) → test ≡ true → x ≡ true
+both_left true y e f = refl
+both_left false y e f = absurd (let z : ◌≡◌ {A = ℕ} 0 1 = cc in omega arith)
 
 -- the walk of parents goes on with the child of the dual
 pub dual_follow : (d : Mos) → dual_parents d ≡ dual_of d ∷ onward (child_of d) dual_parents
@@ -27,10 +29,6 @@ dual_follow d = parents_follow (dual_of d) ∙ ap (λ (rest : List Mos). dual_of
     go : (o : Option Mos) → onward (option_map dual_of o) parents ≡ onward o dual_parents
     go None = refl
     go (Some c) = refl
-
-pub follow_of : (w : Walk) (m : Mos) → walk_of w m ≡ shown w m ∷ onward (child_of m) (walk_of w)
-follow_of Children m = children_follow m
-follow_of Parents m = dual_follow m
 
 -- any walk that goes on with the child, with what it shows of each pattern: the pattern, or its dual
 module _ (walk : Mos → List Mos) (shown : Mos → Mos) (follow : (m : Mos) → walk m ≡ shown m ∷ onward (child_of m) walk) where

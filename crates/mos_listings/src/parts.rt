@@ -2,14 +2,15 @@
 // in which each child shortens the same step.
 //
 // Parts, and no entry points.
-ghost use Rattle.std.specs.Prelude.{◌≡◌, true, length, leb, None, MatchOption};
+ghost use Rattle.std.specs.Prelude.{◌≡◌, true, ◌&&◌, length, ltb, leb, None, MatchOption, is_some};
+ghost use Rattle.answer.specs.Choice.{pick};
 ghost use Rattle.answer.specs.Refusals.{outcome_of};
 ghost use Rattle.answer.specs.Lent.{held_in, Filled};
 ghost use Rattle.text.specs.Writing.{Room, Wrote};
-ghost use Rattle.mos.specs.Patterns.{child_of};
+ghost use Rattle.mos.specs.Patterns.{primary, secondary, is_pattern, child_of};
 ghost use Rattle.mos.specs.Walks.{children, fields, listed};
-ghost use Rattle.mos_listings.specs.Parts.{Leaps, Listing};
-ghost use Rattle.mos_listings.specs.Listed.{walk_of, shown};
+ghost use Rattle.mos_listings.specs.Parts.{Leaps, Listing, dual_parents};
+ghost use Rattle.mos_listings.specs.Listed.{walk_of};
 
 use crate::Walk;
 use answer::Refusal;
@@ -83,16 +84,6 @@ pub fn children_fit(m: Pattern, room: usize) -> bool
     count_children(m) as usize * 4 <= room
 }
 
-// What a walk shows of a pattern.
-fn shown(walk: Walk, m: Pattern) -> Mos
-    ensures { result ≡ shown walk m.mos }
-{
-    match walk {
-        Walk::Children => m.mos,
-        Walk::Parents => mos::parts::dual_of(m.mos),
-    }
-}
-
 // The four numbers of a pattern at a place; the place after them.
 fn put_pattern(m: Mos, out: &mut [u16], at: usize) -> usize
     requires { Room out.old at (fields m) }
@@ -108,45 +99,97 @@ fn put_pattern(m: Mos, out: &mut [u16], at: usize) -> usize
 // Where a listing has come to: the next pattern, and its place in the slice.
 #[derive(Clone, Copy)]
 struct Reached {
-    next: Pattern,
+    next: Mos,
     at: usize,
 }
 
-// Does a child shorten the primary step? It shortens the longer one.
-fn shortens_primary(m: Pattern) -> bool {
-    m.mos.secondary_step < m.mos.primary_step
+// Is there a child, and does it shorten the primary step (else the secondary)? It does where that step is the longer one and the
+// other is not 0.
+fn shortens(m: Mos, of_primary: bool) -> bool
+    ensures { result ≡ (is_some (child_of m) && pick of_primary (ltb (secondary m) (primary m)) (leb (primary m) (secondary m))) }
+{
+    if of_primary {
+        if m.secondary_step == 0 {
+            return false;
+        }
+        return m.secondary_step < m.primary_step;
+    }
+    if m.primary_step == 0 {
+        return false;
+    }
+    m.primary_step < m.secondary_step
 }
 
-// The patterns from one on whose children shorten the same step, from a place on; where the listing then has come to.
-fn list_run(walk: Walk, first: Pattern, out: &mut [u16], at: usize) -> Reached
-    requires { Room out.old at (listed (walk_of walk first.mos)) }
-    ensures { Listing (walk_of walk) first.mos out.old at result.next.mos out.new result.at }
+// The patterns from m on whose children shorten the same step, from a place on. This and the next are two, and so are the walks that go by
+// them: tried, one function that asks at each pattern which walk it lists takes up to twice as long, and lists parents slower than the
+// original.
+fn list_child_run(m: Mos, out: &mut [u16], at: usize) -> Reached
+    requires { (is_pattern m ≡ true) × Room out.old at (listed (children m)) }
+    ensures { Listing children m out.old at result.next out.new result.at }
 {
-    let primary = shortens_primary(first);
-    let mut next = first;
+    let primary = m.secondary_step < m.primary_step;
+    let mut next = m;
     let mut place = at;
-    while shortens_primary(next) == primary {
-        let Some(child) = next.child() else {
-            break;
-        };
-        place = put_pattern(shown(walk, next), out, place);
-        next = child;
+    while shortens(next, primary) {
+        place = put_pattern(next, out, place);
+        next = mos::parts::child_of(next);
     }
     Reached { next, at: place }
 }
 
-// A walk from a place on; the place after it. Each self call lists one run: a self call that is lent a slice keeps a frame, and there are
-// few runs.
-fn list(walk: Walk, first: Pattern, out: &mut [u16], at: usize) -> usize
-    requires { Room out.old at (listed (walk_of walk first.mos)) }
-    ensures { Wrote out.old at (listed (walk_of walk first.mos)) out.new result }
+// The patterns from one on whose parents take from the same count, from a place on. It is the dual that is walked: counts and
+// steps change places only as they are written.
+fn list_parent_run(dual: Mos, out: &mut [u16], at: usize) -> Reached
+    requires { (is_pattern «dual» ≡ true) × Room out.old at (listed (dual_parents «dual»)) }
+    ensures { Listing dual_parents «dual» out.old at result.next out.new result.at }
 {
-    let run = list_run(walk, first, out, at);
+    let primary = dual.secondary_step < dual.primary_step;
+    let mut next = dual;
+    let mut place = at;
+    while shortens(next, primary) {
+        place = put_pattern(mos::parts::dual_of(next), out, place);
+        next = mos::parts::child_of(next);
+    }
+    Reached { next, at: place }
+}
+
+// The walk of children from a place on; the place after it. Each self call lists one run: a self call that is lent a slice keeps
+// a frame, and there are few runs.
+pub(crate) fn list_children(m: Mos, out: &mut [u16], at: usize) -> usize
+    requires { (is_pattern m ≡ true) × Room out.old at (listed (children m)) }
+    ensures { Wrote out.old at (listed (children m)) out.new result }
+{
+    let run = list_child_run(m, out, at);
     let last = run.next;
-    let after = put_pattern(shown(walk, last), out, run.at);
-    match last.child() {
-        Some(child) => list(walk, child, out, after),
-        None => after,
+    let after = put_pattern(last, out, run.at);
+    if mos::parts::has_child(last) {
+        return list_children(mos::parts::child_of(last), out, after);
+    }
+    after
+}
+
+// The walk of parents from a place on, in the same way, given the dual of its first pattern.
+fn list_dual_parents(dual: Mos, out: &mut [u16], at: usize) -> usize
+    requires { (is_pattern «dual» ≡ true) × Room out.old at (listed (dual_parents «dual»)) }
+    ensures { Wrote out.old at (listed (dual_parents «dual»)) out.new result }
+{
+    let run = list_parent_run(dual, out, at);
+    let last = run.next;
+    let after = put_pattern(mos::parts::dual_of(last), out, run.at);
+    if mos::parts::has_child(last) {
+        return list_dual_parents(mos::parts::child_of(last), out, after);
+    }
+    after
+}
+
+// A walk at the slice's front; how many numbers that are.
+fn list(walk: Walk, first: Pattern, out: &mut [u16]) -> usize
+    requires { Room out.old 0 (listed (walk_of walk first.mos)) }
+    ensures { Wrote out.old 0 (listed (walk_of walk first.mos)) out.new result }
+{
+    match walk {
+        Walk::Children => list_children(first.mos, out, 0),
+        Walk::Parents => list_dual_parents(first.mos, out, 0),
     }
 }
 
@@ -157,5 +200,5 @@ pub(crate) fn fill(walk: Walk, first: Pattern, out: &mut [u16]) -> Result<usize,
     if !children_fit(first, out.len()) {
         return Err(Refusal::Room);
     }
-    Ok(list(walk, first, out, 0))
+    Ok(list(walk, first, out))
 }

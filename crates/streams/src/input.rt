@@ -52,6 +52,7 @@ pub fn next_byte(past: Input, count: &mut usize) -> Input
     let mut stdin = past.stdin;
     if stdin.read_exact(&mut byte).is_err() {
         return Input {
+            stdin,
             last: LastRead::End,
             ..past
         };
