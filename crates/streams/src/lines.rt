@@ -59,7 +59,9 @@ fn fill(stdin: Stdin, line: &mut [u8]) -> Input
 }
 
 // Reads one line to its line feed, or to the end of the input, and keeps its first 18 bytes.
-pub fn read_line(stdin: Stdin) -> KeptLine {
+pub fn read_line(stdin: Stdin) -> KeptLine
+    ensures { LineRead result.buffer result.input }
+{
     let mut buffer = [0u8; 18];
     let input = fill(stdin, &mut buffer);
     KeptLine { buffer, input }
