@@ -5,9 +5,9 @@
  * What the library runs on
  *   x86-64 Linux on a processor of level x86-64-v2 (with SSE4.2), which the library does not ask; C calling convention, size_t of
  *   64 bits. It needs memset, memcpy and memmove, which a C library has, and nothing else; it makes no system calls.
- *   Stack: at most 1.25 KiB for any call, measured (1,176 bytes for vn_explain_text, 1,112 for vn_explain_text_len, 1,088 for
- *   vn_edo_report, 960 for vn_find_by_edo, 896 for vn_tritaves, at most 520 for any other, with glibc's memset, memcpy and
- *   memmove); examples/check measures it again.
+ *   Stack: at most 1.25 KiB for any call, measured (1,160 bytes for vn_explain_text, 1,096 for vn_explain_text_len, 1,088 for
+ *   vn_edo_report, 944 for vn_find_by_edo, 912 for vn_tritaves, 552 for vn_explain, at most 520 for any other, with glibc's
+ *   memset, memcpy and memmove); examples/check measures it again.
  *
  * What a call returns
  *   0 or more: the answer, or how many elements were written to the front of the slice that was lent.

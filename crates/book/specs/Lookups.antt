@@ -1,4 +1,4 @@
--- What a lookup hands back: the name's bytes as a part of the lent book slice at the key's offset and length, and a number.
+-- What a lookup hands back: the name's bytes as a part of the lent book slice at the key's offset and length, or a refusal, with its number.
 use Rattle.std.specs.Prelude.{ℕ, ◌+◌, List, ◌≡◌, ℤ, take, drop, Result, Ok, Err, IfOk}
 use Rattle.std.specs.Borrow.{Bor}
 use Rattle.answer.specs.Outcome.{Outcome, given, refused}
@@ -21,7 +21,7 @@ slice s = record { block = s.ref_ptr.0; start = s.ref_ptr.1; bytes = s.now }
 abbrev pub part : Slice → ℕ → ℕ → Slice
 part s from size = record { block = s.block; start = from + s.start; bytes = take size (drop from s.bytes) }
 
--- The part at a place of the book; a refusal has the empty part at the book's front.
+-- The part at a place of the book; the empty part at its front stands for none.
 abbrev pub part_at : Outcome Place → Slice → Slice
 part_at (given place) book = part book place.offset place.length
 part_at (refused n) book = part book 0 0
@@ -31,7 +31,7 @@ unfoldable pub name_part : Slice → ℤ → Slice
 unfolding find_outcome
 name_part book key = part_at (find_outcome book.bytes key) book
 
--- The number beside the part: 0 where a name is found, else that of the question.
+-- The number that a lookup tells: 0 where a name is found, else that of the question.
 abbrev pub refusal_number : Outcome Place → ℕ
 refusal_number (given place) = 0
 refusal_number (refused n) = n

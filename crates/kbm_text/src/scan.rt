@@ -111,8 +111,11 @@ fn step(s: Scan, octave: u16, kind: Kind) -> Scan
         return s;
     }
     let line = s.line;
-    let fits = s.fits && fits_at(line, kind);
-    let agrees = s.agrees && agrees_at(octave, line, kind);
+    // Each line is asked both, whatever the lines before said: a line's kind is then gone through once.
+    let fitting = fits_at(line, kind);
+    let fits = s.fits && fitting;
+    let agreeing = agrees_at(octave, line, kind);
+    let agrees = s.agrees && agreeing;
     let keys = s.keys + key_count(line, kind);
     Scan {
         line: line + 1,

@@ -28,6 +28,12 @@ all_answered test (x ∷ xs) false (zero, l, h) = ap (λ (b : Bool). b && all_of
 all_answered test (x ∷ xs) false (suc k, l, h) =
     sym (ap (λ (b : Bool). test x && b) (sym (all_answered test xs false (k, omega arith, h))) ∙ and-false (test x))
 
+-- what holds of an element that was read
+pub holds_read : {A : Type 0} (P : A → Type 0) (xs : List A) (i : ℕ) (x : A) → i < length xs → x ≡ get_or xs i x → P x → HoldsAt P xs i
+holds_read P [] i x h is p = absurd (omega arith)
+holds_read P (y ∷ xs) zero x h is p = λ d. subst P is p
+holds_read P (y ∷ xs) (suc i) x h is p = holds_read P xs i x (omega arith) is p
+
 -- each element passes, or one does not
 abbrev pub Passed : (ℕ → Bool) → List ℕ → ℕ → Type 0
 Passed test xs k = (i : ℕ) → i < k → test (get_or xs i 0) ≡ true

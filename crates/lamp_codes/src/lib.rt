@@ -86,7 +86,13 @@ impl Code for u16 {
 fn all_have_partners<C: Code>(strip: &[C]) -> bool
     ensures { result ≡ all_of C.has_partner strip.now }
 {
-    strip.iter().all(|code| code.has_partner())
+    // A loop that goes on behind the test, and no `all`, whose loop goes on before it and is slower where its branch lies across two lines.
+    for code in strip {
+        if !code.has_partner() {
+            return false;
+        }
+    }
+    true
 }
 
 // The partners of a strip, at the front of a slice that holds them (17, 10).

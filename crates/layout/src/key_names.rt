@@ -121,8 +121,9 @@ pub fn plan_name(prepared: Prepared, row: ChainRow, key: Key) -> NamePlan
     plans::plan_name(row, spelled, pattern.secondary_step <= pattern.primary_step)
 }
 
-// The two spellings of one key of the octave. What was solved goes on by itself: for a single key the prepared record would be written in
-// pieces and read back whole, which costs a name a third more.
+// The two spellings of one key of the octave. What was solved goes on by itself, and this and the plan are inlined: for a single key the
+// prepared record, or what was found, would be written in pieces and read back whole, which costs a name a third more.
+#[inline(always)]
 fn spelled_in(found: Found, number: u16) -> Accidentals
     requires { number < found.octave }
     ensures { result ≡ accidentals_in (layout_of found) (pos number) }
@@ -142,6 +143,7 @@ pub(crate) fn ask_key(layout: IsomorphicLayout, key: i32) -> Result<OneKey, Refu
 }
 
 // The plan of its name.
+#[inline(always)]
 fn plan_one(key: OneKey) -> NamePlan
     ensures { PlannedIn (layout_of key.found) (pos key.number) result }
 {

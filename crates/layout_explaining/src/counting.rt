@@ -69,7 +69,8 @@ fn verdict(one: u16, other: u16, apart: u64, reduced_period: u16) -> Verdict
     Verdict::OneChain
 }
 
-// The explanation of two spellings.
+// The explanation of two spellings. Inlined: called, it would want the whole `Reader` in memory, which is written in pieces.
+#[inline(always)]
 pub(crate) fn explanation(reader: Reader, one: Spelling, other: Spelling) -> Explanation
     ensures { result ≡ explanation_of (layout_of reader.found) one other }
 {

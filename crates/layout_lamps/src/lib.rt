@@ -31,7 +31,8 @@ pub fn strip_len(layout: IsomorphicLayout) -> Result<usize, Refusal>
     ensures { outcome_of result ≡ counted (get_strip layout) }
 {
     let found = layout::parts::ask(layout)?;
-    Ok(layout_layers::parts::entries(layout_layers::parts::plan_of(found)))
+    let plan = layout_layers::parts::plan_of(found);
+    Ok(layout_layers::parts::entries(plan.equalized, plan.chain))
 }
 
 // The lamp code of one key, whatever its octave, below 0 too: what `lamp_strip` writes repeats (1, 2, 3, 4, 18).
@@ -40,7 +41,8 @@ pub fn lamp(layout: IsomorphicLayout, key: i32) -> Result<u16, Refusal>
 {
     let found = layout::parts::ask(layout)?;
     let prepared = prepared::prepare(found);
-    let place = math::parts::rem_u32(key, layout_layers::keys::entry_count(prepared));
+    let count = layout_layers::keys::entry_count(prepared.found.octave, prepared.found.pattern);
+    let place = math::parts::rem_u32(key, count);
     let asked = stepping::key_at(prepared.solved, place);
     let total = layout_layers::keys::total_of(prepared);
     Ok(parts::lamp_of(prepared, total, asked))

@@ -46,7 +46,7 @@ fn put_strip(out: &mut [u16], plan: Plan)
     out[0] = 0;
     let chain = plan.chain;
     let keys = (chain.reduced_period as usize) * (chain.num_cycles as usize);
-    if layout_layers::parts::entries(plan) <= keys {
+    if layout_layers::parts::entries(plan.equalized, chain) <= keys {
         return;
     }
     out[keys] = 0;
@@ -56,7 +56,7 @@ fn put_strip(out: &mut [u16], plan: Plan)
 pub(crate) fn write_strip(plan: Plan, out: &mut [u16]) -> Result<usize, Refusal>
     ensures { Filled (held_in (length out.old) (plan_strip plan (total_of plan))) (outcome_of result) out.old out.new }
 {
-    let count = layout_layers::parts::entries(plan);
+    let count = layout_layers::parts::entries(plan.equalized, plan.chain);
     if out.len() < count {
         return Err(Refusal::Room);
     }

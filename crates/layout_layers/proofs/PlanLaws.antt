@@ -142,6 +142,9 @@ pub length_plan : (p : Plan) {turns : ℕ} → turns ≡ turns_of p → turns * 
 length_plan p {turns} e =
     ap (λ (k : ℕ). k * p.chain.num_cycles) e ∙ sym (length_listed (plan_number p) (turns_of p * p.chain.num_cycles))
 
+pub counts_entries : (p : Plan) {count : ℕ} → count ≡ turns_of p * p.chain.num_cycles → count ≡ length (plan_layers p)
+counts_entries p e = e ∙ length_plan p refl
+
 pub alternating_below : (N s h q : ℕ) → alternating N s h q < 2
 unfolding alternating
 alternating_below N s h q = go (eqb (h * s / N % 2) ((q + h) * s / N % 2))

@@ -1,5 +1,5 @@
 -- What the parts behind the calls promise: the definitions of KeyLayers, by the numbers that the code carries.
-use Rattle.std.specs.Prelude.{ℕ, ◌+◌, ◌*◌, ◌-◌, ◌/◌, ◌%◌, ◌≤◌, ◌<◌, ◌≡◌, List, [], ◌∷◌, ◌++◌, length, get_or, drop, replicate, Option, None, Some}
+use Rattle.std.specs.Prelude.{ℕ, Bool, ◌+◌, ◌*◌, ◌-◌, ◌/◌, ◌%◌, ◌≤◌, ◌<◌, ◌≡◌, List, [], ◌∷◌, ◌++◌, length, get_or, drop, replicate, Option, None, Some}
 use Rattle.answer.specs.Choice.{pick}
 use Rattle.text.specs.Writing.{joined}
 use Rattle.mos.specs.Patterns.{primaries, secondaries, primary, secondary, cycles_of}
@@ -150,9 +150,12 @@ turn_layer p turn =
 abbrev pub plan_number : Plan → ℕ → ℕ
 plan_number p i = turn_layer p (i / p.chain.num_cycles) * p.chain.num_cycles + i % p.chain.num_cycles
 
--- How many scale degrees the entries have.
+-- How many scale degrees the entries have, of a chain whose scale is equalized or not, and of a plan.
+abbrev pub turns_on : Bool → Chain → ℕ
+turns_on equalized chain = pick equalized (2 * chain.reduced_period) chain.reduced_period
+
 abbrev pub turns_of : Plan → ℕ
-turns_of p = pick p.equalized (2 * p.chain.reduced_period) p.chain.reduced_period
+turns_of p = turns_on p.equalized p.chain
 
 -- The elements of the keys below `count`.
 abbrev pub listed : (ℕ → ℕ) → ℕ → List ℕ

@@ -214,12 +214,11 @@ pub fn total_of(prepared: Prepared) -> u16
 }
 
 // How many entries a layout's layers have: an octave's keys, or two where the scale is equalized.
-pub fn entry_count(prepared: Prepared) -> u32
-    ensures { (result ≡ entry_count prepared.found.octave prepared.found.pattern) × (result ≤ 131070) }
+pub fn entry_count(octave: u16, pattern: Mos) -> u32
+    ensures { (result ≡ entry_count octave pattern) × (result ≤ 131070) }
 {
-    let found = prepared.found;
-    let keys = found.octave as u32;
-    if is_equalized(found.pattern) {
+    let keys = octave as u32;
+    if is_equalized(pattern) {
         return 2 * keys;
     }
     keys

@@ -44,7 +44,8 @@ pub fn layers_len(layout: IsomorphicLayout) -> Result<usize, Refusal>
     ensures { outcome_of result ≡ counted (get_layers layout) }
 {
     let found = layout::parts::ask(layout)?;
-    Ok(parts::entries(parts::plan_of(found)))
+    let plan = parts::plan_of(found);
+    Ok(parts::entries(plan.equalized, plan.chain))
 }
 
 // How many layer numbers there are, from 0 on (1, 2, 3, 4, 18).
@@ -61,7 +62,8 @@ pub fn get_layer(layout: IsomorphicLayout, key: i32) -> Result<u16, Refusal>
 {
     let found = layout::parts::ask(layout)?;
     let prepared = prepared::prepare(found);
-    let entry = math::parts::rem_u32(key, keys::entry_count(prepared));
+    let count = keys::entry_count(prepared.found.octave, prepared.found.pattern);
+    let entry = math::parts::rem_u32(key, count);
     let asked = stepping::key_at(prepared.solved, entry);
     Ok(keys::number_of(prepared, asked))
 }

@@ -13,7 +13,7 @@ ghost use Rattle.layout.specs.Layouts.{cycles_in};
 ghost use Rattle.layout.specs.Parts.{layout_of};
 ghost use Rattle.layout_layers.specs.LampCodes.{code_of};
 ghost use Rattle.layout_layers.specs.Kept.{inverse_of, keys_of};
-ghost use Rattle.layout_layers.specs.Parts.{Spread, InTurn, InTurns, Walk, Ahead, run_layer, run_number, listed_number, total_of, PlanOf, turn_layer, plan_number, turns_of, Fronted, plan_layers, plan_entries, shown_as, limit, Held};
+ghost use Rattle.layout_layers.specs.Parts.{Spread, InTurn, InTurns, Walk, Ahead, run_layer, run_number, listed_number, total_of, PlanOf, turn_layer, plan_number, turns_on, Fronted, plan_layers, plan_entries, shown_as, limit, Held};
 
 use crate::chain;
 use crate::chain::{Chain, Spot};
@@ -80,22 +80,20 @@ pub fn total_of(plan: Plan) -> u16
 }
 
 // How many scale degrees the entries have.
-pub fn turns_of(plan: Plan) -> u32
-    ensures { (result ≡ turns_of plan) × (result ≤ 131070) }
+pub fn turns_of(equalized: bool, chain: Chain) -> u32
+    ensures { (result ≡ turns_on equalized chain) × (result ≤ 131070) }
 {
-    let chain = plan.chain;
-    if plan.equalized {
+    if equalized {
         return 2 * (chain.reduced_period as u32);
     }
     chain.reduced_period as u32
 }
 
 // How many entries there are.
-pub fn entries(plan: Plan) -> usize
-    ensures { result ≡ length (plan_layers plan) }
+pub fn entries(equalized: bool, chain: Chain) -> usize
+    ensures { result ≡ turns_on equalized chain * chain.num_cycles }
 {
-    let chain = plan.chain;
-    (turns_of(plan) as usize) * (chain.num_cycles as usize)
+    (turns_of(equalized, chain) as usize) * (chain.num_cycles as usize)
 }
 
 // The code of a number below or above the half of all, which has `left` behind it: sharp layers go up by even codes, flat ones down by odd
@@ -254,7 +252,7 @@ pub fn put_entries(out: &mut [u16], plan: Plan, total: Option<u16>)
     ensures { Fronted (plan_entries plan total) out.old out.new }
 {
     if plan.equalized {
-        put_alternating(out, plan, turns_of(plan), total);
+        put_alternating(out, plan, turns_of(plan.equalized, plan.chain), total);
         return;
     }
     put_chain(out, plan, total);
@@ -264,7 +262,7 @@ pub fn put_entries(out: &mut [u16], plan: Plan, total: Option<u16>)
 pub(crate) fn write_layers(plan: Plan, out: &mut [u16]) -> Result<usize, Refusal>
     ensures { Filled (held_in (length out.old) (plan_layers plan)) (outcome_of result) out.old out.new }
 {
-    let count = entries(plan);
+    let count = entries(plan.equalized, plan.chain);
     if out.len() < count {
         return Err(Refusal::Room);
     }

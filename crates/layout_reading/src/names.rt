@@ -19,8 +19,10 @@ fn place_of(text: &[u8], byte: u8) -> Option<usize>
     text.iter().position(|b| *b == byte)
 }
 
+// All are inlined: called, they would want the whole `Reader` in memory, where it is written in pieces, and each text would wait for it.
 impl Reader {
     // The key that a spelling sounds.
+    #[inline(always)]
     fn key_of(self, spelling: Spelling) -> u16
         ensures { result ≡ key_of (layout_of self.found) spelling }
     {
@@ -37,6 +39,7 @@ impl Reader {
     }
 
     // The spelling without stars that a text is (23).
+    #[inline(always)]
     fn starless(self, text: &[u8]) -> Result<Typed, Refusal>
         ensures { typed_outcome result ≡ starless_in (layout_of self.found) text.now }
     {
@@ -48,6 +51,7 @@ impl Reader {
     }
 
     // The key of two spellings, with stars below the cycles (24).
+    #[inline(always)]
     fn key_of_both(self, stars: u16, first: Typed, second: Typed) -> Result<u16, Refusal>
         ensures { outcome_of result ≡ key_of_both (layout_of self.found) stars (spelling_of first) (spelling_of second) }
     {
@@ -60,6 +64,7 @@ impl Reader {
     }
 
     // The key of the two spellings that two texts are (23, 21, 24).
+    #[inline(always)]
     fn both(self, stars: usize, first: &[u8], second: &[u8]) -> Result<u16, Refusal>
         ensures { outcome_of result ≡ both_in (layout_of self.found) stars first.now second.now }
     {
@@ -70,6 +75,7 @@ impl Reader {
     }
 
     // The key of two spellings with / between (23, 21, 24).
+    #[inline(always)]
     fn slashed(self, stars: usize, text: &[u8]) -> Result<u16, Refusal>
         ensures { outcome_of result ≡ slashed_in (layout_of self.found) stars text.now }
     {
@@ -80,6 +86,7 @@ impl Reader {
     }
 
     // The same in parentheses, with stars behind (23, 21, 24).
+    #[inline(always)]
     fn enclosed(self, text: &[u8]) -> Result<u16, Refusal>
         ensures { outcome_of result ≡ enclosed_in (layout_of self.found) text.now }
     {
@@ -98,6 +105,7 @@ impl Reader {
     }
 
     // The key that a text names (23, 21, 24).
+    #[inline(always)]
     pub(crate) fn find(self, text: &[u8]) -> Result<u16, Refusal>
         ensures { outcome_of result ≡ named_in (layout_of self.found) text.now }
     {

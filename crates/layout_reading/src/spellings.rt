@@ -3,18 +3,19 @@ ghost use Rattle.std.specs.Prelude.{◌≡◌, ◌==◌, ◌<◌, ◌≤◌, len
 ghost use Rattle.std.specs.List.{take_while};
 ghost use Rattle.answer.specs.Refusals.{outcome_of};
 ghost use Rattle.answer.specs.declared.Refusal.TheVariants.{Stars};
-ghost use Rattle.genchain.specs.Chains.{letters_in};
+ghost use Rattle.genchain.specs.Chains.{TableRow, letters_in};
 ghost use Rattle.mos.specs.Patterns.{primary, secondary};
 ghost use Rattle.notes.specs.Names.{sharp_sign, flat_sign, letter_text};
 ghost use Rattle.layout.specs.Layouts.{layout_outcome};
 ghost use Rattle.layout.specs.Parts.{layout_of};
-ghost use Rattle.layout_reading.specs.Reading.{in_front};
+ghost use Rattle.layout_reading.specs.Reading.{in_front, read_spelling};
 ghost use Rattle.layout_reading.specs.Answers.{with_stars, typed_in, spelling_in};
 ghost use Rattle.layout_reading.specs.Parts.{reader_outcome, RunAt, FrontIn, MarksFound, spelling_of, typed_outcome};
 
 use crate::reader::Reader;
 use answer::Refusal;
 use genchain::rows;
+use genchain::rows::ChainRow;
 use layout::IsomorphicLayout;
 use mos::Mos;
 use notes::plans;
@@ -110,6 +111,53 @@ fn sharp_first(pattern: Mos) -> bool
     pattern.secondary_step <= pattern.primary_step
 }
 
+fn letter_in_front(row: ChainRow, text: &[u8]) -> Option<Front>
+    requires { TableRow row }
+    ensures { FrontIn (letters_in row) text.now result }
+{
+    for place in 0..row.num_letters {
+        let letter = row.letters[place as usize];
+        if starts(text, letter) {
+            return Some(Front {
+                index: place,
+                bytes: plans::letter_length(letter),
+            });
+        }
+    }
+    None
+}
+
+// The spelling that a text is, in the letters of a row and with the style's signs, with any number of stars (23).
+fn read_text(row: ChainRow, sharp_first: bool, text: &[u8]) -> Result<Typed, Refusal>
+    requires { TableRow row }
+    ensures { typed_outcome result ≡ read_spelling (letters_in row) sharp_first text.now }
+{
+    let Some(front) = letter_in_front(row, text) else {
+        return Err(Refusal::NoteName);
+    };
+    let at = front.bytes;
+    let marks = marks_from(sharp_first, at, text);
+    let sharps = marks.sharps;
+    let flats = marks.flats;
+    let stars = marks.stars;
+    if at + (sharps + flats) + stars < text.len() {
+        return Err(Refusal::NoteName);
+    }
+    if sharps + flats > u32::MAX as usize {
+        return Err(Refusal::NoteName);
+    }
+    let signs = if flats == 0 {
+        Signs::Sharps(sharps as u32)
+    } else {
+        Signs::Flats(flats as u32)
+    };
+    Ok(Typed {
+        index: front.index,
+        signs,
+        stars,
+    })
+}
+
 impl Typed {
     // The same letter and signs, with these stars.
     pub fn with_stars(self, stars: u16) -> Spelling
@@ -135,49 +183,12 @@ impl Reader {
         Ok(Reader { row, found, cycles })
     }
 
-    fn letter_in_front(self, text: &[u8]) -> Option<Front>
-        ensures { FrontIn (letters_in self.row) text.now result }
-    {
-        for place in 0..self.row.num_letters {
-            let letter = self.row.letters[place as usize];
-            if starts(text, letter) {
-                return Some(Front {
-                    index: place,
-                    bytes: plans::letter_length(letter),
-                });
-            }
-        }
-        None
-    }
-
-    // The spelling that a text is, with any number of stars (23).
+    // The spelling that a text is, with any number of stars (23). Inlined: what is called has the row alone, and no whole `Reader` is copied.
+    #[inline(always)]
     pub fn typed_spelling(self, text: &[u8]) -> Result<Typed, Refusal>
         ensures { typed_outcome result ≡ typed_in (layout_of self.found) text.now }
     {
-        let Some(front) = self.letter_in_front(text) else {
-            return Err(Refusal::NoteName);
-        };
-        let at = front.bytes;
-        let marks = marks_from(sharp_first(self.found.pattern), at, text);
-        let sharps = marks.sharps;
-        let flats = marks.flats;
-        let stars = marks.stars;
-        if at + (sharps + flats) + stars < text.len() {
-            return Err(Refusal::NoteName);
-        }
-        if sharps + flats > u32::MAX as usize {
-            return Err(Refusal::NoteName);
-        }
-        let signs = if flats == 0 {
-            Signs::Sharps(sharps as u32)
-        } else {
-            Signs::Flats(flats as u32)
-        };
-        Ok(Typed {
-            index: front.index,
-            signs,
-            stars,
-        })
+        read_text(self.row, sharp_first(self.found.pattern), text)
     }
 
     // So many stars, where they are below the cycles (21).

@@ -157,20 +157,26 @@ fn raised(octave: u16, key: u16, by: u16) -> u16
     key - left
 }
 
-// Both keys of the next entry.
+// Both keys, each so far on.
+fn both_raised(octave: u16, keys: Keys, by: Keys) -> Keys
+    requires { (keys.first < octave) × (by.first < octave) × (keys.second < octave) × (by.second < octave) }
+    ensures { (result.first ≡ (keys.first + by.first) % octave) × (result.second ≡ (keys.second + by.second) % octave) }
+{
+    Keys {
+        first: raised(octave, keys.first, by.first),
+        second: raised(octave, keys.second, by.second),
+    }
+}
+
+// Both keys of the next entry. Each stride has a return of its own: one that is chosen first is packed in every turn.
 fn next_keys(tunings: Tunings, strides: Strides, entry: u16, keys: Keys) -> Keys
     requires { StridesOf (numbers_of tunings) strides × (keys ≡ table_keys (numbers_of tunings) entry) }
     ensures { result ≡ table_keys (numbers_of tunings) (entry + 1) }
 {
-    let by = if entry % 17 == 16 {
-        strides.letter
-    } else {
-        strides.sharp
-    };
-    Keys {
-        first: raised(tunings.octave, keys.first, by.first),
-        second: raised(tunings.octave, keys.second, by.second),
+    if entry % 17 == 16 {
+        return both_raised(tunings.octave, keys, strides.letter);
     }
+    both_raised(tunings.octave, keys, strides.sharp)
 }
 
 // So many entries of the table at the front of a slice that holds them.

@@ -54,7 +54,8 @@ pub(crate) fn key_asked(source: Source, last: Key, number: i32) -> Key
     ensures { Asked source number result }
 {
     let prepared = source.prepared;
-    let place = math::parts::rem_u32(number, keys::entry_count(prepared));
+    let count = keys::entry_count(prepared.found.octave, prepared.found.pattern);
+    let place = math::parts::rem_u32(number, count);
     key_after(prepared.solved, last, place)
 }
 

@@ -1,8 +1,8 @@
-// What `pattern` is made of: the size of any four numbers, question 7, the dual, and the child.
+// What `pattern` is made of: the size of any four numbers, question 7, the genesis, the dual, the child and the parent.
 //
-// Parts, and no entry points: the child is asked for only where there is one.
+// Parts, and no entry points: the genesis asks for a period above 0, and child and parent are asked for only where there is one.
 ghost use Rattle.std.specs.Prelude.{◌≡◌, true, ◌*◌, ◌≤◌, ◌<◌, Some, is_some};
-ghost use Rattle.mos.specs.Patterns.{size_of, is_pattern, count_of, dual_of, child_of};
+ghost use Rattle.mos.specs.Patterns.{size_of, is_pattern, count_of, genesis, dual_of, child_of, parent_of};
 
 use crate::Mos;
 
@@ -31,6 +31,20 @@ pub fn count_of(m: Mos) -> u32
     ensures { result ≡ count_of m }
 {
     (m.num_primary_steps as u32) + (m.num_secondary_steps as u32)
+}
+
+// The pattern that a generator starts from: one step of its size, and one for the rest of the period.
+pub fn genesis_of(period: u16, generator: u16) -> Mos
+    requires { 1 ≤ period }
+    ensures { result ≡ genesis period generator }
+{
+    let step = generator % period;
+    Mos {
+        num_primary_steps: 1,
+        num_secondary_steps: 1,
+        primary_step: step,
+        secondary_step: period - step,
+    }
 }
 
 // Counts and steps change places.
@@ -81,4 +95,19 @@ pub fn child_of(m: Mos) -> Mos
         primary_step: p,
         secondary_step: s - p,
     }
+}
+
+// Is there a parent?
+pub fn has_parent(m: Mos) -> bool
+    ensures { result ≡ is_some (parent_of m) }
+{
+    has_child(dual_of(m))
+}
+
+// The parent of a pattern that has one: swap counts with steps, child, swap back.
+pub fn parent_of(m: Mos) -> Mos
+    requires { (is_pattern m ≡ true) × (is_some (parent_of m) ≡ true) }
+    ensures { parent_of m ≡ Some result }
+{
+    dual_of(child_of(dual_of(m)))
 }

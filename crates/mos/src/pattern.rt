@@ -27,21 +27,15 @@ impl Pattern {
         }
     }
 
-    // Question 2, then the pattern that a generator starts from: one step of its size, and one for the rest of the period.
+    // Question 2, then the pattern that a generator starts from.
     pub fn genesis(period: u16, generator: u16) -> Result<Pattern, Refusal>
         ensures { MatchResult result (λ pattern. (1 ≤ period) × (pattern.mos ≡ genesis period generator)) (λ refusal. (refusal ≡ Period) × (period ≡ 0)) }
     {
         if period == 0 {
             return Err(Refusal::Period);
         }
-        let step = generator % period;
         Ok(Pattern {
-            mos: Mos {
-                num_primary_steps: 1,
-                num_secondary_steps: 1,
-                primary_step: step,
-                secondary_step: period - step,
-            },
+            mos: parts::genesis_of(period, generator),
         })
     }
 
@@ -67,11 +61,17 @@ impl Pattern {
         }
     }
 
-    // The next coarser pattern of the same generator: swap counts with steps, child, swap back.
+    // The next coarser pattern of the same generator.
     pub fn parent(self) -> Option<Pattern>
         ensures { MatchOption result (parent_of self.mos ≡ None) (λ parent. parent_of self.mos ≡ Some parent.mos) }
     {
-        Some(self.dual().child()?.dual())
+        if parts::has_parent(self.mos) {
+            Some(Pattern {
+                mos: parts::parent_of(self.mos),
+            })
+        } else {
+            None
+        }
     }
 
     // The period: all steps together.

@@ -3,7 +3,8 @@
 //
 // `parts` holds the listing, one for both walks, and the counting by leaps.
 // Every entry point answers any four numbers; what is no pattern is refused (7), and so is a slice that is too short (10).
-// The definitions are those of `mos`: Walks defines, Answers says what each call answers. Nothing is assumed.
+// The definitions are those of `mos`: Walks defines, Answers says what each call answers. Nothing is assumed; that the self calls of `parts`
+// become loops, or keep few frames, is measured and not proved.
 #![tactic(auto)]
 
 pub mod parts;

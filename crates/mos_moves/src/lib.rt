@@ -37,7 +37,8 @@ pub fn genesis_moves(period: u16, generator: u16, moves: &mut Moves) -> Result<M
     Ok(genesis.mos)
 }
 
-// The k-th pattern of the walk of children from the genesis, the genesis for 0, with its moves in the lent table (2).
+// The k-th pattern of the walk of children from the genesis, the genesis for 0, with its moves in the lent table (2). The walk goes by the
+// four numbers, as `parts::list_moves` says.
 pub fn nth_moves(
     period: u16,
     generator: u16,
@@ -46,18 +47,19 @@ pub fn nth_moves(
 ) -> Result<Option<Mos>, Refusal>
     ensures { Tabled (outcome_of result) (nth_outcome period generator k) (nth_table period generator k) moves.old moves.new }
 {
-    let mut pattern = Pattern::genesis(period, generator)?;
+    let genesis = Pattern::genesis(period, generator)?;
+    let mut pattern = genesis.mos;
     let mut table = parts::start(period, generator);
     for _ in 0..k {
-        let Some(child) = pattern.child() else {
+        if !mos::parts::has_child(pattern) {
             return Ok(None);
-        };
-        let next = parts::child_moves(pattern.mos, table);
+        }
+        let next = parts::child_moves(pattern, table);
         table = next;
-        pattern = child;
+        pattern = mos::parts::child_of(pattern);
     }
     *moves = table;
-    Ok(Some(pattern.mos))
+    Ok(Some(pattern))
 }
 
 // The moves of all patterns of that walk, four numbers each: the primary row's octaves and generators, then the secondary row's (2, 10).
@@ -68,5 +70,5 @@ pub fn walk_moves(period: u16, generator: u16, out: &mut [i32]) -> Result<usize,
     if !mos_listings::parts::children_fit(genesis, out.len()) {
         return Err(Refusal::Room);
     }
-    Ok(parts::list_moves(period, generator, genesis, out))
+    Ok(parts::list_moves(period, generator, &genesis, out))
 }

@@ -81,21 +81,20 @@ pub fn put_moves(out: &mut [i32], at: usize, moves: Moves) -> usize
     at + 4
 }
 
-// The moves of the whole walk from its genesis, from the slice's front on; how many numbers that are.
-pub(crate) fn list_moves(period: u16, generator: u16, first: Pattern, out: &mut [i32]) -> usize
-    requires { (1 ≤ period) × (first.mos ≡ genesis period generator) × (length (listed_moves (walk_moves period generator)) ≤ length out.old) }
+// The moves of the whole walk from its genesis, from the slice's front on; how many numbers that are. The walk goes by the four numbers, and
+// the genesis is lent: as a `Pattern`, by value or in an option, they would be packed into one word and taken apart in every turn.
+pub(crate) fn list_moves(period: u16, generator: u16, first: &Pattern, out: &mut [i32]) -> usize
+    requires { (1 ≤ period) × (first.now.mos ≡ genesis period generator) × (length (listed_moves (walk_moves period generator)) ≤ length out.old) }
     ensures { Wrote out.old 0 (listed_moves (walk_moves period generator)) out.new result }
 {
-    let mut pattern = first;
+    let mut pattern = first.mos;
     let mut table = start(period, generator);
     let mut place = 0;
-    loop {
+    while mos::parts::has_child(pattern) {
         place = put_moves(out, place, table);
-        let Some(child) = pattern.child() else {
-            return place;
-        };
-        let next = child_moves(pattern.mos, table);
+        let next = child_moves(pattern, table);
         table = next;
-        pattern = child;
+        pattern = mos::parts::child_of(pattern);
     }
+    put_moves(out, place, table)
 }

@@ -6,44 +6,44 @@
 ghost use Rattle.std.specs.Prelude.{◌≡◌, true, slice_get};
 ghost use Rattle.mos.specs.Patterns.{mos, is_pattern};
 ghost use Rattle.mos.specs.Walks.{children, parents, first_with, genesis_of};
+ghost use Rattle.mos_walks.specs.Parts.{Meets};
 
 use mos::Mos;
 use mos::pattern::Pattern;
 
-// The first child with n steps of the pattern with counts a and b and steps p and s, itself included. Counts only grow, so a pattern
-// with more ends the search. The four numbers go separately: a pattern would be packed into one register at each self call.
-pub fn seek(a: u16, b: u16, p: u16, s: u16, n: u32, found: &mut Option<Mos>)
+// The first child with n steps of the pattern with counts a and b and steps p and s, itself included: is there one? It goes into the lent
+// place, which is else untouched. Counts only grow, so a pattern with more ends the search. The four numbers go separately, and
+// the child is asked for before it is made: a pattern, or a child in an `Option`, would be packed into one register at each self call.
+pub fn seek(a: u16, b: u16, p: u16, s: u16, n: u32, found: &mut Option<Mos>) -> bool
     requires { is_pattern (mos a b p s) ≡ true }
-    ensures { found.new ≡ first_with n (children (mos a b p s)) }
+    ensures { Meets (first_with n (children (mos a b p s))) result found.old found.new }
 {
-    let here = Pattern {
-        mos: Mos {
-            num_primary_steps: a,
-            num_secondary_steps: b,
-            primary_step: p,
-            secondary_step: s,
-        },
+    let here = Mos {
+        num_primary_steps: a,
+        num_secondary_steps: b,
+        primary_step: p,
+        secondary_step: s,
     };
-    let have = mos::parts::count_of(here.mos);
+    let have = mos::parts::count_of(here);
     if have == n {
-        *found = Some(here.mos);
-        return;
+        *found = Some(here);
+        return true;
     }
     if n < have {
-        *found = None;
-        return;
+        return false;
     }
-    match here.child() {
-        Some(child) => seek(
-            child.mos.num_primary_steps,
-            child.mos.num_secondary_steps,
-            child.mos.primary_step,
-            child.mos.secondary_step,
+    if mos::parts::has_child(here) {
+        let child = mos::parts::child_of(here);
+        return seek(
+            child.num_primary_steps,
+            child.num_secondary_steps,
+            child.primary_step,
+            child.secondary_step,
             n,
             found,
-        ),
-        None => *found = None,
+        );
     }
+    false
 }
 
 // The k-th child, m itself for 0.

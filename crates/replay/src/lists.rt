@@ -59,6 +59,8 @@ impl Ask for Question {
         })
     }
 
+    // with a frame of its own, so that the stack holds the array for these questions alone
+    #[inline(never)]
     fn answer(self, stdout: Stdout, room: u16) {
         // here, and not in one generic function: tried, an array of a type parameter owes that its size is below 2 ^ 63
         let mut all = [0u16; 65536];

@@ -73,6 +73,7 @@ fn list_room() -> [i32; 65536]
 }
 
 // The moves that a call writes to a slice of so many elements.
+#[inline(never)]
 fn put_list<W: FnOnce(&mut [i32]) -> Result<usize, Refusal>>(stdout: Stdout, room: u16, write: W)
     requires { W.IsAlwaysCallable write }
 {

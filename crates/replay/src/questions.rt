@@ -10,7 +10,9 @@ pub(crate) trait Ask: Sized {
     fn answer(self, stdout: Stdout, room: u16);
 }
 
-// Whether the line is a question of the group; if so, it is answered.
+// Whether the line is a question of the group; if so, it is answered. With a frame of its own, so that the stack holds only this group's
+// values below its answer.
+#[inline(never)]
 pub(crate) fn answered<Q: Ask + Drop>(stdout: Stdout, line: Line) -> bool {
     let mut words = line.words;
     match Q::asked(line.name, &mut words) {

@@ -46,6 +46,8 @@ impl Ask for Question {
         })
     }
 
+    // with a frame of its own, so that the stack holds the array for these questions alone
+    #[inline(never)]
     fn answer(self, stdout: Stdout, room: u16) {
         let mut all = [0u8; 65536];
         let out = &mut all[..room as usize];
@@ -102,6 +104,7 @@ impl Ask for Question {
 }
 
 // Whether a space and a line of the key table program stand behind the name; if so, the line is answered.
+#[inline(never)]
 pub(crate) fn answer_table(stdout: Stdout, line: Line) -> bool {
     let Some(table_line) = line.words.behind_space() else {
         return false;

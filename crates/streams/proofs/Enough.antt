@@ -1,14 +1,15 @@
 -- What is printed for what is kept of a line: the output for the whole line, where that goes by 18 bytes.
-use Rattle.std.proofs.Common.{◌≡◌, ℕ, Bool, true, false, eqb, List, [], ◌∷◌, ◌++◌, take, sym, refl, ap, subst, ◌∙◌, eqb-true}
+use Rattle.std.proofs.Common.{◌≡◌, ℕ, min, Bool, true, false, eqb, List, [], ◌∷◌, ◌++◌, length, take, sym, refl, ap, subst, ◌∙◌, arith, length-take-le, eqb-true}
 use lib.Seq.{append_snoc}
 use Rattle.line.specs.Lines.{line_feed}
-use Rattle.streams.specs.Streams.{Handed}
+use Rattle.streams.specs.Streams.{longest, Handed}
 use Rattle.streams.specs.Reading.{first_line, LineRead, FirstLineIsEnough, LineIsEnough}
 use Rattle.streams.specs.Printing.{Printed}
 use Rattle.streams.specs.declared.input.Input.{Input}
 use Rattle.streams.specs.declared.lines.KeptLine.{KeptLine}
 use Rattle.streams.specs.declared.output.Output.{Output}
 use Rattle.streams.proofs.OneLine.{first_feed, first_other, first_none}
+use Rattle.streams.proofs.Keeping.{kept_inside}
 
 -- ---- an output that goes by nothing past a line feed
 
@@ -37,15 +38,24 @@ first_line_is_enough output ignored bytes = from output ignored [] bytes
 
 -- ---- an output that goes by 18 bytes is that of what is kept
 
-module _ (output : List ℕ → List ℕ) (enough : LineIsEnough output) where
-  kept_output : (buffer : List ℕ) (input : Input) (read : LineRead buffer input) → output (take input.kept buffer) ≡ output read.line
-  kept_output buffer input read =
-      ap (λ (n : ℕ). output (take n buffer)) read.kept_is
-      ∙ ap output read.begins
-      ∙ enough.eighteen read.line
+module _ (buffer : List ℕ) (input : Input) (kept : ℕ) (read : LineRead buffer input) (few : kept ≡ input.kept) where
+  kept_is : kept ≡ min longest (length read.line)
+  kept_is = few ∙ read.kept_is
 
-  -- what was handed over for what is kept of a line was handed over for the line
-  pub printed : (line : KeptLine) (kept : List ℕ) → kept ≡ take line.input.kept line.buffer
-      → (done : Output) → (done.taken ≡ true → Handed (output kept) done) → Printed output line done
-  printed line kept e done handed read taken =
-      subst (λ (text : List ℕ). Handed text done) (ap output e ∙ kept_output line.buffer line.input read) (handed taken)
+  pub kept_there : kept ≡ length (take kept buffer)
+  kept_there = sym (length-take-le kept buffer (omega (arith, kept_is, kept_inside buffer read.line read.begins)))
+
+  pub kept_output : (output : List ℕ → List ℕ) → ((line : List ℕ) → output (take longest line) ≡ output line)
+      → output (take kept buffer) ≡ output read.line
+  kept_output output enough =
+      ap (λ (n : ℕ). output (take n buffer)) kept_is
+      ∙ ap output read.begins
+      ∙ enough read.line
+
+-- what was handed over for what is kept of a line was handed over for the line
+pub printed : (output : List ℕ → List ℕ) → LineIsEnough output → (line : KeptLine) (kept : List ℕ) → kept ≡ take line.input.kept line.buffer
+    → (done : Output) → (done.taken ≡ true → Handed (output kept) done) → Printed output line done
+printed output enough line kept e done handed read taken =
+    subst (λ (text : List ℕ). Handed text done)
+    (ap output e ∙ kept_output line.buffer line.input line.input.kept read refl output enough.eighteen)
+    (handed taken)

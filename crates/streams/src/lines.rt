@@ -23,6 +23,14 @@ impl KeptLine {
     {
         &self.buffer[..input::kept(self.input)]
     }
+
+    // Where reading stands behind the line: what the last read had says whether a line feed closed it or the input ended (`input::last`), and
+    // whoever reads on goes on from here.
+    pub fn input(&self) -> Input
+        ensures { result ≡ self.now.input }
+    {
+        self.input
+    }
 }
 
 // Keeps one of a line's first 18 bytes at its place; a later one is dropped.

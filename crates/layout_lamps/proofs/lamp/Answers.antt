@@ -13,13 +13,13 @@ use Rattle.layout_lamps.proofs.lamp.Goals as goal
 pub rem_u32-place-requires : goal.rem_u32-place-requires
 rem_u32-place-requires c =
     let ready = c.prepare-prepared in
-    entries_positive ready.result ready.ensures.0 c.args.key _ _ c.entry_count.ensures.0 refl
+    entries_positive ready.result ready.ensures.0 c.args.key _ _ c.entry_count-count.ensures.0 refl
 
 pub key_at-asked-requires : goal.key_at-asked-requires
 key_at-asked-requires c =
     let key = c.args.key in
     let ready = c.prepare-prepared in
-    entry_found ready.result ready.ensures.0 key _ _ c.entry_count.ensures.0
+    entry_found ready.result ready.ensures.0 key _ _ c.entry_count-count.ensures.0
     (remainder_read w32 key c.ranges.key _ _ c.rem_u32-place.ensures)
 
 pub lamp_of-requires : goal.lamp_of-requires
@@ -27,7 +27,7 @@ lamp_of-requires c =
     let key = c.args.key in
     let ready = c.prepare-prepared in
     let asked = c.key_at-asked.ensures in
-    let below = entry_below ready.result ready.ensures.0 key _ _ c.entry_count.ensures.0
+    let below = entry_below ready.result ready.ensures.0 key _ _ c.entry_count-count.ensures.0
     (remainder_read w32 key c.ranges.key _ _ c.rem_u32-place.ensures) in
     (c.total_of-total.ensures, asked.0, omega (arith, below, asked.1))
 
@@ -41,6 +41,6 @@ returns c =
     let key = c.args.key in
     let ready = c.prepare-prepared in
     let e = sym (ap found_outcome c.in_ok-found.was) ∙ c.ask.ensures in
-    lamp_answered _ _ (ready_given _ _ e ready.result ready.ensures.1) key _ _ _ _ c.entry_count.ensures.0
+    lamp_answered _ _ (ready_given _ _ e ready.result ready.ensures.1) key _ _ _ _ c.entry_count-count.ensures.0
     (remainder_read w32 key c.ranges.key _ _ c.rem_u32-place.ensures)
     c.key_at-asked.ensures.1 c.lamp_of.ensures

@@ -3,6 +3,7 @@ use Rattle.answer.proofs.Passing.{passed_on}
 use mathlib.Core.Path.{sym, ap, ◌∙◌}
 use Rattle.answer.specs.Lent.{counted}
 use Rattle.layout.specs.Parts.{found_outcome}
+use Rattle.layout_layers.proofs.PlanLaws.{counts_entries}
 use Rattle.layout_lamps.proofs.Calls.{strip_refused, strip_counted}
 use Rattle.layout_lamps.proofs.strip_len.Goals as goal
 
@@ -14,4 +15,4 @@ returns-in_err-found c =
 pub returns : goal.returns
 returns c =
     let e = sym (ap found_outcome c.in_ok-found.was) ∙ c.ask.ensures in
-    strip_counted _ _ e _ c.plan_of.ensures _ c.entries.ensures
+    strip_counted _ _ e _ c.plan_of-plan.ensures _ (counts_entries c.plan_of-plan.result c.entries.ensures)

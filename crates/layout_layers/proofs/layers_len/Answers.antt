@@ -4,6 +4,7 @@ use mathlib.Core.Path.{sym, ap, ◌∙◌}
 use Rattle.answer.specs.Lent.{counted}
 use Rattle.layout.specs.Parts.{found_outcome}
 use Rattle.layout_layers.proofs.Calls.{layers_refused, length_given}
+use Rattle.layout_layers.proofs.PlanLaws.{counts_entries}
 use Rattle.layout_layers.proofs.layers_len.Goals as goal
 
 pub returns-in_err-found : goal.returns-in_err-found
@@ -14,4 +15,4 @@ returns-in_err-found c =
 pub returns : goal.returns
 returns c =
     let e = sym (ap found_outcome c.in_ok-found.was) ∙ c.ask.ensures in
-    length_given _ _ e _ c.plan_of.ensures _ c.entries.ensures
+    length_given _ _ e _ c.plan_of-plan.ensures _ (counts_entries c.plan_of-plan.result c.entries.ensures)

@@ -4,4 +4,4 @@ use Rattle.mos_moves.proofs.Answering.{Descending}
 use Rattle.mos_moves.proofs.nth_moves.Given as goal
 
 abbrev pub invariant-loop : goal.invariant-loop
-invariant-loop l = Descending l.period l.generator l.k l.pattern.mos l.table (l.k - l.counter)
+invariant-loop l = Descending l.period l.generator l.k l.pattern l.table (l.k - l.counter)

@@ -13,11 +13,11 @@ returns-then-is_comment c = (next_comment _ _ _ (sym c.is_comment.ensures ∙ c.
 pub returns : goal.returns
 returns c =
     let fits : c.if-s.fits ≡ (c.args.s.fits && fits_at c.args.s.line c.args.kind) =
-    elim c.if-s.branch [ then-s w ↦ simp (w.fits-is, w.if-s.true, w.fits_at-fits.ensures) | else-s w ↦ simp (w.fits-is, w.if-s.false) ]
+    elim c.if-s.branch [ then-s w ↦ simp (w.fits-is, w.if-s.true, c.fits_at-fitting.ensures) | else-s w ↦ simp (w.fits-is, w.if-s.false) ]
     in
     let agrees : c.if-s-2.agrees ≡ (c.args.s.agrees && agrees_at c.args.octave c.args.s.line c.args.kind) =
     elim c.if-s-2.branch [
-      | then-s-2 w ↦ simp (w.agrees-is, w.if-s-2.true, w.agrees_at-agrees.ensures)
+      | then-s-2 w ↦ simp (w.agrees-is, w.if-s-2.true, c.agrees_at-agreeing.ensures)
       | else-s-2 w ↦ simp (w.agrees-is, w.if-s-2.false)
     ]
     in

@@ -6,10 +6,8 @@ use Rattle.layout_layers.proofs.keys.entry_count.Goals as goal
 
 pub returns-then-is_equalized : goal.returns-then-is_equalized
 returns-then-is_equalized c =
-    let found = c.args.prepared.found in
-    (entries_double found.octave found.pattern (sym c.is_equalized.ensures ∙ c.if-is_equalized.true), omega arith)
+    (entries_double c.args.octave c.args.pattern (sym c.is_equalized.ensures ∙ c.if-is_equalized.true), omega arith)
 
 pub returns : goal.returns
 returns c =
-    let found = c.args.prepared.found in
-    (entries_single found.octave found.pattern (sym c.is_equalized.ensures ∙ c.if-is_equalized.false), omega arith)
+    (entries_single c.args.octave c.args.pattern (sym c.is_equalized.ensures ∙ c.if-is_equalized.false), omega arith)

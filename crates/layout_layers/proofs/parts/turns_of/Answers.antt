@@ -1,10 +1,14 @@
 -- Twice the reduced period where the scale is equalized.
-use Rattle.layout_layers.proofs.PlanLaws.{turns_double, turns_single}
+use Prim.Native.Nat.{◌*◌}
+use mathlib.Core.Bool.{Bool}
+use mathlib.Core.Path.{sym, ap}
 use borrow.Author.Rules.{rules}
+use Rattle.answer.specs.Choice.{pick}
 use Rattle.layout_layers.proofs.parts.turns_of.Goals as goal
 
-pub returns-then-plan : goal.returns-then-plan
-returns-then-plan c = (turns_double c.args.plan c.if-plan.true, search rules)
+pub returns-then-equalized : goal.returns-then-equalized
+returns-then-equalized c =
+    let R = c.args.chain.reduced_period in (ap (λ (b : Bool). pick b (2 * R) R) (sym c.if-equalized.true), search rules)
 
 pub returns : goal.returns
-returns c = (turns_single c.args.plan c.if-plan.false, search rules)
+returns c = let R = c.args.chain.reduced_period in (ap (λ (b : Bool). pick b (2 * R) R) (sym c.if-equalized.false), search rules)

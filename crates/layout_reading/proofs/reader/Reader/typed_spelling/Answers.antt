@@ -1,42 +1,13 @@
--- The letter, the marks, and whether a byte is left over.
-use mathlib.Core.Path.{refl}
-use mathlib.Core.Logic.{inl, inr}
+-- With the chain's letters and the layout's signs.
 use Rattle.layout.specs.Parts.{layout_of}
 use Rattle.layout.proofs.Kept.{parts_found}
-use Rattle.layout_reading.proofs.Calls.{typed_in_lem}
-use Rattle.layout_reading.proofs.WholeTexts.{no_letter, left_over, too_many, read_signed}
+use Rattle.layout_reading.proofs.Calls.{row_asked, typed_in_lem}
 use Rattle.layout_reading.proofs.reader.Reader.typed_spelling.Goals as goal
 
-pub returns-in_default : goal.returns-in_default
-returns-in_default c =
-    let r = c.args.self in
-    typed_in_lem r.row (layout_of r.found) r.row_is (parts_found r.found).chain _ refl _ _ (no_letter _ _ _ c.in_default.ensures)
+pub read_text-requires : goal.read_text-requires
+read_text-requires c = let r = c.args.self in row_asked r.row (layout_of r.found) r.row_is (parts_found r.found).chain
 
-pub marks_from-marks-requires : goal.marks_from-marks-requires
-marks_from-marks-requires c = c.in-Some.ensures.inside
-
-pub returns-then-at-sharps : goal.returns-then-at-sharps
-returns-then-at-sharps c =
+pub returns : goal.returns
+returns c =
     let r = c.args.self in
-    typed_in_lem r.row (layout_of r.found) r.row_is (parts_found r.found).chain _ c.sharp_first.ensures _ _
-    (left_over _ _ _ _ c.in-Some.ensures _ c.marks_from-marks.ensures c.if-at-sharps.true)
-
-pub returns-then-sharps-flats : goal.returns-then-sharps-flats
-returns-then-sharps-flats c =
-    let r = c.args.self in
-    typed_in_lem r.row (layout_of r.found) r.row_is (parts_found r.found).chain _ c.sharp_first.ensures _ _
-    (too_many _ _ _ _ c.in-Some.ensures _ c.marks_from-marks.ensures c.if-sharps-flats.true)
-
-pub returns-then-flats-eq0 : goal.returns-then-flats-eq0
-returns-then-flats-eq0 c =
-    let r = c.args.self in
-    typed_in_lem r.row (layout_of r.found) r.row_is (parts_found r.found).chain _ c.sharp_first.ensures _ _
-    (read_signed _ _ _ _ c.in-Some.ensures _ c.marks_from-marks.ensures c.if-at-sharps.false c.if-sharps-flats.false _
-    (inl (c.if-flats-eq0.true, refl)))
-
-pub returns-else-flats-eq0 : goal.returns-else-flats-eq0
-returns-else-flats-eq0 c =
-    let r = c.args.self in
-    typed_in_lem r.row (layout_of r.found) r.row_is (parts_found r.found).chain _ c.sharp_first.ensures _ _
-    (read_signed _ _ _ _ c.in-Some.ensures _ c.marks_from-marks.ensures c.if-at-sharps.false c.if-sharps-flats.false _
-    (inr (c.if-flats-eq0.false, refl)))
+    typed_in_lem r.row (layout_of r.found) r.row_is (parts_found r.found).chain _ c.sharp_first.ensures _ _ c.read_text.ensures
